@@ -1,0 +1,33 @@
+-- Sets of parts as masks (01, "Structures"): the part at position i, from 1, is bit i - 1 of the mask.
+use mathlib.Core.Bool.{Bool, true, false, cond, not, _&&_, _||_}
+use mathlib.Core.List.{List, [], _∷_, _++_}
+use Prim.Native.Nat.{ℕ, zero, suc, _/_, _%_, _^_}
+use lib.Bits.{bitAnd}
+use lib.Count.{ones}
+use lib.Dec.{eqb}
+
+-- bit i of the mask a is set: the part at position i + 1 is in the set
+unfoldable pub has : ℕ → ℕ → Bool
+has a i = eqb (a / 2 ^ i % 2) 1
+
+-- the number of parts in a set
+abbrev pub size : ℕ → ℕ
+size a = ones a
+
+-- the parts that two sets share
+abbrev pub meet : ℕ → ℕ → ℕ
+meet a b = bitAnd a b
+
+-- the set a holds the set b: the parts that they share are all of b's
+unfoldable pub holds : ℕ → ℕ → Bool
+holds a b = eqb (meet a b) b
+
+-- some number below k passes the test
+unfoldable pub any : (ℕ → Bool) → ℕ → Bool
+any test zero = false
+any test (suc k) = any test k || test k
+
+-- the numbers below k that pass the test, rising
+unfoldable pub those : (ℕ → Bool) → ℕ → List ℕ
+those test zero = []
+those test (suc k) = those test k ++ cond (test k) (k ∷ []) []

@@ -1,7 +1,7 @@
 -- Sets of parts as masks (01, "Structures"): the part at position i, from 1, is bit i - 1 of the mask.
 use mathlib.Core.Bool.{Bool, true, false, cond, not, _&&_, _||_}
 use mathlib.Core.List.{List, [], _∷_, _++_}
-use Prim.Native.Nat.{ℕ, zero, suc, _/_, _%_, _^_}
+use Prim.Native.Nat.{ℕ, zero, suc, _/_, _%_, _^_, _≤_}
 use lib.Bits.{bitAnd}
 use lib.Count.{ones}
 use lib.Dec.{eqb}
@@ -21,6 +21,14 @@ meet a b = bitAnd a b
 -- the set a holds the set b: the parts that they share are all of b's
 unfoldable pub holds : ℕ → ℕ → Bool
 holds a b = eqb (meet a b) b
+
+-- each number of the list is above the one before it, and the first is at least b
+abbrev pub RisingFrom : ℕ → List ℕ → Type 0
+RisingFrom b [] = Unit {0}
+RisingFrom b (x ∷ xs) = (b ≤ x) × RisingFrom (suc x) xs
+
+abbrev pub Rising : List ℕ → Type 0
+Rising xs = RisingFrom 0 xs
 
 -- some number below k passes the test
 unfoldable pub any : (ℕ → Bool) → ℕ → Bool

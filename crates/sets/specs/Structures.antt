@@ -1,6 +1,6 @@
 -- A structure of n parts as a set function: `works a` says of each mask a below 2^n whether the machine runs on that set (01, "Structures").
-use mathlib.Core.Bool.{Bool, true, false, not, _&&_}
-use mathlib.Core.List.{List}
+use mathlib.Core.Bool.{Bool, true, false, not, _&&_, _||_}
+use mathlib.Core.List.{List, [], _∷_}
 use mathlib.Core.Path.{_≡_}
 use Prim.Native.Nat.{ℕ, _+_, _-_, _^_, _<_}
 use lib.Dec.{eqb}
@@ -11,6 +11,11 @@ pub record Semicoherent (n : ℕ) (works : ℕ → Bool) : Type 0 where
   pub upward : (a b : ℕ) → a < 2 ^ n → b < 2 ^ n → holds b a ≡ true → works a ≡ true → works b ≡ true
   pub empty : works 0 ≡ false
   pub full : works (2 ^ n - 1) ≡ true
+
+-- The list form: a set is a path set exactly if it holds a listed one.
+unfoldable pub listed : List ℕ → ℕ → Bool
+listed [] a = false
+listed (b ∷ bs) a = holds a b || listed bs a
 
 -- a path set from which some single part more leads to a set that is none: what check 10 looks for
 unfoldable pub broken : ℕ → (ℕ → Bool) → ℕ → Bool

@@ -1,0 +1,45 @@
+-- What a test that is joined of others says of them.
+-- Assumes nothing.
+use mathlib.Core.Path.{_≡_, refl, sym, _∙_}
+use mathlib.Core.Bool.{Bool, true, false, not, _&&_, _||_, true≢false, false≢true}
+use mathlib.Core.Logic.{_⊎_, inl, inr}
+
+pub and-left : (p q : Bool) → p && q ≡ true → p ≡ true
+and-left true q h = refl
+and-left false q h = h
+
+pub and-right : (p q : Bool) → p && q ≡ true → q ≡ true
+and-right true q h = h
+and-right false q h = absurd (false≢true h)
+
+pub and-both : {p q : Bool} → p ≡ true → q ≡ true → p && q ≡ true
+and-both {p} {q} hp hq = rw (hp, hq)
+
+pub or-cases : (p q : Bool) → p || q ≡ true → (p ≡ true) ⊎ (q ≡ true)
+or-cases true q h = inl refl
+or-cases false q h = inr h
+
+pub or-left : {p : Bool} (q : Bool) → p ≡ true → p || q ≡ true
+or-left {p} q h = rw h
+
+pub or-right : (p : Bool) {q : Bool} → q ≡ true → p || q ≡ true
+or-right true h = refl
+or-right false h = h
+
+pub true-or-false : (p : Bool) → (p ≡ true) ⊎ (p ≡ false)
+true-or-false true = inl refl
+true-or-false false = inr refl
+
+pub clash {ℓ} : {A : Type ℓ} {p : Bool} → p ≡ true → p ≡ false → A
+clash h k = absurd (true≢false (sym h ∙ k))
+
+-- a test that is true wherever another is, and the other way round, is that test
+pub same-test : (p q : Bool) → (p ≡ true → q ≡ true) → (q ≡ true → p ≡ true) → p ≡ q
+same-test true q f g = sym (f refl)
+same-test false true f g = g refl
+same-test false false f g = refl
+
+-- a test is false if its truth is absurd
+pub false-of : (p : Bool) → (p ≡ true → ⊥) → p ≡ false
+false-of true h = absurd (h refl)
+false-of false h = refl

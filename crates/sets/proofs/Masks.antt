@@ -1,0 +1,149 @@
+-- Laws of masks: what bits a sum, a difference and an intersection have, that the bits decide the mask, and that `holds` is inclusion.
+-- Bits are read lowest first: bit 0 is the number's remainder by 2, and bit i + 1 is bit i of its half. Assumes nothing.
+use mathlib.Core.Path.{_≡_, refl, sym, ap, _∙_, subst}
+use mathlib.Core.Bool.{true, false, not, _&&_, _||_}
+use mathlib.Core.Logic.{_⊎_, inl, inr}
+use Prim.Native.Nat.{ℕ, zero, suc, _+_, _-_, _*_, _/_, _%_, _^_, _≤_, _<_, min, zero-le}
+use native.Mathlib.Nat.{div-one, div-div-eq-div-mul, pow-succ', div-eq-of-lt, mod-lt, zero-lt-suc, zero-min, le-of-suc-le-suc, not-suc-le-zero, le-antisymm, lt-of-lt-of-le}
+use native.Mathlib.Omega.{arith}
+use lib.Arith.{bin-ind}
+use lib.Bits.{and-step, and-le-l}
+use lib.Dec.{eqb, eqb·suc-suc, eqb·zero-suc, eqb·suc-zero}
+use lib.Pow.{pow-mono}
+use borrow.Author.Tests.{eqb-true, eqb-false, eq-eqb, ne-eqb}
+use Rattle.sets.specs.Masks.{has, holds, meet}
+use Rattle.sets.proofs.Bools.{and-left, and-right, and-both, or-right, true-or-false, same-test}
+
+-- ---- the lowest bit and the rest
+
+pub has-zero : (a : ℕ) → has a 0 ≡ eqb (a % 2) 1
+unfolding has
+has-zero a = ap (λ (x : ℕ). eqb (x % 2) 1) (div-one a)
+
+pub has-suc : (a i : ℕ) → has a (suc i) ≡ has (a / 2) i
+unfolding has
+has-suc a i = ap (λ (x : ℕ). eqb (x % 2) 1) (ap (λ (x : ℕ). a / x) (pow-succ' 2 i) ∙ sym (div-div-eq-div-mul a 2 (2 ^ i)))
+
+odd : (a : ℕ) → has a 0 ≡ true → a % 2 ≡ 1
+odd a h = eqb-true (a % 2) 1 (sym (has-zero a) ∙ h)
+
+even : (a : ℕ) → has a 0 ≡ false → a % 2 ≡ 0
+even a h =
+    let ne : a % 2 ≡ 1 → ⊥ = eqb-false (a % 2) 1 (sym (has-zero a) ∙ h) in
+    omega (arith, mod-lt a (zero-lt-suc 1))
+
+-- two masks with the same lowest bit and the same half share every bit, and so on
+same-low : (a b : ℕ) → a % 2 ≡ b % 2 → has a 0 ≡ has b 0
+same-low a b e = has-zero a ∙ ap (λ (x : ℕ). eqb x 1) e ∙ sym (has-zero b)
+
+same-rest : (a b : ℕ) (i : ℕ) → a / 2 ≡ b / 2 → has a (suc i) ≡ has b (suc i)
+same-rest a b i e = has-suc a i ∙ ap (λ (x : ℕ). has x i) e ∙ sym (has-suc b i)
+
+-- ---- one part more, one part less
+
+pub has-add : (a i : ℕ) → has a i ≡ false → (j : ℕ) → has (a + 2 ^ i) j ≡ eqb j i || has a j
+has-add a zero h zero = has-zero (a + 1) ∙ eq-eqb ((a + 1) % 2) 1 (omega (arith, even a h))
+has-add a zero h (suc j) = rw (eqb·suc-zero j) (same-rest (a + 1) a j (omega (arith, even a h)))
+has-add a (suc i) h zero = rw (eqb·zero-suc i) (same-low (a + 2 ^ suc i) a (omega (arith, pow-succ' 2 i)))
+has-add a (suc i) h (suc j) =
+    let half : (a + 2 ^ suc i) / 2 ≡ a / 2 + 2 ^ i = omega (arith, pow-succ' 2 i) in
+    has-suc (a + 2 ^ suc i) j ∙ ap (λ (x : ℕ). has x j) half ∙ has-add (a / 2) i (sym (has-suc a i) ∙ h) j
+    ∙ rw (eqb·suc-suc j i, has-suc a j)
+
+pub has-le : (a i : ℕ) → has a i ≡ true → 2 ^ i ≤ a
+has-le a zero h = omega (arith, odd a h)
+has-le a (suc i) h =
+    let below : 2 ^ i ≤ a / 2 = has-le (a / 2) i (sym (has-suc a i) ∙ h) in
+    omega (arith, pow-succ' 2 i)
+
+pub has-sub : (a i : ℕ) → has a i ≡ true → (j : ℕ) → has (a - 2 ^ i) j ≡ not (eqb j i) && has a j
+has-sub a zero h zero = has-zero (a - 1) ∙ ne-eqb ((a - 1) % 2) 1 (omega (arith, odd a h))
+has-sub a zero h (suc j) = rw (eqb·suc-zero j) (same-rest (a - 1) a j (omega (arith, odd a h)))
+has-sub a (suc i) h zero = rw (eqb·zero-suc i) (same-low (a - 2 ^ suc i) a (omega (arith, pow-succ' 2 i, has-le a (suc i) h)))
+has-sub a (suc i) h (suc j) =
+    let half : (a - 2 ^ suc i) / 2 ≡ a / 2 - 2 ^ i = omega (arith, pow-succ' 2 i, has-le a (suc i) h) in
+    has-suc (a - 2 ^ suc i) j ∙ ap (λ (x : ℕ). has x j) half ∙ has-sub (a / 2) i (sym (has-suc a i) ∙ h) j
+    ∙ rw (eqb·suc-suc j i, has-suc a j)
+
+-- ---- a mask below 2^n has no bit from n on, and the bits decide the mask
+
+pub has-above : (a n i : ℕ) → a < 2 ^ n → n ≤ i → has a i ≡ false
+unfolding has
+has-above a n i h k = ap (λ (x : ℕ). eqb (x % 2) 1) (div-eq-of-lt (lt-of-lt-of-le h (pow-mono k)))
+
+no-bits : (a : ℕ) → ((i : ℕ) → has a i ≡ false) → a ≡ 0
+no-bits =
+    bin-ind (λ (a : ℕ). ((i : ℕ) → has a i ≡ false) → a ≡ 0) (λ h. refl) (λ a rest h.
+    let half : a / 2 ≡ 0 = rest (λ i. sym (has-suc a i) ∙ h (suc i)) in
+    omega (arith, even a (h 0)))
+
+low-of-same : (a b : ℕ) → has a 0 ≡ has b 0 → a % 2 ≡ b % 2
+low-of-same a b h = cases (true-or-false (has b 0))
+  where
+    cases : (has b 0 ≡ true) ⊎ (has b 0 ≡ false) → a % 2 ≡ b % 2
+    cases (inl k) = odd a (h ∙ k) ∙ sym (odd b k)
+    cases (inr k) = even a (h ∙ k) ∙ sym (even b k)
+
+pub same-bits : (a b : ℕ) → ((i : ℕ) → has a i ≡ has b i) → a ≡ b
+same-bits =
+    bin-ind (λ (a : ℕ). (b : ℕ) → ((i : ℕ) → has a i ≡ has b i) → a ≡ b)
+    (λ b h. sym (no-bits b (λ i. sym (h i) ∙ has-above 0 0 i (zero-lt-suc 0) zero-le)))
+    (λ a rest b h.
+    let half : a / 2 ≡ b / 2 = rest (b / 2) (λ i. sym (has-suc a i) ∙ h (suc i) ∙ has-suc b i) in
+    omega (arith, low-of-same a b (h 0)))
+
+-- ---- the parts that two sets share
+
+digit-and : (x y : ℕ) → x < 2 → y < 2 → eqb (min x y) 1 ≡ eqb x 1 && eqb y 1
+digit-and zero y hx hy = ap (λ (m : ℕ). eqb m 1) (zero-min y)
+digit-and (suc zero) zero hx hy = refl
+digit-and (suc zero) (suc zero) hx hy = refl
+digit-and (suc zero) (suc (suc y)) hx hy = absurd (not-suc-le-zero (le-of-suc-le-suc (le-of-suc-le-suc hy)))
+digit-and (suc (suc x)) y hx hy = absurd (not-suc-le-zero (le-of-suc-le-suc (le-of-suc-le-suc hx)))
+
+meet-low : (a b : ℕ) → meet a b % 2 ≡ min (a % 2) (b % 2)
+meet-low a b = ap (λ (x : ℕ). x % 2) (and-step a b) ∙ omega (arith, mod-lt a (zero-lt-suc 1))
+
+meet-half : (a b : ℕ) → meet a b / 2 ≡ meet (a / 2) (b / 2)
+meet-half a b = ap (λ (x : ℕ). x / 2) (and-step a b) ∙ omega (arith, mod-lt a (zero-lt-suc 1))
+
+pub has-meet : (a b i : ℕ) → has (meet a b) i ≡ has a i && has b i
+has-meet a b zero =
+    has-zero (meet a b) ∙ ap (λ (x : ℕ). eqb x 1) (meet-low a b)
+    ∙ digit-and (a % 2) (b % 2) (mod-lt a (zero-lt-suc 1)) (mod-lt b (zero-lt-suc 1)) ∙ rw (has-zero a, has-zero b)
+has-meet a b (suc i) =
+    has-suc (meet a b) i ∙ ap (λ (x : ℕ). has x i) (meet-half a b) ∙ has-meet (a / 2) (b / 2) i ∙ rw (has-suc a i, has-suc b i)
+
+-- ---- one set holds another
+
+pub holds-part : (a b : ℕ) → holds a b ≡ true → (i : ℕ) → has b i ≡ true → has a i ≡ true
+unfolding holds
+holds-part a b h i k =
+    and-left (has a i) (has b i) (sym (has-meet a b i) ∙ ap (λ (x : ℕ). has x i) (eqb-true (meet a b) b h) ∙ k)
+
+pub holds-of-parts : (a b : ℕ) → ((i : ℕ) → has b i ≡ true → has a i ≡ true) → holds a b ≡ true
+unfolding holds
+holds-of-parts a b h =
+    eq-eqb (meet a b) b (same-bits (meet a b) b (λ i. has-meet a b i
+    ∙ same-test (has a i && has b i) (has b i) (and-right (has a i) (has b i)) (λ k. and-both (h i k) k)))
+
+pub holds-refl : (a : ℕ) → holds a a ≡ true
+holds-refl a = holds-of-parts a a (λ i k. k)
+
+pub holds-trans : (a b c : ℕ) → holds a b ≡ true → holds b c ≡ true → holds a c ≡ true
+holds-trans a b c h k = holds-of-parts a c (λ i p. holds-part a b h i (holds-part b c k i p))
+
+pub holds-le : (a b : ℕ) → holds a b ≡ true → b ≤ a
+unfolding holds
+holds-le a b h = subst (λ (x : ℕ). x ≤ a) (eqb-true (meet a b) b h) (and-le-l a b)
+
+pub holds-antisym : (a b : ℕ) → holds a b ≡ true → holds b a ≡ true → a ≡ b
+holds-antisym a b h k = le-antisymm (holds-le b a k) (holds-le a b h)
+
+-- a set with a part more holds it, and a set holds itself with a part less
+pub holds-add : (a i : ℕ) → has a i ≡ false → holds (a + 2 ^ i) a ≡ true
+holds-add a i h = holds-of-parts (a + 2 ^ i) a (λ j k. has-add a i h j ∙ or-right (eqb j i) k)
+
+pub holds-sub : (a i : ℕ) → has a i ≡ true → holds a (a - 2 ^ i) ≡ true
+holds-sub a i h =
+    holds-of-parts a (a - 2 ^ i) (λ j k. and-right (not (eqb j i)) (has a j) (sym (has-sub a i h j) ∙ k))

@@ -1,3 +1,4 @@
 pub mod Bools
 pub mod Masks
 pub mod Ranges
+pub mod Structures

@@ -4,15 +4,16 @@ use mathlib.Core.Path.{_≡_, refl, sym, ap, _∙_, subst}
 use mathlib.Core.Bool.{true, false, not, _&&_, _||_}
 use mathlib.Core.Logic.{_⊎_, inl, inr}
 use Prim.Native.Nat.{ℕ, zero, suc, _+_, _-_, _*_, _/_, _%_, _^_, _≤_, _<_, min, zero-le}
-use native.Mathlib.Nat.{div-one, div-div-eq-div-mul, pow-succ', div-eq-of-lt, mod-lt, zero-lt-suc, zero-min, le-of-suc-le-suc, not-suc-le-zero, le-antisymm, lt-of-lt-of-le}
+use native.Mathlib.Nat.{div-one, div-div-eq-div-mul, pow-succ', div-eq-of-lt, mod-lt, zero-lt-suc, zero-min, le-of-suc-le-suc, not-suc-le-zero, le-antisymm, lt-of-lt-of-le, pow-suc, add-zero}
 use native.Mathlib.Omega.{arith}
 use lib.Arith.{bin-ind}
 use lib.Bits.{and-step, and-le-l}
 use lib.Dec.{eqb, eqb·suc-suc, eqb·zero-suc, eqb·suc-zero}
-use lib.Pow.{pow-mono}
-use borrow.Author.Tests.{eqb-true, eqb-false, eq-eqb, ne-eqb}
-use Rattle.sets.specs.Masks.{has, holds, meet}
-use Rattle.sets.proofs.Bools.{and-left, and-right, and-both, or-right, true-or-false, same-test}
+use lib.Pow.{pow-mono, pow-pos, shr-shr}
+use borrow.Author.Tests.{eqb-true, eqb-false, eq-eqb, ne-eqb, not-true, not-false}
+use Rattle.sets.specs.Masks.{has, holds, meet, any}
+use Rattle.sets.proofs.Bools.{and-left, and-right, and-both, or-cases, or-right, true-or-false, same-test, clash}
+use Rattle.sets.proofs.Ranges.{below-or-above, any-elim, any-none}
 
 -- ---- the lowest bit and the rest
 
@@ -147,3 +148,71 @@ holds-add a i h = holds-of-parts (a + 2 ^ i) a (λ j k. has-add a i h j ∙ or-r
 pub holds-sub : (a i : ℕ) → has a i ≡ true → holds a (a - 2 ^ i) ≡ true
 holds-sub a i h =
     holds-of-parts a (a - 2 ^ i) (λ j k. and-right (not (eqb j i)) (has a j) (sym (has-sub a i h j) ∙ k))
+
+-- ---- the full set of n parts, and the bits from k on
+
+pub has-full : (n i : ℕ) → i < n → has (2 ^ n - 1) i ≡ true
+has-full zero i h = absurd (not-suc-le-zero h)
+has-full (suc n) zero h = has-zero (2 ^ suc n - 1) ∙ eq-eqb ((2 ^ suc n - 1) % 2) 1 (omega (arith, pow-succ' 2 n, pow-pos n))
+has-full (suc n) (suc i) h =
+    let half : (2 ^ suc n - 1) / 2 ≡ 2 ^ n - 1 = omega (arith, pow-succ' 2 n, pow-pos n) in
+    has-suc (2 ^ suc n - 1) i ∙ ap (λ (x : ℕ). has x i) half ∙ has-full n i (le-of-suc-le-suc h)
+
+pub full-holds : (n a : ℕ) → a < 2 ^ n → holds (2 ^ n - 1) a ≡ true
+full-holds n a h = holds-of-parts (2 ^ n - 1) a (λ i k. cases i k (below-or-above i n))
+  where
+    cases : (i : ℕ) → has a i ≡ true → (i < n) ⊎ (n ≤ i) → has (2 ^ n - 1) i ≡ true
+    cases i k (inl below) = has-full n i below
+    cases i k (inr above) = clash k (has-above a n i h above)
+
+pub has-shift : (a k i : ℕ) → has (a / 2 ^ k) i ≡ has a (k + i)
+unfolding has
+has-shift a k i = ap (λ (x : ℕ). eqb (x % 2) 1) (shr-shr a k i)
+
+-- the quotient by 2^k, cut into its lowest bit and the rest
+pub quotient-half : (a k : ℕ) → a / 2 ^ suc k ≡ a / 2 ^ k / 2
+quotient-half a k = ap (λ (x : ℕ). a / x) (pow-suc 2 k) ∙ sym (div-div-eq-div-mul a (2 ^ k) 2)
+
+pub quotient-odd : (a k : ℕ) → has a k ≡ true → a / 2 ^ k % 2 ≡ 1
+quotient-odd a k h = odd (a / 2 ^ k) (has-shift a k 0 ∙ rw (add-zero k) h)
+
+pub quotient-even : (a k : ℕ) → has a k ≡ false → a / 2 ^ k % 2 ≡ 0
+quotient-even a k h = even (a / 2 ^ k) (has-shift a k 0 ∙ rw (add-zero k) h)
+
+-- ---- a set between two others
+
+-- a set with one more of the parts of a set that holds it is still held
+pub holds-with : (b a k : ℕ) → holds b a ≡ true → has b k ≡ true → has a k ≡ false → holds b (a + 2 ^ k) ≡ true
+holds-with b a k within hb ha =
+    holds-of-parts b (a + 2 ^ k) (λ i h. cases i (or-cases (eqb i k) (has a i) (sym (has-add a k ha i) ∙ h)))
+  where
+    cases : (i : ℕ) → (eqb i k ≡ true) ⊎ (has a i ≡ true) → has b i ≡ true
+    cases i (inl e) = subst (λ (x : ℕ). has b x ≡ true) (sym (eqb-true i k e)) hb
+    cases i (inr h) = holds-part b a within i h
+
+-- a set still holds another without a part that the other lacks
+pub holds-without : (a b k : ℕ) → holds a b ≡ true → has a k ≡ true → has b k ≡ false → holds (a - 2 ^ k) b ≡ true
+holds-without a b k within ha hb =
+    holds-of-parts (a - 2 ^ k) b (λ i h. has-sub a k ha i
+    ∙ and-both (ap not (ne-eqb i k (λ e. clash (subst (λ (x : ℕ). has b x ≡ true) e h) hb))) (holds-part a b within i h))
+
+pub add-below : (n a i : ℕ) → a < 2 ^ n → i < n → has a i ≡ false → a + 2 ^ i < 2 ^ n
+add-below n a i ha hi lacks =
+    let within : a + 2 ^ i ≤ 2 ^ n - 1 = holds-le (2 ^ n - 1) (a + 2 ^ i) (holds-with (2 ^ n - 1) a i (full-holds n a ha) (has-full n i hi) lacks) in
+    omega (arith, pow-pos n)
+
+-- of two sets of n parts one of which holds the other, and which differ, the larger has a part that the smaller lacks
+pub lacking : (n a b : ℕ) → a < 2 ^ n → holds a b ≡ true → (a ≡ b → ⊥) → (i : ℕ) × (i < n) × (has a i ≡ true) × (has b i ≡ false)
+lacking n a b ha within differ = cases (true-or-false (any (λ i. has a i && not (has b i)) n))
+  where
+    cases : (any (λ i. has a i && not (has b i)) n ≡ true) ⊎ (any (λ i. has a i && not (has b i)) n ≡ false)
+        → (i : ℕ) × (i < n) × (has a i ≡ true) × (has b i ≡ false)
+    cases (inl some) =
+        let found = any-elim (λ i. has a i && not (has b i)) n some in
+        let i = found .0 in
+        (i, found .1, and-left (has a i) (not (has b i)) (found .2), not-true (has b i) (and-right (has a i) (not (has b i)) (found .2)))
+    cases (inr none) = absurd (differ (holds-antisym a b within (holds-of-parts b a (λ i h. each i h (below-or-above i n)))))
+      where
+        each : (i : ℕ) → has a i ≡ true → (i < n) ⊎ (n ≤ i) → has b i ≡ true
+        each i h (inl below) = not-false (has b i) (rw h at (any-none (λ i. has a i && not (has b i)) n i none below))
+        each i h (inr above) = clash h (has-above a n i ha above)

@@ -2,3 +2,4 @@ pub mod Bools
 pub mod Masks
 pub mod Ranges
 pub mod Structures
+pub mod Lists

@@ -1,10 +1,12 @@
--- Laws of `tabulate`: its length, its entries, and its end.
+-- Laws of `tabulate`: its length, its entries, its end, and a list that a loop fills with a function's values.
 -- Assumes nothing.
-use mathlib.Core.Path.{_≡_, refl, ap}
-use mathlib.Core.List.{List, [], _∷_, _++_}
-use Prim.Native.Nat.{ℕ, zero, suc, _<_}
-use native.Mathlib.Nat.{le-of-suc-le-suc, not-suc-le-zero}
-use lib.ListN.{length, getD}
+use mathlib.Core.Path.{_≡_, refl, sym, ap, ap₂, _∙_, subst}
+use mathlib.Core.List.{List, [], _∷_, _++_, append-nil}
+use Prim.Native.Nat.{ℕ, zero, suc, _+_, _-_, _≤_, _<_}
+use native.Mathlib.Nat.{le-of-suc-le-suc, not-suc-le-zero, add-sub-of-le}
+use native.Mathlib.Numerals.{add-one}
+use lib.ListN.{length, getD, set, drop, length-append, length-drop, drop-of-length-le, List·getD-append}
+use lib.Seq.{drop-cons, set-append-seam, append-snoc, getD-append-add, getD-drop, ext-getD}
 use Rattle.numbers.specs.Tables.{tabulate}
 
 module _ {A : Type 0} where
@@ -24,3 +26,46 @@ module _ {A : Type 0} where
   unfolding tabulate
   tabulate-suc zero f = refl
   tabulate-suc (suc n) f = ap (λ (xs : List A). f zero ∷ xs) (tabulate-suc n (λ i. f (suc i)))
+
+-- A list that a loop fills from the front with f: the first n are new, the rest is as it was.
+module _ {A : Type 0} (f : ℕ → A) (xs : List A) where
+  abbrev pub filled : ℕ → List A
+  filled n = tabulate n f ++ drop n xs
+
+  pub filled-none : xs ≡ filled 0
+  unfolding tabulate
+  filled-none = refl
+
+  pub filled-more : (n : ℕ) (v : A) → n < length xs → v ≡ f n → set (filled n) n v ≡ filled (n + 1)
+  filled-more n v h e =
+      ap (λ (ys : List A). set (tabulate n f ++ ys) n v) (drop-cons xs n v h)
+      ∙ subst (λ (k : ℕ). set (tabulate n f ++ (getD xs n v ∷ drop (suc n) xs)) k v ≡ tabulate n f ++ (v ∷ drop (suc n) xs)) (tabulate-length n f)
+        (set-append-seam (tabulate n f) (getD xs n v) (drop (suc n) xs) v)
+      ∙ sym (append-snoc (tabulate n f) v (drop (suc n) xs))
+      ∙ ap (λ (w : A). tabulate n f ++ (w ∷ []) ++ drop (suc n) xs) e
+      ∙ ap (λ (ys : List A). ys ++ drop (suc n) xs) (sym (tabulate-suc n f))
+      ∙ ap filled (sym (add-one n))
+
+  pub filled-below : (n j : ℕ) (d : A) → j < n → getD (filled n) j d ≡ f j
+  filled-below n j d h =
+      List·getD-append (tabulate n f) (drop n xs) d j (rw (tabulate-length n f) h) ∙ tabulate-at n f j d h
+
+  pub filled-from : (n j : ℕ) (d : A) → n ≤ j → getD (filled n) j d ≡ getD xs j d
+  filled-from n j d h =
+      let k : ℕ = j - n in
+      let split : j ≡ n + k = sym (add-sub-of-le h) in
+      ap (λ (i : ℕ). getD (filled n) i d) (split ∙ ap (λ (m : ℕ). m + k) (sym (tabulate-length n f)))
+      ∙ getD-append-add (tabulate n f) (drop n xs) k d ∙ getD-drop n xs k d ∙ ap (λ (i : ℕ). getD xs i d) (sym split)
+
+  pub filled-all : (n : ℕ) → length xs ≤ n → filled n ≡ tabulate n f
+  filled-all n h = ap (λ (ys : List A). tabulate n f ++ ys) (drop-of-length-le xs h) ∙ append-nil (tabulate n f)
+
+  pub filled-length : (n : ℕ) → n ≤ length xs → length (filled n) ≡ length xs
+  filled-length n h =
+      length-append (tabulate n f) (drop n xs) ∙ ap₂ (λ (a b : ℕ). a + b) (tabulate-length n f) (length-drop n xs) ∙ add-sub-of-le h
+
+-- a list is decided by its length and its entries
+pub tabulate-unique : {A : Type 0} (n : ℕ) (f : ℕ → A) (xs : List A) (d : A) → length xs ≡ n → ((j : ℕ) → j < n → getD xs j d ≡ f j) → xs ≡ tabulate n f
+tabulate-unique n f xs d len same =
+    ext-getD d xs (tabulate n f) (len ∙ sym (tabulate-length n f)) (λ j h.
+    let below : j < n = rw len at h in same j below ∙ sym (tabulate-at n f j d below))

@@ -3,3 +3,4 @@ pub mod Masks
 pub mod Ranges
 pub mod Structures
 pub mod Lists
+pub mod Tables

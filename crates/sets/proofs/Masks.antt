@@ -3,15 +3,16 @@
 use mathlib.Core.Path.{_≡_, refl, sym, ap, _∙_, subst}
 use mathlib.Core.Bool.{true, false, not, _&&_, _||_}
 use mathlib.Core.Logic.{_⊎_, inl, inr}
-use Prim.Native.Nat.{ℕ, zero, suc, _+_, _-_, _*_, _/_, _%_, _^_, _≤_, _<_, min, zero-le}
-use native.Mathlib.Nat.{div-one, div-div-eq-div-mul, pow-succ', div-eq-of-lt, mod-lt, zero-lt-suc, zero-min, le-of-suc-le-suc, not-suc-le-zero, le-antisymm, lt-of-lt-of-le, pow-suc, add-zero}
+use Prim.Native.Nat.{ℕ, zero, suc, _+_, _-_, _*_, _/_, _%_, _^_, _≤_, _<_, min, max, zero-le}
+use native.Mathlib.Nat.{div-one, div-div-eq-div-mul, pow-succ', div-eq-of-lt, mod-lt, zero-lt-suc, zero-min, zero-max, add-div-right, le-of-suc-le-suc, not-suc-le-zero, le-antisymm, lt-of-lt-of-le, pow-suc, add-zero}
+use native.Mathlib.Numerals.{add-one}
 use native.Mathlib.Omega.{arith}
 use lib.Arith.{bin-ind}
-use lib.Bits.{and-step, and-le-l}
+use lib.Bits.{and-step, or-step, and-le-l}
 use lib.Dec.{eqb, eqb·suc-suc, eqb·zero-suc, eqb·suc-zero}
-use lib.Pow.{pow-mono, pow-pos, shr-shr}
+use lib.Pow.{pow-mono, pow-pos, shr-shr, high, field, mod-mod-pow}
 use borrow.Author.Tests.{eqb-true, eqb-false, eq-eqb, ne-eqb, not-true, not-false}
-use Rattle.sets.specs.Masks.{has, holds, meet, any}
+use Rattle.sets.specs.Masks.{has, holds, meet, join, any}
 use Rattle.sets.proofs.Bools.{and-left, and-right, and-both, or-cases, or-right, true-or-false, same-test, clash}
 use Rattle.sets.proofs.Ranges.{below-or-above, any-elim, any-none}
 
@@ -25,13 +26,19 @@ pub has-suc : (a i : ℕ) → has a (suc i) ≡ has (a / 2) i
 unfolding has
 has-suc a i = ap (λ (x : ℕ). eqb (x % 2) 1) (ap (λ (x : ℕ). a / x) (pow-succ' 2 i) ∙ sym (div-div-eq-div-mul a 2 (2 ^ i)))
 
-odd : (a : ℕ) → has a 0 ≡ true → a % 2 ≡ 1
+pub odd : (a : ℕ) → has a 0 ≡ true → a % 2 ≡ 1
 odd a h = eqb-true (a % 2) 1 (sym (has-zero a) ∙ h)
 
-even : (a : ℕ) → has a 0 ≡ false → a % 2 ≡ 0
+pub even : (a : ℕ) → has a 0 ≡ false → a % 2 ≡ 0
 even a h =
     let ne : a % 2 ≡ 1 → ⊥ = eqb-false (a % 2) 1 (sym (has-zero a) ∙ h) in
     omega (arith, mod-lt a (zero-lt-suc 1))
+
+pub has-odd : (a : ℕ) → a % 2 ≡ 1 → has a 0 ≡ true
+has-odd a h = has-zero a ∙ eq-eqb (a % 2) 1 h
+
+pub has-even : (a : ℕ) → a % 2 ≡ 0 → has a 0 ≡ false
+has-even a h = has-zero a ∙ ap (λ (x : ℕ). eqb x 1) h
 
 -- two masks with the same lowest bit and the same half share every bit, and so on
 same-low : (a b : ℕ) → a % 2 ≡ b % 2 → has a 0 ≡ has b 0
@@ -43,7 +50,7 @@ same-rest a b i e = has-suc a i ∙ ap (λ (x : ℕ). has x i) e ∙ sym (has-su
 -- ---- one part more, one part less
 
 pub has-add : (a i : ℕ) → has a i ≡ false → (j : ℕ) → has (a + 2 ^ i) j ≡ eqb j i || has a j
-has-add a zero h zero = has-zero (a + 1) ∙ eq-eqb ((a + 1) % 2) 1 (omega (arith, even a h))
+has-add a zero h zero = has-odd (a + 1) (omega (arith, even a h))
 has-add a zero h (suc j) = rw (eqb·suc-zero j) (same-rest (a + 1) a j (omega (arith, even a h)))
 has-add a (suc i) h zero = rw (eqb·zero-suc i) (same-low (a + 2 ^ suc i) a (omega (arith, pow-succ' 2 i)))
 has-add a (suc i) h (suc j) =
@@ -58,7 +65,7 @@ has-le a (suc i) h =
     omega (arith, pow-succ' 2 i)
 
 pub has-sub : (a i : ℕ) → has a i ≡ true → (j : ℕ) → has (a - 2 ^ i) j ≡ not (eqb j i) && has a j
-has-sub a zero h zero = has-zero (a - 1) ∙ ne-eqb ((a - 1) % 2) 1 (omega (arith, odd a h))
+has-sub a zero h zero = has-even (a - 1) (omega (arith, odd a h))
 has-sub a zero h (suc j) = rw (eqb·suc-zero j) (same-rest (a - 1) a j (omega (arith, odd a h)))
 has-sub a (suc i) h zero = rw (eqb·zero-suc i) (same-low (a - 2 ^ suc i) a (omega (arith, pow-succ' 2 i, has-le a (suc i) h)))
 has-sub a (suc i) h (suc j) =
@@ -115,6 +122,28 @@ has-meet a b zero =
 has-meet a b (suc i) =
     has-suc (meet a b) i ∙ ap (λ (x : ℕ). has x i) (meet-half a b) ∙ has-meet (a / 2) (b / 2) i ∙ rw (has-suc a i, has-suc b i)
 
+-- ---- the parts that either of two sets has
+
+digit-or : (x y : ℕ) → x < 2 → y < 2 → eqb (max x y) 1 ≡ eqb x 1 || eqb y 1
+digit-or zero y hx hy = ap (λ (m : ℕ). eqb m 1) (zero-max y)
+digit-or (suc zero) zero hx hy = refl
+digit-or (suc zero) (suc zero) hx hy = refl
+digit-or (suc zero) (suc (suc y)) hx hy = absurd (not-suc-le-zero (le-of-suc-le-suc (le-of-suc-le-suc hy)))
+digit-or (suc (suc x)) y hx hy = absurd (not-suc-le-zero (le-of-suc-le-suc (le-of-suc-le-suc hx)))
+
+join-low : (a b : ℕ) → join a b % 2 ≡ max (a % 2) (b % 2)
+join-low a b = ap (λ (x : ℕ). x % 2) (or-step a b) ∙ omega (arith, mod-lt a (zero-lt-suc 1), mod-lt b (zero-lt-suc 1))
+
+join-half : (a b : ℕ) → join a b / 2 ≡ join (a / 2) (b / 2)
+join-half a b = ap (λ (x : ℕ). x / 2) (or-step a b) ∙ omega (arith, mod-lt a (zero-lt-suc 1), mod-lt b (zero-lt-suc 1))
+
+pub has-join : (a b i : ℕ) → has (join a b) i ≡ has a i || has b i
+has-join a b zero =
+    has-zero (join a b) ∙ ap (λ (x : ℕ). eqb x 1) (join-low a b)
+    ∙ digit-or (a % 2) (b % 2) (mod-lt a (zero-lt-suc 1)) (mod-lt b (zero-lt-suc 1)) ∙ rw (has-zero a, has-zero b)
+has-join a b (suc i) =
+    has-suc (join a b) i ∙ ap (λ (x : ℕ). has x i) (join-half a b) ∙ has-join (a / 2) (b / 2) i ∙ rw (has-suc a i, has-suc b i)
+
 -- ---- one set holds another
 
 pub holds-part : (a b : ℕ) → holds a b ≡ true → (i : ℕ) → has b i ≡ true → has a i ≡ true
@@ -153,7 +182,7 @@ holds-sub a i h =
 
 pub has-full : (n i : ℕ) → i < n → has (2 ^ n - 1) i ≡ true
 has-full zero i h = absurd (not-suc-le-zero h)
-has-full (suc n) zero h = has-zero (2 ^ suc n - 1) ∙ eq-eqb ((2 ^ suc n - 1) % 2) 1 (omega (arith, pow-succ' 2 n, pow-pos n))
+has-full (suc n) zero h = has-odd (2 ^ suc n - 1) (omega (arith, pow-succ' 2 n, pow-pos n))
 has-full (suc n) (suc i) h =
     let half : (2 ^ suc n - 1) / 2 ≡ 2 ^ n - 1 = omega (arith, pow-succ' 2 n, pow-pos n) in
     has-suc (2 ^ suc n - 1) i ∙ ap (λ (x : ℕ). has x i) half ∙ has-full n i (le-of-suc-le-suc h)
@@ -173,11 +202,43 @@ has-shift a k i = ap (λ (x : ℕ). eqb (x % 2) 1) (shr-shr a k i)
 pub quotient-half : (a k : ℕ) → a / 2 ^ suc k ≡ a / 2 ^ k / 2
 quotient-half a k = ap (λ (x : ℕ). a / x) (pow-suc 2 k) ∙ sym (div-div-eq-div-mul a (2 ^ k) 2)
 
+pub bit-of-odd : (a k : ℕ) → a / 2 ^ k % 2 ≡ 1 → has a k ≡ true
+unfolding has
+bit-of-odd a k h = eq-eqb (a / 2 ^ k % 2) 1 h
+
+pub bit-of-even : (a k : ℕ) → a / 2 ^ k % 2 ≡ 0 → has a k ≡ false
+unfolding has
+bit-of-even a k h = ap (λ (x : ℕ). eqb x 1) h
+
 pub quotient-odd : (a k : ℕ) → has a k ≡ true → a / 2 ^ k % 2 ≡ 1
 quotient-odd a k h = odd (a / 2 ^ k) (has-shift a k 0 ∙ rw (add-zero k) h)
 
 pub quotient-even : (a k : ℕ) → has a k ≡ false → a / 2 ^ k % 2 ≡ 0
 quotient-even a k h = even (a / 2 ^ k) (has-shift a k 0 ∙ rw (add-zero k) h)
+
+-- adding 2^k turns bit k over
+pub has-flip : (a k : ℕ) → has (a + 2 ^ k) k ≡ not (has a k)
+has-flip a k = cases (true-or-false (has a k))
+  where
+    more : (a + 2 ^ k) / 2 ^ k ≡ a / 2 ^ k + 1
+    more = add-div-right a (pow-pos k)
+
+    cases : (has a k ≡ true) ⊎ (has a k ≡ false) → has (a + 2 ^ k) k ≡ not (has a k)
+    cases (inl h) = rw h (bit-of-even (a + 2 ^ k) k (ap (λ (x : ℕ). x % 2) more ∙ omega (arith, quotient-odd a k h)))
+    cases (inr h) = rw h (bit-of-odd (a + 2 ^ k) k (ap (λ (x : ℕ). x % 2) more ∙ omega (arith, quotient-even a k h)))
+
+-- the bits below k are those of the remainder by 2^k, and the bits from k on those of the quotient
+pub has-block : (q k r i : ℕ) → r < 2 ^ k → has (q * 2 ^ k + r) (k + i) ≡ has q i
+has-block q k r i h = sym (has-shift (q * 2 ^ k + r) k i) ∙ ap (λ (x : ℕ). has x i) (high q k h)
+
+pub has-low : (a k i : ℕ) → i < k → has (a % 2 ^ k) i ≡ has a i
+has-low a zero i h = absurd (not-suc-le-zero h)
+has-low a (suc k) zero h =
+    same-low (a % 2 ^ suc k) a (ap (λ (m : ℕ). a % 2 ^ m % 2) (sym (add-one k)) ∙ mod-mod-pow a k 1)
+has-low a (suc k) (suc i) h =
+    has-suc (a % 2 ^ suc k) i
+    ∙ ap (λ (x : ℕ). has x i) (ap (λ (m : ℕ). a % 2 ^ m / 2) (sym (add-one k)) ∙ field a k 1)
+    ∙ has-low (a / 2 ^ 1) k i (le-of-suc-le-suc h) ∙ sym (has-suc a i)
 
 -- ---- a set between two others
 

@@ -2,12 +2,13 @@
 -- Assumes nothing.
 use mathlib.Core.Path.{_≡_, refl, sym, ap, ap₂, _∙_, subst}
 use mathlib.Core.Bool.{Bool, true, false, cond, _||_}
-use mathlib.Core.List.{List, [], _∷_, _++_, append-nil, List·Memᴰ, List·Memᴰ·head, List·Memᴰ·tail, List·Memᴰ·not-nil, List·Memᴰ·cases-cons, List·Memᴰ·append-cases, List·Memᴰ·eq-of-singleton, Memᴰ·append-left, Memᴰ·append-right}
+use mathlib.Core.List.{List, [], _∷_, _++_, append-nil, append-assoc, List·Memᴰ, List·Memᴰ·head, List·Memᴰ·tail, List·Memᴰ·not-nil, List·Memᴰ·cases-cons, List·Memᴰ·append-cases, List·Memᴰ·eq-of-singleton, Memᴰ·append-left, Memᴰ·append-right}
 use mathlib.Core.Logic.{_⊎_, inl, inr, ⊎-elim}
-use Prim.Native.Nat.{ℕ, zero, suc, _≤_, _<_, zero-le, suc-le-suc}
-use native.Mathlib.Nat.{not-suc-le-zero, le-refl, le-step, lt-irrefl, eq-or-lt-of-le, le-of-suc-le-suc, le-antisymm, lt-suc-self, zero-lt-suc, le-of-lt}
+use Prim.Native.Nat.{ℕ, zero, suc, _+_, _-_, _≤_, _<_, zero-le, suc-le-suc}
+use native.Mathlib.Nat.{not-suc-le-zero, le-refl, le-step, lt-irrefl, eq-or-lt-of-le, le-of-suc-le-suc, le-antisymm, lt-suc-self, zero-lt-suc, le-of-lt, add-zero, add-suc, le-add-right, add-sub-of-le}
 use native.Mathlib.Omega.{arith}
-use Rattle.sets.specs.Masks.{any, those, Rising, RisingFrom}
+use lib.ListN.{getD}
+use Rattle.sets.specs.Masks.{any, those, least, Rising, RisingFrom}
 use Rattle.sets.proofs.Bools.{or-cases, or-left, or-right, clash, false-of}
 
 -- ---- a number and a bound
@@ -83,6 +84,50 @@ unfolding those
 those-same f g zero h = refl
 those-same f g (suc k) h =
     ap₂ (λ (xs : List ℕ) (p : Bool). xs ++ cond p (k ∷ []) []) (those-same f g k (λ i l. h i (le-step l))) (h k (lt-suc-self k))
+
+-- numbers that fail the test add nothing
+pub those-skip : (test : ℕ → Bool) (k m : ℕ) → ((i : ℕ) → k ≤ i → i < k + m → test i ≡ false) → those test (k + m) ≡ those test k
+unfolding those
+those-skip test k zero none = ap (those test) (add-zero k)
+those-skip test k (suc m) none =
+    ap (those test) (add-suc k m)
+    ∙ ap (λ (p : Bool). those test (k + m) ++ cond p ((k + m) ∷ []) []) (none (k + m) (le-add-right k m) (omega arith))
+    ∙ append-nil (those test (k + m)) ∙ those-skip test k m (λ i l h. none i l (omega arith))
+
+pub those-none : (test : ℕ → Bool) (k : ℕ) → ((i : ℕ) → i < k → test i ≡ false) → those test k ≡ []
+unfolding those
+those-none test zero none = refl
+those-none test (suc k) none =
+    ap₂ (λ (xs : List ℕ) (p : Bool). xs ++ cond p (k ∷ []) []) (those-none test k (λ i h. none i (le-step h))) (none k (lt-suc-self k))
+
+pub those-take : (test : ℕ → Bool) (k : ℕ) → test k ≡ true → those test (suc k) ≡ those test k ++ (k ∷ [])
+unfolding those
+those-take test k h = ap (λ (p : Bool). those test k ++ cond p (k ∷ []) []) h
+
+-- what passes later stands behind
+those-later : (test : ℕ → Bool) (k m : ℕ) → (rest : List ℕ) × (those test (k + m) ≡ those test k ++ rest)
+unfolding those
+those-later test k zero = ([], ap (those test) (add-zero k) ∙ sym (append-nil (those test k)))
+those-later test k (suc m) =
+    let before = those-later test k m in
+    let last : List ℕ = cond (test (k + m)) ((k + m) ∷ []) [] in
+    (
+      before .0 ++ last,
+      ap (those test) (add-suc k m) ∙ ap (λ (xs : List ℕ). xs ++ last) (before .1) ∙ append-assoc (those test k) (before .0) last,
+    )
+
+-- ---- `least`
+
+pub least-none : (test : ℕ → Bool) (k : ℕ) → ((i : ℕ) → i < k → test i ≡ false) → least test k ≡ k
+least-none test k none = ap (λ (xs : List ℕ). getD xs 0 k) (those-none test k none)
+
+pub least-found : (test : ℕ → Bool) (k i : ℕ) → i < k → test i ≡ true → ((j : ℕ) → j < i → test j ≡ false) → least test k ≡ i
+least-found test k i h found none =
+    let m : ℕ = k - suc i in
+    let later = those-later test (suc i) m in
+    let first : those test (suc i) ≡ i ∷ [] = those-take test i found ∙ ap (λ (xs : List ℕ). xs ++ (i ∷ [])) (those-none test i none) in
+    ap (λ (xs : List ℕ). getD xs 0 k)
+    (ap (those test) (sym (add-sub-of-le h)) ∙ later .1 ∙ ap (λ (xs : List ℕ). xs ++ later .0) first)
 
 -- ---- rising lists
 

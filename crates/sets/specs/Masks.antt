@@ -2,9 +2,10 @@
 use mathlib.Core.Bool.{Bool, true, false, cond, not, _&&_, _||_}
 use mathlib.Core.List.{List, [], _∷_, _++_}
 use Prim.Native.Nat.{ℕ, zero, suc, _/_, _%_, _^_, _≤_}
-use lib.Bits.{bitAnd}
+use lib.Bits.{bitAnd, bitOr}
 use lib.Count.{ones}
 use lib.Dec.{eqb}
+use lib.ListN.{getD}
 
 -- bit i of the mask a is set: the part at position i + 1 is in the set
 unfoldable pub has : ℕ → ℕ → Bool
@@ -14,9 +15,12 @@ has a i = eqb (a / 2 ^ i % 2) 1
 abbrev pub size : ℕ → ℕ
 size a = ones a
 
--- the parts that two sets share
+-- the parts that two sets share, and those that either has
 abbrev pub meet : ℕ → ℕ → ℕ
 meet a b = bitAnd a b
+
+abbrev pub join : ℕ → ℕ → ℕ
+join a b = bitOr a b
 
 -- the set a holds the set b: the parts that they share are all of b's
 unfoldable pub holds : ℕ → ℕ → Bool
@@ -39,3 +43,7 @@ any test (suc k) = any test k || test k
 unfoldable pub those : (ℕ → Bool) → ℕ → List ℕ
 those test zero = []
 those test (suc k) = those test k ++ cond (test k) (k ∷ []) []
+
+-- the smallest number below k that passes the test, and k where there is none
+abbrev pub least : (ℕ → Bool) → ℕ → ℕ
+least test k = getD (those test k) 0 k

@@ -1,19 +1,23 @@
 -- A set function of 16 parts in 1,024 words of 64 bits: mask a stands at word a/64 rounded down, bit a mod 64.
 use mathlib.Core.Bool.{Bool, true, false, _||_}
 use mathlib.Core.List.{List, [], _∷_, _++_}
-use Prim.Native.Nat.{ℕ, _+_, _*_, _/_, _%_, min}
+use Prim.Native.Nat.{ℕ, _+_, _*_, _/_, _%_}
 use lib.Dec.{eqb}
 use lib.ListN.{length, getD, take, drop}
 use Rattle.numbers.specs.Tables.{tabulate}
-use Rattle.sets.specs.Masks.{has, any, those}
+use Rattle.sets.specs.Masks.{has}
 use Rattle.sets.specs.Tables.{packed}
 
 -- a bit outside the words is 0
 unfoldable pub inWords : List ℕ → ℕ → Bool
 inWords words a = has (getD words (a / 64) 0) (a % 64)
 
-unfoldable pub wordsOf : (ℕ → Bool) → List ℕ
-wordsOf works = tabulate 1024 (λ j. packed 64 (λ k. works (64 * j + k)))
+-- one word of a set function, and all of them
+unfoldable pub wordOf : (ℕ → Bool) → ℕ → ℕ
+wordOf works at = packed 64 (λ k. works (64 * at + k))
+
+abbrev pub wordsOf : (ℕ → Bool) → List ℕ
+wordsOf works = tabulate 1024 (wordOf works)
 
 -- the mask a is one of the list
 unfoldable pub among : List ℕ → ℕ → Bool

@@ -1,0 +1,77 @@
+-- Laws of words: what bit of which word a mask is, and that the machine's operations on words are those on set functions.
+-- Assumes nothing.
+use mathlib.Core.Path.{_≡_, refl, sym, ap, _∙_, subst}
+use mathlib.Core.Bool.{Bool, true, false, not, _&&_, _||_}
+use mathlib.Core.List.{List}
+use mathlib.Core.Logic.{_⊎_, inl, inr}
+use Prim.Native.Nat.{ℕ, _+_, _-_, _*_, _/_, _%_, _^_, _≤_, _<_}
+use native.Mathlib.Nat.{add-sub-of-le, sub-add-cancel, mod-lt, mul-comm, div-add-mod, zero-lt-suc}
+use native.Mathlib.Omega.{arith}
+use lib.Bits.{or-lt, and-lt}
+use lib.ListN.{length, getD}
+use lib.Pow.{pow-pos, pow-add}
+use Rattle.numbers.specs.Tables.{tabulate}
+use Rattle.numbers.proofs.Tables.{tabulate-at}
+use Rattle.sets.specs.Masks.{has, meet, join}
+use Rattle.sets.specs.Tables.{packed}
+use Rattle.sets.proofs.Bools.{true-or-false, clash}
+use Rattle.sets.proofs.Masks.{has-add, has-le, has-flip, has-above, has-block, has-low, has-meet, has-join, has-shift, add-below}
+use Rattle.sets.proofs.Ranges.{below-or-above}
+use Rattle.sets.proofs.Tables.{has-packed, packed-below, packed-unique}
+use Rattle.words.specs.Words.{inWords, wordOf, wordsOf}
+use Rattle.words.specs.Steps.{with, without}
+use Rattle.words.proofs.Bits.{has-shl, has-shl-below, has-complement}
+
+-- ---- a mask's word and bit
+
+pub inWords-at : (words : List ℕ) (at k : ℕ) → k < 64 → inWords words (64 * at + k) ≡ has (getD words at 0) k
+unfolding inWords
+inWords-at words at k h =
+    let word : (64 * at + k) / 64 ≡ at = omega arith in
+    let bit : (64 * at + k) % 64 ≡ k = omega arith in
+    rw (word, bit)
+
+pub has-wordOf : (works : ℕ → Bool) (at k : ℕ) → k < 64 → has (wordOf works at) k ≡ works (64 * at + k)
+unfolding wordOf
+has-wordOf works at k h = has-packed 64 (λ k. works (64 * at + k)) k h
+
+pub wordOf-below : (works : ℕ → Bool) (at : ℕ) → wordOf works at < 2 ^ 64
+unfolding wordOf
+wordOf-below works at = packed-below 64 (λ k. works (64 * at + k))
+
+pub wordOf-unique : (works : ℕ → Bool) (at w : ℕ) → w < 2 ^ 64 → ((k : ℕ) → k < 64 → has w k ≡ works (64 * at + k)) → w ≡ wordOf works at
+unfolding wordOf
+wordOf-unique works at w h same = packed-unique 64 (λ k. works (64 * at + k)) w h same
+
+pub wordOf-same : (f g : ℕ → Bool) (at : ℕ) → ((a : ℕ) → f a ≡ g a) → wordOf f at ≡ wordOf g at
+wordOf-same f g at same = wordOf-unique g at (wordOf f at) (wordOf-below f at) (λ k h. has-wordOf f at k h ∙ same (64 * at + k))
+
+-- a word is the word of the set function that the words hold
+pub wordOf-inWords : (words : List ℕ) (at : ℕ) → getD words at 0 < 2 ^ 64 → getD words at 0 ≡ wordOf (inWords words) at
+wordOf-inWords words at h = wordOf-unique (inWords words) at (getD words at 0) h (λ k l. sym (inWords-at words at k l))
+
+-- the words of a set function hold it
+pub inWords-wordsOf : (works : ℕ → Bool) (a : ℕ) → a < 65536 → inWords (wordsOf works) a ≡ works a
+unfolding inWords
+inWords-wordsOf works a h =
+    let split : 64 * (a / 64) + a % 64 ≡ a = div-add-mod a 64 in
+    ap (λ (w : ℕ). has w (a % 64)) (tabulate-at 1024 (wordOf works) (a / 64) 0 (omega (arith, split)))
+    ∙ has-wordOf works (a / 64) (a % 64) (mod-lt a (zero-lt-suc 63)) ∙ ap works split
+
+-- ---- joined, common and remaining sets
+
+module _ (f g : ℕ → Bool) (at : ℕ) where
+  pub wordOf-or : join (wordOf f at) (wordOf g at) ≡ wordOf (λ a. f a || g a) at
+  wordOf-or =
+      wordOf-unique (λ a. f a || g a) at (join (wordOf f at) (wordOf g at)) (or-lt 64 (wordOf f at) (wordOf g at) (wordOf-below f at) (wordOf-below g at))
+      (λ k h. has-join (wordOf f at) (wordOf g at) k ∙ rw (has-wordOf f at k h, has-wordOf g at k h))
+
+  pub wordOf-and : meet (wordOf f at) (wordOf g at) ≡ wordOf (λ a. f a && g a) at
+  wordOf-and =
+      wordOf-unique (λ a. f a && g a) at (meet (wordOf f at) (wordOf g at)) (and-lt 64 (wordOf f at) (wordOf g at) (wordOf-below f at) (wordOf-below g at))
+      (λ k h. has-meet (wordOf f at) (wordOf g at) k ∙ rw (has-wordOf f at k h, has-wordOf g at k h))
+
+pub wordOf-not : (f : ℕ → Bool) (at : ℕ) → 2 ^ 64 - 1 - wordOf f at ≡ wordOf (λ a. not (f a)) at
+wordOf-not f at =
+    wordOf-unique (λ a. not (f a)) at (2 ^ 64 - 1 - wordOf f at) (omega arith)
+    (λ k h. has-complement 64 (wordOf f at) (wordOf-below f at) k h ∙ ap not (has-wordOf f at k h))

@@ -3,7 +3,7 @@
 use mathlib.Core.Path.{_≡_, refl, sym, ap, ap₂, _∙_, subst}
 use mathlib.Core.List.{List, [], _∷_, _++_, append-nil}
 use Prim.Native.Nat.{ℕ, zero, suc, _+_, _-_, _≤_, _<_}
-use native.Mathlib.Nat.{le-of-suc-le-suc, not-suc-le-zero, add-sub-of-le}
+use native.Mathlib.Nat.{le-of-suc-le-suc, not-suc-le-zero, add-sub-of-le, le-antisymm, le-of-eq}
 use native.Mathlib.Numerals.{add-one}
 use lib.ListN.{length, getD, set, drop, length-append, length-drop, drop-of-length-le, List·getD-append}
 use lib.Seq.{drop-cons, set-append-seam, append-snoc, getD-append-add, getD-drop, ext-getD}
@@ -46,6 +46,17 @@ module _ {A : Type 0} (f : ℕ → A) (xs : List A) where
       ∙ ap (λ (ys : List A). ys ++ drop (suc n) xs) (sym (tabulate-suc n f))
       ∙ ap filled (sym (add-one n))
 
+  pub filled-all : (n : ℕ) → length xs ≤ n → filled n ≡ tabulate n f
+  filled-all n h = ap (λ (ys : List A). tabulate n f ++ ys) (drop-of-length-le xs h) ∙ append-nil (tabulate n f)
+
+  -- what a turn of the loop does, and what the loop leaves
+  pub filled-again : (n : ℕ) (v : A) (now : List A) → now ≡ filled n → n < length xs → v ≡ f n → set now n v ≡ filled (n + 1)
+  filled-again n v now e h k = ap (λ (ys : List A). set ys n v) e ∙ filled-more n v h k
+
+  pub filled-end : (n m : ℕ) (now : List A) → now ≡ filled n → n ≤ m → m ≤ n → length xs ≡ m → now ≡ tabulate m f
+  filled-end n m now e up down len =
+      e ∙ ap filled (le-antisymm up down) ∙ filled-all m (le-of-eq len)
+
   pub filled-below : (n j : ℕ) (d : A) → j < n → getD (filled n) j d ≡ f j
   filled-below n j d h =
       List·getD-append (tabulate n f) (drop n xs) d j (rw (tabulate-length n f) h) ∙ tabulate-at n f j d h
@@ -56,9 +67,6 @@ module _ {A : Type 0} (f : ℕ → A) (xs : List A) where
       let split : j ≡ n + k = sym (add-sub-of-le h) in
       ap (λ (i : ℕ). getD (filled n) i d) (split ∙ ap (λ (m : ℕ). m + k) (sym (tabulate-length n f)))
       ∙ getD-append-add (tabulate n f) (drop n xs) k d ∙ getD-drop n xs k d ∙ ap (λ (i : ℕ). getD xs i d) (sym split)
-
-  pub filled-all : (n : ℕ) → length xs ≤ n → filled n ≡ tabulate n f
-  filled-all n h = ap (λ (ys : List A). tabulate n f ++ ys) (drop-of-length-le xs h) ∙ append-nil (tabulate n f)
 
   pub filled-length : (n : ℕ) → n ≤ length xs → length (filled n) ≡ length xs
   filled-length n h =

@@ -20,7 +20,7 @@ use Rattle.sets.proofs.Tables.{has-packed, packed-below}
 use Rattle.words.specs.Words.{inWords, wordOf}
 use Rattle.words.specs.Steps.{with, without}
 use Rattle.words.proofs.Bits.{has-shl, has-shl-below, has-complement}
-use Rattle.words.proofs.Words.{inWords-at, wordOf-unique}
+use Rattle.words.proofs.Words.{inWords-at, wordOf-unique, wordOf-not, wordOf-same}
 
 and-swap : (p q : Bool) → p && q ≡ q && p
 and-swap true true = refl
@@ -159,3 +159,13 @@ module _ (words : List ℕ) (at part s : ℕ) (hp : 6 ≤ part) (e : s ≡ 2 ^ (
         wordOf-unique (with part (inWords words)) at (getD words (at + s) 0) hw (λ k h.
         let over : 64 * at + k + 2 ^ part ≡ 64 * (at + s) + k = omega (arith, step) in
         sym (inWords-at words (at + s) k h) ∙ sym (rw (index k h, absent, over)))
+
+-- what one part leads to a set that does not work
+pub lost-part : (works : ℕ → Bool) (at part w : ℕ) → w ≡ wordOf (with part works) at → 2 ^ 64 - 1 - w ≡ wordOf (λ a. not (has a part) && not (works (a + 2 ^ part))) at
+lost-part works at part w e =
+    ap (λ (x : ℕ). 2 ^ 64 - 1 - x) e ∙ wordOf-not (with part works) at
+    ∙ wordOf-same (λ a. not (with part works a)) (λ a. not (has a part) && not (works (a + 2 ^ part))) at (λ a. neither (has a part) (works (a + 2 ^ part)))
+  where
+    neither : (p q : Bool) → not (p || q) ≡ not p && not q
+    neither true q = refl
+    neither false q = refl

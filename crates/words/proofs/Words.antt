@@ -1,26 +1,22 @@
 -- Laws of words: what bit of which word a mask is, and that the machine's operations on words are those on set functions.
 -- Assumes nothing.
-use mathlib.Core.Path.{_≡_, refl, sym, ap, _∙_, subst}
-use mathlib.Core.Bool.{Bool, true, false, not, _&&_, _||_}
+use mathlib.Core.Path.{_≡_, sym, ap, ap₂, _∙_, subst}
+use mathlib.Core.Bool.{Bool, not, _&&_, _||_}
 use mathlib.Core.List.{List}
-use mathlib.Core.Logic.{_⊎_, inl, inr}
-use Prim.Native.Nat.{ℕ, _+_, _-_, _*_, _/_, _%_, _^_, _≤_, _<_}
-use native.Mathlib.Nat.{add-sub-of-le, sub-add-cancel, mod-lt, mul-comm, div-add-mod, zero-lt-suc}
+use Prim.Native.Nat.{ℕ, _+_, _-_, _*_, _/_, _%_, _^_, _<_, zero-le}
+use native.Mathlib.Nat.{mod-lt, div-add-mod, zero-lt-suc}
+use native.Mathlib.Numerals.{add-one}
 use native.Mathlib.Omega.{arith}
 use lib.Bits.{or-lt, and-lt}
-use lib.ListN.{length, getD}
-use lib.Pow.{pow-pos, pow-add}
-use Rattle.numbers.specs.Tables.{tabulate}
+use lib.ListN.{getD}
+use lib.Pow.{pow-pos}
 use Rattle.numbers.proofs.Tables.{tabulate-at}
-use Rattle.sets.specs.Masks.{has, meet, join}
+use Rattle.sets.specs.Masks.{has, meet, join, any}
 use Rattle.sets.specs.Tables.{packed}
-use Rattle.sets.proofs.Bools.{true-or-false, clash}
-use Rattle.sets.proofs.Masks.{has-add, has-le, has-flip, has-above, has-block, has-low, has-meet, has-join, has-shift, add-below}
-use Rattle.sets.proofs.Ranges.{below-or-above}
+use Rattle.sets.proofs.Masks.{has-above, has-meet, has-join}
 use Rattle.sets.proofs.Tables.{has-packed, packed-below, packed-unique}
 use Rattle.words.specs.Words.{inWords, wordOf, wordsOf}
-use Rattle.words.specs.Steps.{with, without}
-use Rattle.words.proofs.Bits.{has-shl, has-shl-below, has-complement}
+use Rattle.words.proofs.Bits.{has-complement}
 
 -- ---- a mask's word and bit
 
@@ -47,8 +43,11 @@ pub wordOf-same : (f g : ℕ → Bool) (at : ℕ) → ((a : ℕ) → f a ≡ g a
 wordOf-same f g at same = wordOf-unique g at (wordOf f at) (wordOf-below f at) (λ k h. has-wordOf f at k h ∙ same (64 * at + k))
 
 -- a word is the word of the set function that the words hold
-pub wordOf-inWords : (words : List ℕ) (at : ℕ) → getD words at 0 < 2 ^ 64 → getD words at 0 ≡ wordOf (inWords words) at
+wordOf-inWords : (words : List ℕ) (at : ℕ) → getD words at 0 < 2 ^ 64 → getD words at 0 ≡ wordOf (inWords words) at
 wordOf-inWords words at h = wordOf-unique (inWords words) at (getD words at 0) h (λ k l. sym (inWords-at words at k l))
+
+pub word-is : (words : List ℕ) (at w : ℕ) → w ≡ getD words at 0 → w < 2 ^ 64 → w ≡ wordOf (inWords words) at
+word-is words at w e h = e ∙ wordOf-inWords words at (subst (λ (x : ℕ). x < 2 ^ 64) e h)
 
 -- the words of a set function hold it
 pub inWords-wordsOf : (works : ℕ → Bool) (a : ℕ) → a < 65536 → inWords (wordsOf works) a ≡ works a
@@ -75,3 +74,17 @@ pub wordOf-not : (f : ℕ → Bool) (at : ℕ) → 2 ^ 64 - 1 - wordOf f at ≡ 
 wordOf-not f at =
     wordOf-unique (λ a. not (f a)) at (2 ^ 64 - 1 - wordOf f at) (omega arith)
     (λ k h. has-complement 64 (wordOf f at) (wordOf-below f at) k h ∙ ap not (has-wordOf f at k h))
+
+-- ---- some of a family of set functions, joined one after the other
+
+module _ (family : ℕ → ℕ → Bool) (at : ℕ) where
+  pub any-word-none : 0 ≡ wordOf (λ a. any (λ i. family i a) 0) at
+  unfolding any
+  any-word-none = wordOf-unique (λ a. any (λ i. family i a) 0) at 0 (pow-pos 64) (λ k h. has-above 0 0 k (zero-lt-suc 0) zero-le)
+
+  pub any-word-more : (n some next : ℕ) → some ≡ wordOf (λ a. any (λ i. family i a) n) at → next ≡ wordOf (family n) at
+      → join some next ≡ wordOf (λ a. any (λ i. family i a) (n + 1)) at
+  unfolding any
+  any-word-more n some next e d =
+      ap₂ (λ (x y : ℕ). join x y) e d ∙ wordOf-or (λ a. any (λ i. family i a) n) (family n) at
+      ∙ ap (λ (m : ℕ). wordOf (λ a. any (λ i. family i a) m) at) (sym (add-one n))

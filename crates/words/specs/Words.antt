@@ -1,11 +1,11 @@
 -- A set function of 16 parts in 1,024 words of 64 bits: mask a stands at word a/64 rounded down, bit a mod 64.
-use mathlib.Core.Bool.{Bool, true, false, _||_}
-use mathlib.Core.List.{List, [], _∷_, _++_}
+use mathlib.Core.Bool.{Bool}
+use mathlib.Core.List.{List}
 use Prim.Native.Nat.{ℕ, _+_, _*_, _/_, _%_}
 use lib.Dec.{eqb}
-use lib.ListN.{length, getD, take, drop}
+use lib.ListN.{length, getD}
 use Rattle.numbers.specs.Tables.{tabulate}
-use Rattle.sets.specs.Masks.{has}
+use Rattle.sets.specs.Masks.{has, any}
 use Rattle.sets.specs.Tables.{packed}
 
 -- a bit outside the words is 0
@@ -20,10 +20,5 @@ abbrev pub wordsOf : (ℕ → Bool) → List ℕ
 wordsOf works = tabulate 1024 (wordOf works)
 
 -- the mask a is one of the list
-unfoldable pub among : List ℕ → ℕ → Bool
-among [] a = false
-among (b ∷ bs) a = eqb a b || among bs a
-
--- as much of xs as fits, in front of what stood there
-abbrev pub overlaid : List ℕ → List ℕ → List ℕ
-overlaid xs buffer = take (length buffer) xs ++ drop (length xs) buffer
+abbrev pub among : List ℕ → ℕ → Bool
+among list a = any (λ i. eqb (getD list i 0) a) (length list)

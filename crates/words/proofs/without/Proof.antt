@@ -1,23 +1,22 @@
 -- `words::without` meets its contract: below 6 the part is a shift inside the word, and from 6 on it leads to a lower word, where the
 -- word's index has it.
 -- Assumes nothing.
-use mathlib.Core.Path.{sym, ap₂, _∙_, subst}
+use mathlib.Core.Path.{sym, ap, ap₂, _∙_, subst}
+use mathlib.Core.Bool.{not}
 use Prim.Native.Nat.{ℕ, _-_, _*_, _%_, _^_, _<_}
 use native.Mathlib.Omega.{arith}
-use borrow.Author.Needs.{needs}
 use denote.Ref.{now}
 use lib.ListN.{getD}
 use lib.Pow.{pow-pos, pow-lt}
-use Rattle.sets.specs.Masks.{meet}
+use Rattle.sets.specs.Masks.{has, meet}
+use Rattle.sets.specs.Tables.{packed}
 use Rattle.words.proofs.Parts.{without-low, without-high, without-none, step-le}
+use borrow.Author.Needs.{needs}
 use Rattle.words.proofs.without.Statement.{statement}
 use Rattle.words.proofs.without.Tie as tie
 
-mul-result : tie.Need-mul-result
-mul-result c = search needs
-
-shared-slice-read-result : tie.Need-shared-slice-read-result
-shared-slice-read-result c = search needs
+word-requires : tie.Need-word-requires
+word-requires c κs = search needs
 
 lacking-requires : tie.Need-lacking-requires
 lacking-requires c κs = search needs
@@ -31,10 +30,12 @@ shl-result c = subst (λ (x : ℕ). x < 64) (sym (c .weight .ensures)) (pow-lt (
 returns : tie.Need-returns
 returns c =
     let a = c .before .before .before .before .before .args in
-    let word : ℕ = getD (now (a .words)) (a .at) 0 in
-    ap₂ (λ (lacks s : ℕ). meet word lacks * 2 ^ s % 2 ^ 64) (c .before .lacking .ensures) (c .weight .ensures)
-    ∙ without-low (now (a .words)) (a .at) (a .part) (c .before .before .before .if1 .taken)
-      (omega (arith, c .before .before .before .before .shared-slice-known .given (a .at)))
+    let words = now (a .words) in
+    let got = c .before .before .word in
+    let fits : getD words (a .at) 0 < 2 ^ 64 = subst (λ (w : ℕ). w < 2 ^ 64) (got .ensures) (omega (arith, got .ok)) in
+    ap₂ (λ (lacks s : ℕ). meet (got .result) lacks * 2 ^ s % 2 ^ 64) (c .before .lacking .ensures) (c .weight .ensures)
+    ∙ ap (λ (w : ℕ). meet w (packed 64 (λ k. not (has k (a .part)))) * 2 ^ (2 ^ (a .part)) % 2 ^ 64) (got .ensures)
+    ∙ without-low words (a .at) (a .part) (c .before .before .before .if1 .taken) fits
 
 weight-requires-2 : tie.Need-weight-requires-2
 weight-requires-2 c κs = search needs
@@ -42,23 +43,22 @@ weight-requires-2 c κs = search needs
 div-if2 : tie.Need-div-if2
 div-if2 c = subst (λ (x : ℕ). 0 < x) (sym (c .weight2 .ensures)) (pow-pos (c .before .before .before .args .part - 6))
 
-sub-result : tie.Need-sub-result
-sub-result c =
+sub-word : tie.Need-sub-word
+sub-word c =
     let a = c .before .before .before .before .args in
     step-le (now (a .words)) (a .at) (a .part) (c .before .weight2 .result) (c .before .before .if1 .left) (c .before .weight2 .ensures) (c .if2 .taken)
 
-mul-result-2 : tie.Need-mul-result-2
-mul-result-2 c = search needs
-
-shared-slice-read-result-2 : tie.Need-shared-slice-read-result-2
-shared-slice-read-result-2 c = search needs
+word-requires-2 : tie.Need-word-requires-2
+word-requires-2 c κs = search needs
 
 returns-2 : tie.Need-returns-2
 returns-2 c =
     let a = c .before .before .before .before .before .args in
     let s = c .before .before .weight2 .result in
-    without-high (now (a .words)) (a .at) (a .part) s (c .before .before .before .if1 .left) (c .before .before .weight2 .ensures) (c .before .if2 .taken)
-    (omega (arith, c .before .before .before .before .shared-slice-known .given (a .at - s)))
+    let words = now (a .words) in
+    c .word2 .ensures
+    ∙ without-high words (a .at) (a .part) s (c .before .before .before .if1 .left) (c .before .before .weight2 .ensures) (c .before .if2 .taken)
+      (subst (λ (w : ℕ). w < 2 ^ 64) (c .word2 .ensures) (omega (arith, c .word2 .ok)))
 
 returns-3 : tie.Need-returns-3
 returns-3 c =
@@ -69,16 +69,14 @@ pub without-spec : {M : Type 1} → statement M
 without-spec =
     tie.close
     (tie.spec
-    mul-result
-    shared-slice-read-result
+    word-requires
     lacking-requires
     weight-requires
     shl-result
     returns
     weight-requires-2
     div-if2
-    sub-result
-    mul-result-2
-    shared-slice-read-result-2
+    sub-word
+    word-requires-2
     returns-2
     returns-3)

@@ -1,0 +1,90 @@
+-- Laws of the byte form of a number: what its groups are, and how many. Each goes by the groups: a number below 128 is its own group,
+-- any other has a lowest group and, after it, the form of the number divided by 128.
+-- Assumes nothing.
+use mathlib.Core.Path.{_≡_, refl, sym, ap, _∙_}
+use mathlib.Core.List.{List, [], _∷_}
+use mathlib.Core.Logic.{_⊎_, inl, inr, ⊎-elim}
+use Prim.Native.Nat.{ℕ, zero, suc, _+_, _/_, _%_, _^_, _≤_, _<_}
+use native.Mathlib.Nat.{le-refl, pow-suc}
+use native.Mathlib.Decide.{decLt}
+use native.Mathlib.Omega.{arith}
+use borrow.Author.Tests.{lt-ltb, le-ltb}
+use native.Mathlib.Numerals.{add-one}
+use lib.ListN.{length, set}
+use lib.Seq.{sets}
+use Rattle.codec.specs.ByteForm.{grouped, bytesOf}
+
+-- every number is below a bound or not
+pub below-or-not : (a b : ℕ) → (a < b) ⊎ (b ≤ a)
+below-or-not a b = elim (decLt a b) [ yes h ↦ inl h | no h ↦ inr (omega arith) ]
+
+-- what holds of every single group, and of a number where it holds of what is left without the lowest group, holds of every number
+pub by-groups : (P : ℕ → Type 0) → ((v : ℕ) → v < 128 → P v) → ((v : ℕ) → 128 ≤ v → P (v / 128) → P v) → (v : ℕ) → P v
+by-groups P one more v = go v v (le-refl v)
+  where
+    go : (steps v : ℕ) → v ≤ steps → P v
+    go zero v h = one v (omega arith)
+    go (suc steps) v h =
+        let rest : 128 ≤ v → P (v / 128) = λ g. go steps (v / 128) (omega arith) in
+        ⊎-elim (λ g. one v g) (λ g. more v g (rest g)) (below-or-not v 128)
+
+grouped-small : (more v : ℕ) → v < 128 → grouped more v ≡ v ∷ []
+unfolding grouped
+grouped-small zero v h = refl
+grouped-small (suc more) v h = rw (lt-ltb v 128 h, grouped)
+
+grouped-large : (more v : ℕ) → 128 ≤ v → grouped (suc more) v ≡ (v % 128 + 128) ∷ grouped more (v / 128)
+unfolding grouped
+grouped-large more v h = rw (le-ltb v 128 h, grouped)
+
+-- as many steps as the number is large are enough, and more change nothing
+grouped-enough : (more less v : ℕ) → v ≤ more → v ≤ less → grouped more v ≡ grouped less v
+grouped-enough zero less v h g = grouped-small zero v (omega arith) ∙ sym (grouped-small less v (omega arith))
+grouped-enough (suc more) zero v h g = grouped-small (suc more) v (omega arith) ∙ sym (grouped-small zero v (omega arith))
+grouped-enough (suc more) (suc less) v h g =
+    let rest : 128 ≤ v → grouped more (v / 128) ≡ grouped less (v / 128) =
+    λ l. grouped-enough more less (v / 128) (omega arith) (omega arith) in
+    ⊎-elim (λ l. grouped-small (suc more) v l ∙ sym (grouped-small (suc less) v l))
+    (λ l. grouped-large more v l ∙ ap (λ (r : List ℕ). (v % 128 + 128) ∷ r) (rest l) ∙ sym (grouped-large less v l))
+    (below-or-not v 128)
+
+-- a number below 128 is its own group
+pub bytes-small : (v : ℕ) → v < 128 → bytesOf v ≡ v ∷ []
+unfolding bytesOf
+bytes-small v h = grouped-small v v h
+
+-- any other is its lowest group with bit 7 set, and then the form of what is left
+pub bytes-large : (v : ℕ) → 128 ≤ v → bytesOf v ≡ (v % 128 + 128) ∷ bytesOf (v / 128)
+unfolding bytesOf
+bytes-large zero h = absurd (omega arith)
+bytes-large (suc v) h =
+    grouped-large v (suc v) h
+    ∙ ap (λ (r : List ℕ). (suc v % 128 + 128) ∷ r)
+    (grouped-enough v (suc v / 128) (suc v / 128) (omega arith) (le-refl (suc v / 128)))
+
+-- a form is never empty
+pub bytes-some : (v : ℕ) → 1 ≤ length (bytesOf v)
+bytes-some = by-groups (λ v. 1 ≤ length (bytesOf v)) (λ v h. rw (bytes-small v h) (omega arith)) (λ v h ih. rw (bytes-large v h) (omega arith))
+
+-- a number below 128 to a power takes at most so many groups
+pub bytes-at-most : (most v : ℕ) → 1 ≤ most → v < 128 ^ most → length (bytesOf v) ≤ most
+bytes-at-most zero v some h = absurd (omega arith)
+bytes-at-most (suc zero) v some h = rw (bytes-small v h) (le-refl 1)
+bytes-at-most (suc (suc k)) v some h =
+    let rest : length (bytesOf (v / 128)) ≤ suc k = bytes-at-most (suc k) (v / 128) (omega arith) (omega (arith, h, pow-suc 128 (suc k))) in
+    ⊎-elim (λ l. rw (bytes-small v l) (omega arith)) (λ l. rw (bytes-large v l) (omega arith)) (below-or-not v 128)
+
+-- how many groups: one, or one more than what is left takes
+pub length-small : (v : ℕ) → v < 128 → length (bytesOf v) ≡ 1
+length-small v h = ap length (bytes-small v h)
+
+pub length-large : (v : ℕ) → 128 ≤ v → length (bytesOf v) ≡ suc (length (bytesOf (v / 128)))
+length-large v h = ap length (bytes-large v h)
+
+-- storing a form from an index on is storing its first byte there, and then the rest from the next index on
+pub stores-small : (l : List ℕ) (i v : ℕ) → v < 128 → sets l i (bytesOf v) ≡ set l i v
+stores-small l i v h = ap (sets l i) (bytes-small v h)
+
+pub stores-large : (l : List ℕ) (i v : ℕ) → 128 ≤ v → sets l i (bytesOf v) ≡ sets (set l i (v % 128 + 128)) (i + 1) (bytesOf (v / 128))
+stores-large l i v h =
+    ap (sets l i) (bytes-large v h) ∙ ap (λ (k : ℕ). sets (set l i (v % 128 + 128)) k (bytesOf (v / 128))) (sym (add-one i))

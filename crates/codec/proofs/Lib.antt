@@ -1,0 +1,10 @@
+pub mod Fields
+pub mod Groups
+pub mod ByteForms
+pub mod Placing
+pub mod Readings
+pub mod Walk
+pub mod ReadAfterWrite
+pub mod WriteAfterRead
+pub mod Window
+pub mod Examples

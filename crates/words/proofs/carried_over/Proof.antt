@@ -1,0 +1,69 @@
+-- `words::carried_over` meets its contract: a word of the sets that work, joined with the word of those that work without the part.
+-- Assumes nothing.
+use mathlib.Core.Path.{_≡_, refl, ap₂, _∙_}
+use mathlib.Core.Bool.{_||_}
+use Prim.Native.Nat.{ℕ, _-_, _≤_}
+use native.Mathlib.Omega.{arith}
+use denote.Ref.{now}
+use Rattle.numbers.proofs.Tables.{filled, filled-none, filled-again, filled-end}
+use Rattle.words.specs.Words.{inWords, wordOf}
+use Rattle.sets.specs.Masks.{join}
+use Rattle.words.specs.Steps.{without}
+use Rattle.words.proofs.Words.{word-is, wordOf-or}
+use borrow.Author.Needs.{needs}
+use Rattle.words.proofs.carried_over.Statement.{statement}
+use Rattle.words.proofs.carried_over.Tie as tie
+
+abbrev Inv-loop : tie.InvT-loop
+Inv-loop words part next₀ at₀ next at = (at ≤ 1024) × (next ≡ filled (wordOf (λ a. inWords words a || without part (inWords words) a)) next₀ at)
+
+abbrev μ-loop : tie.MeasureT-loop
+μ-loop words part next₀ at₀ next at = 1024 - at
+
+loop-holds : tie.Need-loop-holds Inv-loop μ-loop
+loop-holds c = (omega arith, filled-none (wordOf (λ a. inWords (now (c .before .args .words)) a || without (c .before .args .part) (inWords (now (c .before .args .words))) a)) _)
+
+word-requires : tie.Need-word-requires Inv-loop μ-loop
+word-requires c κs = search needs
+
+without-requires : tie.Need-without-requires Inv-loop μ-loop
+without-requires c κs = search needs
+
+mul-next : tie.Need-mul-next Inv-loop μ-loop
+mul-next c = omega arith
+
+array-write-next : tie.Need-array-write-next Inv-loop μ-loop
+array-write-next c = omega arith
+
+add-at : tie.Need-add-at Inv-loop μ-loop
+add-at c = omega arith
+
+loop-less : tie.Need-loop-less Inv-loop μ-loop
+loop-less c = omega arith
+
+loop-again : tie.Need-loop-again Inv-loop μ-loop
+loop-again c =
+    let head = c .before .before .before in
+    let at = head .loop .at in
+    (omega arith, filled-again (wordOf (λ a. inWords (now (head .before .before .args .words)) a || without (head .before .before .args .part) (inWords (now (head .before .before .args .words))) a)) _ at _ (head .loop .next) (head .loop .inv .1) (omega arith) (ap₂ (λ (x y : ℕ). join x y) (word-is (now (head .before .before .args .words)) at (c .before .word .result) (c .before .word .ensures) (omega (arith, c .before .word .ok))) (c .without .ensures) ∙ wordOf-or (inWords (now (head .before .before .args .words))) (without (head .before .before .args .part) (inWords (now (head .before .before .args .words)))) at))
+
+returns : tie.Need-returns Inv-loop μ-loop
+returns c =
+    let head = c .before in
+    filled-end (wordOf (λ a. inWords (now (head .before .before .args .words)) a || without (head .before .before .args .part) (inWords (now (head .before .before .args .words))) a)) _ (head .loop .at) 1024 (head .loop .next) (head .loop .inv .1) (head .loop .inv .0) (c .loop-test .left) refl
+
+pub carried-over-spec : {M : Type 1} → statement M
+carried-over-spec =
+    tie.close
+    (tie.spec
+    Inv-loop
+    μ-loop
+    loop-holds
+    word-requires
+    without-requires
+    mul-next
+    array-write-next
+    add-at
+    loop-less
+    loop-again
+    returns)

@@ -26,6 +26,23 @@ pub or-right : (p : Bool) {q : Bool} → q ≡ true → p || q ≡ true
 or-right true h = refl
 or-right false h = h
 
+pub or-false : (p : Bool) → p || false ≡ p
+or-false true = refl
+or-false false = refl
+
+pub or-true : (p : Bool) → p || true ≡ true
+or-true p = or-right p refl
+
+pub and-swap : (p q : Bool) → p && q ≡ q && p
+and-swap true true = refl
+and-swap true false = refl
+and-swap false true = refl
+and-swap false false = refl
+
+pub not-not : (p : Bool) → not (not p) ≡ p
+not-not true = refl
+not-not false = refl
+
 pub true-or-false : (p : Bool) → (p ≡ true) ⊎ (p ≡ false)
 true-or-false true = inl refl
 true-or-false false = inr refl

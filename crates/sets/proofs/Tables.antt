@@ -62,6 +62,13 @@ packed-same k f g same = packed-unique k g (packed k f) (packed-below k f) (λ i
 
 -- ---- tables
 
+pub inTable-at : (table : List ℕ) (b k : ℕ) → k < 8 → inTable table (8 * b + k) ≡ has (getD table b 0) k
+unfolding inTable
+inTable-at table b k h =
+    let byte : (8 * b + k) / 8 ≡ b = omega arith in
+    let bit : (8 * b + k) % 8 ≡ k = omega arith in
+    rw (byte, bit)
+
 pub inTable-beyond : (table : List ℕ) (a : ℕ) → length table ≤ a / 8 → inTable table a ≡ false
 unfolding inTable
 inTable-beyond table a h =

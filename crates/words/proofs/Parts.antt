@@ -13,7 +13,7 @@ use lib.ListN.{getD}
 use lib.Pow.{pow-pos, pow-add, shr-le}
 use Rattle.sets.specs.Masks.{has, meet, join}
 use Rattle.sets.specs.Tables.{packed}
-use Rattle.sets.proofs.Bools.{true-or-false}
+use Rattle.sets.proofs.Bools.{true-or-false, or-true, or-false, and-swap, not-not}
 use Rattle.sets.proofs.Masks.{has-le, has-flip, has-above, has-full, has-low, has-meet, has-join, has-shift, add-below, bit-of-odd, bit-of-even}
 use Rattle.sets.proofs.Ranges.{below-or-above}
 use Rattle.sets.proofs.Tables.{has-packed, packed-below}
@@ -21,24 +21,6 @@ use Rattle.words.specs.Words.{inWords, wordOf}
 use Rattle.words.specs.Steps.{with, without}
 use Rattle.words.proofs.Bits.{has-shl, has-shl-below, has-complement}
 use Rattle.words.proofs.Words.{inWords-at, wordOf-unique, wordOf-not, wordOf-same}
-
-and-swap : (p q : Bool) → p && q ≡ q && p
-and-swap true true = refl
-and-swap true false = refl
-and-swap false true = refl
-and-swap false false = refl
-
-or-true : (p : Bool) → p || true ≡ true
-or-true true = refl
-or-true false = refl
-
-or-false : (p : Bool) → p || false ≡ p
-or-false true = refl
-or-false false = refl
-
-twice-not : (p : Bool) → not (not p) ≡ p
-twice-not true = refl
-twice-not false = refl
 
 -- the parts of a mask, by its word's index and its bit
 index-low : (at k part : ℕ) → k < 64 → part < 6 → has (64 * at + k) part ≡ has k part
@@ -93,7 +75,7 @@ module _ (words : List ℕ) (at part : ℕ) where
         ∙ ap (λ (p : Bool). p || has others k) (has-shift w (2 ^ part) k)
         ∙ ap (λ (p : Bool). has w (2 ^ part + k) || p)
           (has-complement 64 (lacks part) (packed-below 64 (λ k. not (has k part))) k h
-          ∙ ap not (has-packed 64 (λ k. not (has k part)) k h) ∙ twice-not (has k part))
+          ∙ ap not (has-packed 64 (λ k. not (has k part)) k h) ∙ not-not (has k part))
         ∙ cases k h (true-or-false (has k part)))
       where
         w : ℕ

@@ -1,24 +1,25 @@
 -- Runs of bits: a byte of a word, the lowest bit that is set, and how many sets a word adds to those before it.
 -- Assumes nothing.
 use mathlib.Core.Path.{_≡_, refl, sym, ap, ap₂, _∙_, subst}
-use mathlib.Core.Bool.{Bool, true, false, cond}
+use mathlib.Core.Bool.{Bool, true, false, cond, _&&_, _||_}
 use mathlib.Core.List.{List, [], _∷_, _++_}
 use mathlib.Core.Logic.{_⊎_, inl, inr}
-use Prim.Native.Nat.{ℕ, zero, suc, _+_, _-_, _*_, _/_, _%_, _^_, _≤_, _<_, suc-le-suc}
-use native.Mathlib.Nat.{not-suc-le-zero, le-of-suc-le-suc, le-of-lt, zero-lt-suc, mod-lt, pow-succ', add-zero, add-suc, add-comm, add-assoc, mod-one, zero-add}
-use native.Mathlib.Numerals.{one-add}
+use Prim.Native.Nat.{ℕ, zero, suc, _+_, _-_, _*_, _/_, _%_, _^_, _≤_, _<_, zero-le, suc-le-suc}
+use native.Mathlib.Nat.{not-suc-le-zero, le-of-suc-le-suc, le-of-lt, le-refl, lt-of-lt-of-le, lt-of-le-of-lt, zero-lt-suc, mod-lt, pow-succ', add-zero, add-suc, add-comm, add-assoc, mod-one, zero-add, add-sub-of-le, sub-le}
+use native.Mathlib.Numerals.{one-add, add-one}
 use native.Mathlib.Omega.{arith}
-use lib.Count.{ones, ones-cat, trailingZeros, trailing-le, under}
+use lib.Count.{ones, ones-cat, trailingZeros, under}
 use lib.ListN.{length, getD, length-append}
-use lib.Pow.{pow-pos, mod-pow-add}
-use Rattle.sets.specs.Masks.{has, those}
-use Rattle.sets.specs.Tables.{packed}
+use lib.Pow.{pow-pos, pow-add, mod-pow-add}
+use Rattle.sets.specs.Masks.{has, those, least}
+use Rattle.sets.specs.Tables.{packed, inTable}
 use Rattle.sets.proofs.Bools.{true-or-false}
-use Rattle.sets.proofs.Masks.{odd, even, has-suc, has-low, has-shift, quotient-odd, quotient-even}
-use Rattle.sets.proofs.Tables.{packed-unique}
-use Rattle.words.specs.Words.{inWords}
-use Rattle.words.specs.Steps.{Lowest}
-use Rattle.words.proofs.Words.{inWords-at}
+use Rattle.sets.proofs.Masks.{odd, even, has-suc, has-low, has-above, has-block, has-shift, quotient-odd, quotient-even}
+use Rattle.sets.proofs.Ranges.{below-or-above, least-found}
+use Rattle.sets.proofs.Tables.{packed-unique, packed-same, inTable-at}
+use Rattle.words.specs.Words.{inWords, wordOf, wordsOf}
+use Rattle.words.specs.Steps.{Lowest, without, spread}
+use Rattle.words.proofs.Words.{inWords-at, inWords-wordsOf, has-wordOf, wordOf-unique, wordsOf-same}
 
 pub byte-of : (w i : ℕ) → w / 2 ^ (8 * i) % 256 ≡ packed 8 (λ k. has w (8 * i + k))
 byte-of w i =
@@ -27,38 +28,41 @@ byte-of w i =
 
 -- ---- the lowest bit that is set
 
-pub lowest-bit : (k w : ℕ) → w < 2 ^ k → (w ≡ 0 → ⊥) → Lowest w (trailingZeros k w)
+-- counted in k bits: the zeros below it end at a bit that is set
+ends : (k w : ℕ) → w < 2 ^ k → (w ≡ 0 → ⊥) → (trailingZeros k w < k) × (has w (trailingZeros k w) ≡ true)
 unfolding trailingZeros
-lowest-bit zero w h some = absurd (some (omega arith))
-lowest-bit (suc k) w h some = cases (true-or-false (has w 0)) (lowest-bit k (w / 2) (omega (arith, pow-succ' 2 k)))
+ends zero w h some = absurd (some (omega arith))
+ends (suc k) w h some = cases (true-or-false (has w 0)) (ends k (w / 2) (omega (arith, pow-succ' 2 k)))
   where
-    cases : (has w 0 ≡ true) ⊎ (has w 0 ≡ false) → ((w / 2 ≡ 0 → ⊥) → Lowest (w / 2) (trailingZeros k (w / 2)))
-        → Lowest w (under (w % 2) (trailingZeros k (w / 2)))
-    cases (inl t) rest =
-        subst (λ (d : ℕ). Lowest w (under d (trailingZeros k (w / 2)))) (sym (odd w t)) (record {
-          stands = t;
-          clear = λ i l. absurd (not-suc-le-zero l);
-        })
-    cases (inr f) rest =
-        let low = rest (λ e. some (omega (arith, even w f))) in
-        subst (λ (d : ℕ). Lowest w (under d (trailingZeros k (w / 2)))) (sym (even w f)) (record {
-          stands = has-suc w (trailingZeros k (w / 2)) ∙ low .stands;
-          clear = below low;
-        })
-      where
-        below : Lowest (w / 2) (trailingZeros k (w / 2)) → (i : ℕ) → i < suc (trailingZeros k (w / 2)) → has w i ≡ false
-        below low zero l = f
-        below low (suc i) l = has-suc w i ∙ low .clear i (le-of-suc-le-suc l)
+    Ends : ℕ → Type 0
+    Ends t = (t < suc k) × (has w t ≡ true)
 
-pub lowest-below : (k w : ℕ) → w < 2 ^ k → (w ≡ 0 → ⊥) → trailingZeros k w < k
-unfolding trailingZeros
-lowest-below zero w h some = absurd (some (omega arith))
-lowest-below (suc k) w h some = cases (true-or-false (has w 0)) (lowest-below k (w / 2) (omega (arith, pow-succ' 2 k)))
-  where
-    cases : (has w 0 ≡ true) ⊎ (has w 0 ≡ false) → ((w / 2 ≡ 0 → ⊥) → trailingZeros k (w / 2) < k) → under (w % 2) (trailingZeros k (w / 2)) < suc k
-    cases (inl t) rest = subst (λ (d : ℕ). under d (trailingZeros k (w / 2)) < suc k) (sym (odd w t)) (zero-lt-suc k)
+    cases : (has w 0 ≡ true) ⊎ (has w 0 ≡ false)
+        → ((w / 2 ≡ 0 → ⊥) → (trailingZeros k (w / 2) < k) × (has (w / 2) (trailingZeros k (w / 2)) ≡ true))
+        → Ends (under (w % 2) (trailingZeros k (w / 2)))
+    cases (inl t) rest = subst (λ (d : ℕ). Ends (under d (trailingZeros k (w / 2)))) (sym (odd w t)) (zero-lt-suc k, t)
     cases (inr f) rest =
-        subst (λ (d : ℕ). under d (trailingZeros k (w / 2)) < suc k) (sym (even w f)) (suc-le-suc (rest (λ e. some (omega (arith, even w f)))))
+        let found = rest (λ e. some (omega (arith, even w f))) in
+        subst (λ (d : ℕ). Ends (under d (trailingZeros k (w / 2)))) (sym (even w f))
+        (suc-le-suc (found .0), has-suc w (trailingZeros k (w / 2)) ∙ found .1)
+
+clears : (k w i : ℕ) → i < trailingZeros k w → has w i ≡ false
+unfolding trailingZeros
+clears zero w i l = absurd (not-suc-le-zero l)
+clears (suc k) w i l = cases i l (true-or-false (has w 0)) (clears k (w / 2))
+  where
+    cases : (i : ℕ) → i < under (w % 2) (trailingZeros k (w / 2)) → (has w 0 ≡ true) ⊎ (has w 0 ≡ false)
+        → ((j : ℕ) → j < trailingZeros k (w / 2) → has (w / 2) j ≡ false) → has w i ≡ false
+    cases i l (inl t) rest =
+        absurd (not-suc-le-zero (subst (λ (d : ℕ). i < under d (trailingZeros k (w / 2))) (odd w t) l))
+    cases zero l (inr f) rest = f
+    cases (suc j) l (inr f) rest =
+        has-suc w j ∙ rest j (le-of-suc-le-suc (subst (λ (d : ℕ). suc j < under d (trailingZeros k (w / 2))) (even w f) l))
+
+pub lowest-bit : (w : ℕ) → w < 2 ^ 64 → (w ≡ 0 → ⊥) → Lowest w (trailingZeros 64 w)
+lowest-bit w h some =
+    let found = ends 64 w h some in
+    record { within = found .0; stands = found .1; clear = clears 64 w }
 
 -- ---- counting
 
@@ -98,3 +102,92 @@ module _ (words : List ℕ) (at : ℕ) where
           cases : (has w k ≡ true) ⊎ (has w k ≡ false) → cond (has w k) 1 0 ≡ ones (w / 2 ^ k % 2)
           cases (inl t) = rw (t, quotient-odd w k t)
           cases (inr f) = rw (f, quotient-even w k f)
+
+-- ---- looking for the first set of a kind, word by word
+
+module _ (test : ℕ → Bool) (at w : ℕ) (is : w ≡ wordOf test at) (none : (a : ℕ) → a < 64 * at → test a ≡ false) where
+  bit : (k : ℕ) → k < 64 → has w k ≡ test (64 * at + k)
+  bit k h = ap (λ (x : ℕ). has x k) is ∙ has-wordOf test at k h
+
+  -- what the words before and the first k bits of this one lack
+  so-far : (k : ℕ) → k ≤ 64 → ((i : ℕ) → i < k → has w i ≡ false) → (a : ℕ) → a < 64 * at + k → test a ≡ false
+  so-far k h clear a l = cases (below-or-above a (64 * at))
+    where
+      cases : (a < 64 * at) ⊎ (64 * at ≤ a) → test a ≡ false
+      cases (inl before) = none a before
+      cases (inr inside) =
+          let i : ℕ = a - 64 * at in
+          let whole : 64 * at + i ≡ a = add-sub-of-le inside in
+          let near : i < k = omega (arith, whole) in
+          ap test (sym whole) ∙ sym (bit i (lt-of-lt-of-le near h)) ∙ clear i near
+
+  -- an empty word: the next word is looked at
+  pub none-more : w ≡ 0 → (a : ℕ) → a < 64 * (at + 1) → test a ≡ false
+  none-more e a l =
+      so-far 64 (le-refl 64) (λ i h. ap (λ (x : ℕ). has x i) e ∙ has-above 0 0 i (zero-lt-suc 0) zero-le) a (omega arith)
+
+  -- any other word: its lowest bit is the first set
+  pub found-first : (i : ℕ) → at < 1024 → Lowest w i → 64 * at + i ≡ least test 65536
+  found-first i h low =
+      let near : i < 64 = low .within in
+      sym (least-found test 65536 (64 * at + i) (omega arith) (sym (bit i near) ∙ low .stands) (so-far i (le-of-lt near) (low .clear)))
+
+-- ---- a word of a table, from its highest byte down
+
+module _ (table : List ℕ) (at : ℕ) where
+  -- the word so far is the i highest bytes
+  abbrev pub Loaded : ℕ → ℕ → Type 0
+  Loaded i word = (word < 2 ^ (8 * i)) × ((k : ℕ) → k < 8 * i → has word k ≡ inTable table (8 * (8 * at + (8 - i)) + k))
+
+  pub loaded-none : Loaded 0 0
+  loaded-none = (zero-lt-suc 0, λ k h. absurd (not-suc-le-zero h))
+
+  pub loaded-more : (i word byte : ℕ) → i < 8 → byte < 256 → byte ≡ getD table (8 * at + (7 - i)) 0 → Loaded i word → Loaded (i + 1) (word * 256 + byte)
+  loaded-more i word byte hi hb e so =
+      let grows : 2 ^ (8 * (i + 1)) ≡ 2 ^ 8 * 2 ^ (8 * i) = ap (λ (x : ℕ). 2 ^ x) (omega arith) ∙ pow-add 2 8 (8 * i) in
+      (omega (arith, grows, so .0), λ k h. cases k h (below-or-above k 8))
+    where
+      cases : (k : ℕ) → k < 8 * (i + 1) → (k < 8) ⊎ (8 ≤ k) → has (word * 256 + byte) k ≡ inTable table (8 * (8 * at + (8 - (i + 1))) + k)
+      cases k h (inl low) =
+          sym (has-low (word * 256 + byte) 8 k low)
+          ∙ ap (λ (x : ℕ). has x k) (omega arith ∙ e ∙ ap (λ (x : ℕ). getD table x 0) (omega arith))
+          ∙ sym (inTable-at table (8 * at + (8 - (i + 1))) k low)
+      cases k h (inr high) =
+          let j : ℕ = k - 8 in
+          ap (has (word * 256 + byte)) (sym (add-sub-of-le high)) ∙ has-block word 8 byte j hb
+          ∙ so .1 j (omega arith) ∙ ap (inTable table) (omega arith)
+
+  pub loaded-all : (word : ℕ) → Loaded 8 word → word ≡ wordOf (inTable table) at
+  loaded-all word so =
+      wordOf-unique (inTable table) at word (so .0) (λ k h. so .1 k h ∙ ap (inTable table) (omega arith))
+
+-- a byte of the words is a byte of the table
+pub byte-at : (words : List ℕ) (b : ℕ) → packed 8 (λ k. has (getD words (b / 8) 0) (8 * (b % 8) + k)) ≡ packed 8 (λ k. inWords words (8 * b + k))
+unfolding inWords
+byte-at words b =
+    packed-same 8 (λ k. has (getD words (b / 8) 0) (8 * (b % 8) + k)) (λ k. inWords words (8 * b + k)) (λ k h.
+    let word : (8 * b + k) / 64 ≡ b / 8 = omega arith in
+    let bit : (8 * b + k) % 64 ≡ 8 * (b % 8) + k = omega arith in
+    sym (rw (word, bit)))
+
+-- ---- one part more carried
+
+pub spread-more : (works : ℕ → Bool) (n : ℕ) → wordsOf (λ a. inWords (wordsOf (spread n works)) a || without n (inWords (wordsOf (spread n works))) a) ≡ wordsOf (spread (n + 1) works)
+unfolding spread
+spread-more works n =
+    wordsOf-same (λ a. inWords (wordsOf (spread n works)) a || without n (inWords (wordsOf (spread n works))) a) (spread (suc n) works) (λ a h.
+    ap₂ (λ (p q : Bool). p || (has a n && q)) (inWords-wordsOf (spread n works) a h)
+    (inWords-wordsOf (spread n works) (a - 2 ^ n) (lt-of-le-of-lt (sub-le a (2 ^ n)) h)))
+    ∙ ap (λ (m : ℕ). wordsOf (spread m works)) (sym (add-one n))
+
+-- ---- the sets that a full walk of the words counts
+
+pub those-few : (test : ℕ → Bool) (k : ℕ) → length (those test k) ≤ k
+unfolding those
+those-few test zero = zero-le
+those-few test (suc k) =
+    subst (λ (x : ℕ). x ≤ suc k) (sym (those-length test k)) (cases (test k) (those-few test k))
+  where
+    cases : (p : Bool) → length (those test k) ≤ k → cond p 1 0 + length (those test k) ≤ suc k
+    cases true h = omega arith
+    cases false h = omega arith

@@ -1,19 +1,24 @@
 -- Laws of words: what bit of which word a mask is, and that the machine's operations on words are those on set functions.
 -- Assumes nothing.
-use mathlib.Core.Path.{_≡_, sym, ap, ap₂, _∙_, subst}
-use mathlib.Core.Bool.{Bool, not, _&&_, _||_}
+use mathlib.Core.Path.{_≡_, refl, sym, ap, ap₂, _∙_, subst}
+use mathlib.Core.Bool.{Bool, true, false, not, _&&_, _||_}
 use mathlib.Core.List.{List}
 use Prim.Native.Nat.{ℕ, _+_, _-_, _*_, _/_, _%_, _^_, _<_, zero-le}
-use native.Mathlib.Nat.{mod-lt, div-add-mod, zero-lt-suc}
+use native.Mathlib.Decide.{ℕ-discrete}
+use native.Mathlib.Nat.{mod-lt, div-add-mod, zero-lt-suc, zero-add}
 use native.Mathlib.Numerals.{add-one}
 use native.Mathlib.Omega.{arith}
 use lib.Bits.{or-lt, and-lt}
-use lib.ListN.{getD}
-use lib.Pow.{pow-pos}
-use Rattle.numbers.proofs.Tables.{tabulate-at}
+use lib.Dec.{eqb}
+use lib.ListN.{getD, set, length-set}
+use lib.Pow.{pow-pos, pow-lt}
+use lib.Seq.{getD-set-same, getD-set-other}
+use borrow.Author.Tests.{eqb-true, eq-eqb, ne-eqb}
+use Rattle.numbers.proofs.Tables.{tabulate-at, tabulate-length, tabulate-unique}
 use Rattle.sets.specs.Masks.{has, meet, join, any}
 use Rattle.sets.specs.Tables.{packed}
-use Rattle.sets.proofs.Masks.{has-above, has-meet, has-join}
+use Rattle.sets.proofs.Bools.{same-test, or-false}
+use Rattle.sets.proofs.Masks.{has-above, has-add, has-meet, has-join}
 use Rattle.sets.proofs.Tables.{has-packed, packed-below, packed-unique}
 use Rattle.words.specs.Words.{inWords, wordOf, wordsOf}
 use Rattle.words.proofs.Bits.{has-complement}
@@ -74,6 +79,70 @@ pub wordOf-not : (f : ℕ → Bool) (at : ℕ) → 2 ^ 64 - 1 - wordOf f at ≡ 
 wordOf-not f at =
     wordOf-unique (λ a. not (f a)) at (2 ^ 64 - 1 - wordOf f at) (omega arith)
     (λ k h. has-complement 64 (wordOf f at) (wordOf-below f at) k h ∙ ap not (has-wordOf f at k h))
+
+-- what works and is not of another kind
+pub wordOf-but : (f g : ℕ → Bool) (at w s : ℕ) → w ≡ wordOf f at → s ≡ wordOf g at → meet w (2 ^ 64 - 1 - s) ≡ wordOf (λ a. f a && not (g a)) at
+wordOf-but f g at w s e d =
+    ap₂ (λ (x y : ℕ). meet x (2 ^ 64 - 1 - y)) e d ∙ ap (meet (wordOf f at)) (wordOf-not g at) ∙ wordOf-and f (λ a. not (g a)) at
+
+-- two set functions that agree on the masks of 16 parts have the same words
+pub wordsOf-same : (f g : ℕ → Bool) → ((a : ℕ) → a < 65536 → f a ≡ g a) → wordsOf f ≡ wordsOf g
+wordsOf-same f g same =
+    tabulate-unique 1024 (wordOf g) (wordsOf f) 0 (tabulate-length 1024 (wordOf f)) (λ j h.
+    tabulate-at 1024 (wordOf f) j 0 h
+    ∙ wordOf-unique g j (wordOf f j) (wordOf-below f j) (λ k l. has-wordOf f j k l ∙ same (64 * j + k) (omega arith)))
+
+-- ---- one set more
+
+pow-bits : (r k : ℕ) → has (2 ^ r) k ≡ eqb k r
+pow-bits r k =
+    let none : (i : ℕ) → has 0 i ≡ false = λ i. has-above 0 0 i (zero-lt-suc 0) zero-le in
+    ap (λ (x : ℕ). has x k) (sym (zero-add (2 ^ r))) ∙ has-add 0 r (none r) k ∙ rw (none k) (or-false (eqb k r))
+
+same-eqb : (a b c d : ℕ) → (a ≡ b → c ≡ d) → (c ≡ d → a ≡ b) → eqb a b ≡ eqb c d
+same-eqb a b c d there back = same-test (eqb a b) (eqb c d) (λ h. eq-eqb c d (there (eqb-true a b h))) (λ h. eq-eqb a b (back (eqb-true c d h)))
+
+module _ (f : ℕ → Bool) (m : ℕ) (h : m < 65536) where
+  more : ℕ → Bool
+  more a = f a || eqb m a
+
+  -- the word that has the set gets its bit, and the others have no bit of it
+  hit : join (wordOf f (m / 64)) (2 ^ (m % 64)) ≡ wordOf more (m / 64)
+  unfolding more
+  hit =
+      wordOf-unique more (m / 64) (join (wordOf f (m / 64)) (2 ^ (m % 64)))
+      (or-lt 64 (wordOf f (m / 64)) (2 ^ (m % 64)) (wordOf-below f (m / 64)) (pow-lt (mod-lt m (zero-lt-suc 63)))) (λ k l.
+      has-join (wordOf f (m / 64)) (2 ^ (m % 64)) k
+      ∙ ap₂ (λ (p q : Bool). p || q) (has-wordOf f (m / 64) k l)
+        (pow-bits (m % 64) k ∙ same-eqb k (m % 64) m (64 * (m / 64) + k) (λ e. omega arith) (λ e. omega arith)))
+
+  miss : (j : ℕ) → (j ≡ m / 64 → ⊥) → wordOf f j ≡ wordOf more j
+  unfolding more
+  miss j other =
+      wordOf-unique more j (wordOf f j) (wordOf-below f j) (λ k l.
+      has-wordOf f j k l
+      ∙ sym (ap (λ (p : Bool). f (64 * j + k) || p) (ne-eqb m (64 * j + k) (λ e. other (omega arith))) ∙ or-false (f (64 * j + k))))
+
+  pub marked-more : set (wordsOf f) (m / 64) (join (getD (wordsOf f) (m / 64) 0) (2 ^ (m % 64))) ≡ wordsOf (λ a. f a || eqb m a)
+  unfolding more
+  marked-more =
+      let q : ℕ = m / 64 in
+      let inside : q < 1024 = omega arith in
+      let now : ℕ = join (getD (wordsOf f) q 0) (2 ^ (m % 64)) in
+      tabulate-unique 1024 (wordOf more) (set (wordsOf f) q now) 0 (length-set (wordsOf f) q now ∙ tabulate-length 1024 (wordOf f))
+      (λ j l. cases j l inside (ℕ-discrete j q))
+    where
+      cases : (j : ℕ) → j < 1024 → m / 64 < 1024 → Dec (j ≡ m / 64)
+          → getD (set (wordsOf f) (m / 64) (join (getD (wordsOf f) (m / 64) 0) (2 ^ (m % 64)))) j 0 ≡ wordOf more j
+      cases j l inside (yes e) =
+          let read : getD (wordsOf f) (m / 64) 0 ≡ wordOf f (m / 64) = tabulate-at 1024 (wordOf f) (m / 64) 0 inside in
+          ap (λ (x : ℕ). getD (set (wordsOf f) (m / 64) (join (getD (wordsOf f) (m / 64) 0) (2 ^ (m % 64)))) x 0) e
+          ∙ getD-set-same (wordsOf f) (m / 64) (join (getD (wordsOf f) (m / 64) 0) (2 ^ (m % 64))) 0
+            (subst (λ (x : ℕ). m / 64 < x) (sym (tabulate-length 1024 (wordOf f))) inside)
+          ∙ ap (λ (x : ℕ). join x (2 ^ (m % 64))) read ∙ hit ∙ ap (wordOf more) (sym e)
+      cases j l inside (no other) =
+          getD-set-other (wordsOf f) (m / 64) j (join (getD (wordsOf f) (m / 64) 0) (2 ^ (m % 64))) 0 other
+          ∙ tabulate-at 1024 (wordOf f) j 0 l ∙ miss j other
 
 -- ---- some of a family of set functions, joined one after the other
 

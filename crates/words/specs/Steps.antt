@@ -29,7 +29,8 @@ spread (suc n) works a = spread n works a || without n (spread n works) a
 unfoldable pub trimmed : ℕ → (ℕ → Bool) → ℕ → Bool
 trimmed n works a = works a && not (spare n works a)
 
--- bit i is the lowest that is set
+-- bit i is the lowest that is set, of 64
 pub record Lowest (word i : ℕ) : Type 0 where
+  pub within : i < 64
   pub stands : has word i ≡ true
   pub clear : (k : ℕ) → k < i → has word k ≡ false

@@ -34,7 +34,8 @@ pub fn marked(list: &[u16]) -> [u64; 1024]
     let mut words = [0u64; 1024];
     for i in 0..list.len() {
         let mask = list[i] as usize;
-        words[mask / 64] = words[mask / 64] | (1 << (mask % 64));
+        let at = mask / 64;
+        words[at] = words[at] | (1 << (mask % 64));
     }
     words
 }
@@ -249,19 +250,23 @@ fn byte_of(word: u64, i: usize) -> u8
     ((word >> (8 * i)) % 256) as u8
 }
 
-// Word `at` of a table.
+// Word `at` of a table, from its highest byte down.
 fn load_word(table: &[u8], at: usize) -> u64
     requires { ⌜ at < 1024 ⌝ }
     ensures { λ r. ⌜ r ≡ wordOf (inTable (now (table .entry))) at ⌝ }
 {
     let mut word: u64 = 0;
     for i in 0..8 {
-        let b = 8 * at + i;
-        if b < table.len() {
-            word = word | ((table[b] as u64) << (8 * i));
-        }
+        word = word * 256 + byte(table, 8 * at + (7 - i)) as u64;
     }
     word
+}
+
+// The byte at an index, and 0 beyond the last.
+fn byte(table: &[u8], at: usize) -> u8
+    ensures { λ r. ⌜ r ≡ getD (now (table .entry)) at 0 ⌝ }
+{
+    if at < table.len() { table[at] } else { 0 }
 }
 
 // The index of the lowest bit that is set.

@@ -1,52 +1,72 @@
+-- `words::carried` meets its contract: the sets are carried over one part after the other.
+-- Assumes nothing.
+use mathlib.Core.Path.{_≡_, sym, ap, _∙_}
+use mathlib.Core.Bool.{_||_}
+use mathlib.Core.List.{List}
+use Prim.Native.Nat.{ℕ, _-_, _≤_, min}
+use native.Mathlib.Nat.{le-antisymm}
+use native.Mathlib.Omega.{arith}
+use denote.Ref.{now}
+use lib.ListN.{length}
+use Rattle.numbers.proofs.Tables.{tabulate-length}
+use Rattle.words.specs.Words.{inWords, wordOf, wordsOf}
+use Rattle.words.specs.Steps.{without, spread}
+use Rattle.words.proofs.Runs.{spread-more}
+use borrow.Author.Needs.{needs}
 use Rattle.words.proofs.carried.Statement.{statement}
 use Rattle.words.proofs.carried.Tie as tie
-use Rattle.words.proofs.carried.Reads as reads
-use Rattle.words.proofs.carried.Lts as lts
-use Rattle.words.proofs.at_most_16.Reads as at-most-16-reads
-use Rattle.words.proofs.carried_over.Reads as carried-over-reads
-use Rattle.words.proofs.copied.Reads as copied-reads
 
 abbrev Inv-loop : tie.InvT-loop
-Inv-loop words parts next₀ end part₀ next part = ?
+Inv-loop words parts next₀ end part₀ next part = (part ≤ end) × ((end ≡ min parts 16) × (next ≡ wordsOf (spread part (inWords words))))
 
 abbrev μ-loop : tie.MeasureT-loop
-μ-loop words parts next₀ end part₀ next part = ?
+μ-loop words parts next₀ end part₀ next part = end - part
 
--- src/lib.rt:46:20
 copied-requires : tie.Need-copied-requires Inv-loop μ-loop
-copied-requires c κs = ?
+copied-requires c κs = search needs
 
--- src/lib.rt:47:9
 at-most-16-requires : tie.Need-at-most-16-requires Inv-loop μ-loop
-at-most-16-requires c κs = ?
+at-most-16-requires c κs = search needs
 
--- src/lib.rt:48:5
 loop-holds : tie.Need-loop-holds Inv-loop μ-loop
-loop-holds c = ?
+unfolding spread
+loop-holds c = (omega arith, (c .at-most-16 .ensures, c .before .copied .ensures))
 
--- src/lib.rt:49:29
 slice-aggregate-carried-over : tie.Need-slice-aggregate-carried-over Inv-loop μ-loop
-slice-aggregate-carried-over c = ?
+slice-aggregate-carried-over c =
+    let head = c .before .before in
+    let works = inWords (now (head .before .before .before .before .args .words)) in
+    sym (ap length (head .loop .inv .1 .1) ∙ tabulate-length 1024 (wordOf (spread (head .loop .part) works)))
 
--- src/lib.rt:49:16
 carried-over-requires : tie.Need-carried-over-requires Inv-loop μ-loop
-carried-over-requires c κs = ?
+carried-over-requires c κs = search needs
 
--- src/lib.rt:48:9
 add-part : tie.Need-add-part Inv-loop μ-loop
-add-part c = ?
+add-part c = omega arith
 
--- src/lib.rt:48:5
 loop-less : tie.Need-loop-less Inv-loop μ-loop
-loop-less c = ?
+loop-less c = omega arith
 
--- src/lib.rt:48:5
 loop-again : tie.Need-loop-again Inv-loop μ-loop
-loop-again c = ?
+loop-again c =
+    let head = c .before .before .before in
+    let works = inWords (now (head .before .before .before .before .args .words)) in
+    let part = head .loop .part in
+    (
+      omega arith,
+      (
+        head .loop .inv .1 .0,
+        c .carried-over .ensures
+        ∙ ap (λ (words : List ℕ). wordsOf (λ a. inWords words a || without part (inWords words) a)) (head .loop .inv .1 .1) ∙ spread-more works part,
+      ),
+    )
 
--- src/lib.rt:43:1
 returns : tie.Need-returns Inv-loop μ-loop
-returns c = ?
+returns c =
+    let head = c .before in
+    let a = head .before .before .before .before .args in
+    let same : head .loop .part ≡ min (a .parts) 16 = le-antisymm (head .loop .inv .0) (c .loop-test .left) ∙ head .loop .inv .1 .0 in
+    head .loop .inv .1 .1 ∙ ap (λ (k : ℕ). wordsOf (spread k (inWords (now (a .words))))) same
 
 pub carried-spec : {M : Type 1} → statement M
 carried-spec =

@@ -1,60 +1,84 @@
+-- `words::first_broken` meets its contract: the words are looked at in their order, and the lowest bit of the first that is not empty is
+-- the smallest broken set.
+-- Assumes nothing.
+use mathlib.Core.Path.{_≡_, sym, ap₂, _∙_}
+use mathlib.Core.Bool.{false}
+use Prim.Native.Nat.{ℕ, _-_, _*_, _≤_, _<_, min}
+use native.Mathlib.Nat.{not-suc-le-zero}
+use native.Mathlib.Omega.{arith}
+use denote.Ref.{now}
+use Rattle.sets.specs.Masks.{meet}
+use Rattle.sets.specs.Structures.{broken}
+use Rattle.sets.proofs.Ranges.{least-none}
+use Rattle.words.specs.Words.{inWords, wordOf}
+use Rattle.words.specs.Steps.{lost}
+use Rattle.words.proofs.Words.{word-is, wordOf-and}
+use Rattle.words.proofs.Runs.{none-more, found-first}
+use borrow.Author.Needs.{needs}
 use Rattle.words.proofs.first_broken.Statement.{statement}
 use Rattle.words.proofs.first_broken.Tie as tie
-use Rattle.words.proofs.first_broken.Reads as reads
-use Rattle.words.proofs.first_broken.Lts as lts
-use Rattle.words.proofs.lost.Reads as lost-reads
-use Rattle.words.proofs.lowest.Reads as lowest-reads
-use Rattle.words.proofs.word.Reads as word-reads
 
 abbrev Inv-loop : tie.InvT-loop
-Inv-loop words parts at₀ at = ?
+Inv-loop words parts at₀ at = (at ≤ 1024) × ((a : ℕ) → a < 64 * at → broken (min parts 16) (inWords words) a ≡ false)
 
 abbrev μ-loop : tie.MeasureT-loop
-μ-loop words parts at₀ at = ?
+μ-loop words parts at₀ at = 1024 - at
 
--- src/lib.rt:69:5
+-- the word that is looked at is that of the broken sets
+bad-word : (c : tie.After-lost Inv-loop μ-loop) → meet (c .before .word .result) (c .lost .result)
+    ≡ wordOf (broken (min (c .before .before .before .before .before .args .parts) 16) (inWords (now (c .before .before .before .before .before .args .words)))) (c .before .before .before .loop .at)
+unfolding broken
+bad-word c =
+    let head = c .before .before .before in
+    let a = head .before .before .args in
+    let works = inWords (now (a .words)) in
+    let at = head .loop .at in
+    ap₂ (λ (x y : ℕ). meet x y) (word-is (now (a .words)) at (c .before .word .result) (c .before .word .ensures) (omega (arith, c .before .word .ok)))
+    (c .lost .ensures)
+    ∙ wordOf-and works (lost (min (a .parts) 16) works) at
+
 loop-holds : tie.Need-loop-holds Inv-loop μ-loop
-loop-holds c = ?
+loop-holds c = (omega arith, λ a h. absurd (not-suc-le-zero h))
 
--- src/lib.rt:70:19
 word-requires : tie.Need-word-requires Inv-loop μ-loop
-word-requires c κs = ?
+word-requires c κs = search needs
 
--- src/lib.rt:70:37
 lost-requires : tie.Need-lost-requires Inv-loop μ-loop
-lost-requires c κs = ?
+lost-requires c κs = search needs
 
--- src/lib.rt:72:20
 mul-result : tie.Need-mul-result Inv-loop μ-loop
-mul-result c = ?
+mul-result c = omega arith
 
--- src/lib.rt:72:30
 lowest-requires : tie.Need-lowest-requires Inv-loop μ-loop
-lowest-requires c κs = ?
+lowest-requires c κs = search needs
 
--- src/lib.rt:72:20
 add-result : tie.Need-add-result Inv-loop μ-loop
-add-result c = ?
+add-result c = omega (arith, c .lowest .ensures .within)
 
--- src/lib.rt:72:13
 returns : tie.Need-returns Inv-loop μ-loop
-returns c = ?
+returns c =
+    let head = c .before .before .before .before .before in
+    let a = head .before .before .args in
+    found-first (broken (min (a .parts) 16) (inWords (now (a .words)))) (head .loop .at) _ (bad-word (c .before .before)) (head .loop .inv .1)
+    (c .lowest .result) (c .before .before .before .before .loop-test .taken) (c .lowest .ensures)
 
--- src/lib.rt:69:9
 add-at : tie.Need-add-at Inv-loop μ-loop
-add-at c = ?
+add-at c = omega arith
 
--- src/lib.rt:69:5
 loop-less : tie.Need-loop-less Inv-loop μ-loop
-loop-less c = ?
+loop-less c = omega arith
 
--- src/lib.rt:69:5
 loop-again : tie.Need-loop-again Inv-loop μ-loop
-loop-again c = ?
+loop-again c =
+    let head = c .before .before .before .before in
+    let a = head .before .before .args in
+    (omega arith, none-more (broken (min (a .parts) 16) (inWords (now (a .words)))) (head .loop .at) _ (bad-word (c .before)) (head .loop .inv .1) (c .if1 .left))
 
--- src/lib.rt:66:1
 returns-2 : tie.Need-returns-2 Inv-loop μ-loop
-returns-2 c = ?
+returns-2 c =
+    let head = c .before in
+    let a = head .before .before .args in
+    sym (least-none (broken (min (a .parts) 16) (inWords (now (a .words)))) 65536 (λ m h. head .loop .inv .1 m (omega arith)))
 
 pub first-broken-spec : {M : Type 1} → statement M
 first-broken-spec =

@@ -10,7 +10,7 @@ cast-result : tie.Need-cast-result
 cast-result c = omega (arith, trailing-le 64 (c .args .word))
 
 returns : tie.Need-returns
-returns c = lowest-bit 64 (c .args .word) (omega arith) (c .pre)
+returns c = lowest-bit (c .args .word) (omega arith) (c .pre)
 
 pub lowest-spec : {M : Type 1} → statement M
 lowest-spec = tie.close (tie.spec cast-result returns)

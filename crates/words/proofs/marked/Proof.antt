@@ -25,23 +25,23 @@ shared-slice-read-mask c = ?
 cast-mask : tie.Need-cast-mask Inv-loop μ-loop
 cast-mask c = ?
 
--- src/lib.rt:37:28
+-- src/lib.rt:38:21
 mul-words : tie.Need-mul-words Inv-loop μ-loop
 mul-words c = ?
 
--- src/lib.rt:37:28
+-- src/lib.rt:38:21
 array-read-words : tie.Need-array-read-words Inv-loop μ-loop
 array-read-words c = ?
 
--- src/lib.rt:37:48
+-- src/lib.rt:38:34
 shl-words : tie.Need-shl-words Inv-loop μ-loop
 shl-words c = ?
 
--- src/lib.rt:37:9
+-- src/lib.rt:38:9
 mul-words-2 : tie.Need-mul-words-2 Inv-loop μ-loop
 mul-words-2 c = ?
 
--- src/lib.rt:37:9
+-- src/lib.rt:38:9
 array-write-words : tie.Need-array-write-words Inv-loop μ-loop
 array-write-words c = ?
 

@@ -1,51 +1,55 @@
+-- `words::trimmed` meets its contract: of the sets that work those are left out that work without a single part.
+-- Assumes nothing.
+use mathlib.Core.Path.{_≡_, refl}
+use Prim.Native.Nat.{ℕ, _-_, _≤_, min}
+use native.Mathlib.Omega.{arith}
+use denote.Ref.{now}
+use Rattle.numbers.proofs.Tables.{filled, filled-none, filled-again, filled-end}
+use Rattle.words.specs.Words.{inWords, wordOf}
+use Rattle.words.specs.Steps.{spare, trimmed}
+use Rattle.words.proofs.Words.{word-is, wordOf-but}
+use borrow.Author.Needs.{needs}
 use Rattle.words.proofs.trimmed.Statement.{statement}
 use Rattle.words.proofs.trimmed.Tie as tie
-use Rattle.words.proofs.trimmed.Reads as reads
-use Rattle.words.proofs.trimmed.Lts as lts
-use Rattle.words.proofs.spared.Reads as spared-reads
-use Rattle.words.proofs.word.Reads as word-reads
 
 abbrev Inv-loop : tie.InvT-loop
-Inv-loop words parts next₀ at₀ next at = ?
+Inv-loop words parts next₀ at₀ next at = (at ≤ 1024) × (next ≡ filled (wordOf (trimmed (min parts 16) (inWords words))) next₀ at)
 
 abbrev μ-loop : tie.MeasureT-loop
-μ-loop words parts next₀ at₀ next at = ?
+μ-loop words parts next₀ at₀ next at = 1024 - at
 
--- src/lib.rt:59:5
 loop-holds : tie.Need-loop-holds Inv-loop μ-loop
-loop-holds c = ?
+loop-holds c = (omega arith, filled-none (wordOf (trimmed (min (c .before .args .parts) 16) (inWords (now (c .before .args .words))))) _)
 
--- src/lib.rt:60:20
 word-requires : tie.Need-word-requires Inv-loop μ-loop
-word-requires c κs = ?
+word-requires c κs = search needs
 
--- src/lib.rt:60:39
 spared-requires : tie.Need-spared-requires Inv-loop μ-loop
-spared-requires c κs = ?
+spared-requires c κs = search needs
 
--- src/lib.rt:60:9
 mul-next : tie.Need-mul-next Inv-loop μ-loop
-mul-next c = ?
+mul-next c = omega arith
 
--- src/lib.rt:60:9
 array-write-next : tie.Need-array-write-next Inv-loop μ-loop
-array-write-next c = ?
+array-write-next c = omega arith
 
--- src/lib.rt:59:9
 add-at : tie.Need-add-at Inv-loop μ-loop
-add-at c = ?
+add-at c = omega arith
 
--- src/lib.rt:59:5
 loop-less : tie.Need-loop-less Inv-loop μ-loop
-loop-less c = ?
+loop-less c = omega arith
 
--- src/lib.rt:59:5
 loop-again : tie.Need-loop-again Inv-loop μ-loop
-loop-again c = ?
+unfolding trimmed
+loop-again c =
+    let head = c .before .before .before in
+    let at = head .loop .at in
+    (omega arith, filled-again (wordOf (trimmed (min (head .before .before .args .parts) 16) (inWords (now (head .before .before .args .words))))) _ at _ (head .loop .next) (head .loop .inv .1) (omega arith) (wordOf-but (inWords (now (head .before .before .args .words))) (spare (min (head .before .before .args .parts) 16) (inWords (now (head .before .before .args .words)))) at (c .before .word .result) (c .spared .result) (word-is (now (head .before .before .args .words)) at (c .before .word .result) (c .before .word .ensures) (omega (arith, c .before .word .ok))) (c .spared .ensures)))
 
--- src/lib.rt:55:1
 returns : tie.Need-returns Inv-loop μ-loop
-returns c = ?
+returns c =
+    let head = c .before in
+    filled-end (wordOf (trimmed (min (head .before .before .args .parts) 16) (inWords (now (head .before .before .args .words))))) _ (head .loop .at) 1024 (head .loop .next) (head .loop .inv .1) (head .loop .inv .0) (c .loop-test .left) refl
 
 pub trimmed-spec : {M : Type 1} → statement M
 trimmed-spec =

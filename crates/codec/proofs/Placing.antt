@@ -1,16 +1,14 @@
 -- Laws of bytes put at a position of a lent buffer: the two cases of the definition, and forms placed one after the other, each to where
--- the one before it ends, which make up one result in front of the buffer, as `delivered` has it.
+-- the one before it ends, which make up one result in front of the buffer.
 -- Assumes nothing.
-use mathlib.Core.Path.{_≡_, refl, sym, ap, ap₂, _∙_}
-use mathlib.Core.List.{List, [], _++_}
+use mathlib.Core.Path.{_≡_, sym, ap, ap₂, _∙_}
+use mathlib.Core.List.{List, _++_}
 use Prim.Native.Nat.{ℕ, _+_, _≤_, _<_}
 use native.Mathlib.Omega.{arith}
 use borrow.Author.Tests.{le-leb, lt-leb}
 use lib.ListN.{length, take, drop, length-append, length-drop}
 use lib.Seq.{sets, sets-eq, take-append-seam, drop-append-add, drop-drop}
-use Rattle.answer.specs.Outcome.{outcome, delivered}
-use Rattle.answer.specs.declared.Verdict.the-variants.{Accepted}
-use Rattle.answer.specs.declared.Written.the-variants.{Length}
+use Rattle.answer.proofs.Outcomes.{InFront}
 use Rattle.codec.specs.ByteForm.{Placement, leaves, placed}
 
 -- bytes that fit stand at the position, and all else is as it was
@@ -36,24 +34,9 @@ placed-behind buffer result form h =
     placed-fits (result ++ drop (length result) buffer) (length result) form whole
     ∙ simp (take-append-seam, drop-append-add, drop-drop, n)
 
--- A result stands in front of a lent buffer, all else is as it was, and the next position is behind it: what a writer of many numbers
--- knows after each of them.
-pub record InFront (buffer result now : List ℕ) (next : ℕ) : Type 0 where
-  pub ends : next ≡ length result
-  pub stands : now ≡ result ++ drop (length result) buffer
-
--- nothing is written yet
-pub in-front-none : (buffer : List ℕ) → InFront buffer [] buffer 0
-in-front-none buffer = record { ends = refl; stands = refl }
-
 -- one form more, placed at the next position
 pub in-front-more : {buffer result entry : List ℕ} {start : ℕ} → InFront buffer result entry start → (form exit : List ℕ) (next : ℕ) → length (result ++ form) ≤ length buffer → leaves next exit ≡ placed entry start form → InFront buffer (result ++ form) exit next
 in-front-more {buffer} {result} {entry} {start} before form exit next fits wrote =
     let all : leaves next exit ≡ leaves (length (result ++ form)) (result ++ form ++ drop (length (result ++ form)) buffer) =
     wrote ∙ ap₂ (λ (b : List ℕ) (s : ℕ). placed b s form) (before .stands) (before .ends) ∙ placed-behind buffer result form fits in
     record { ends = ap (λ (l : Placement). l .next) all; stands = ap (λ (l : Placement). l .buffer) all }
-
--- the whole result is delivered
-pub in-front-delivered : {buffer result now : List ℕ} {next : ℕ} → InFront buffer result now next → length result ≤ length buffer → outcome (Length next) now ≡ delivered Accepted result buffer
-in-front-delivered {buffer} {result} {now} {next} whole fits =
-    simp (le-leb (length result) (length buffer) fits) (ap₂ (λ (n : ℕ) (b : List ℕ). outcome (Length n) b) (whole .ends) (whole .stands))

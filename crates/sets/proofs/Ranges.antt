@@ -7,7 +7,7 @@ use mathlib.Core.Logic.{_⊎_, inl, inr, ⊎-elim}
 use Prim.Native.Nat.{ℕ, zero, suc, _+_, _-_, _≤_, _<_, zero-le, suc-le-suc}
 use native.Mathlib.Nat.{not-suc-le-zero, le-refl, le-step, lt-irrefl, eq-or-lt-of-le, le-of-suc-le-suc, le-antisymm, lt-suc-self, zero-lt-suc, le-of-lt, add-zero, add-suc, le-add-right, add-sub-of-le}
 use native.Mathlib.Omega.{arith}
-use lib.ListN.{getD}
+use lib.ListN.{length, getD, length-append}
 use Rattle.sets.specs.Masks.{any, those, least, Rising, RisingFrom}
 use Rattle.sets.proofs.Bools.{or-cases, or-left, or-right, clash, false-of}
 
@@ -115,6 +115,13 @@ those-later test k (suc m) =
       before .0 ++ last,
       ap (those test) (add-suc k m) ∙ ap (λ (xs : List ℕ). xs ++ last) (before .1) ∙ append-assoc (those test k) (before .0) last,
     )
+
+pub those-fewer : (test : ℕ → Bool) (j k : ℕ) → j ≤ k → length (those test j) ≤ length (those test k)
+those-fewer test j k h =
+    let later = those-later test j (k - j) in
+    let longer : length (those test k) ≡ length (those test j) + length (later .0) =
+        ap (λ (m : ℕ). length (those test m)) (sym (add-sub-of-le h)) ∙ ap length (later .1) ∙ length-append (those test j) (later .0) in
+    omega arith
 
 -- ---- `least`
 

@@ -3,19 +3,20 @@
 use mathlib.Core.Path.{_≡_, refl, sym, ap, ap₂, _∙_, subst}
 use mathlib.Core.Bool.{Bool, true, false, cond, _&&_, _||_}
 use mathlib.Core.List.{List, [], _∷_, _++_}
-use mathlib.Core.Logic.{_⊎_, inl, inr}
+use mathlib.Core.Logic.{_⊎_, inl, inr, ⊎-elim}
 use Prim.Native.Nat.{ℕ, zero, suc, _+_, _-_, _*_, _/_, _%_, _^_, _≤_, _<_, zero-le, suc-le-suc}
-use native.Mathlib.Nat.{not-suc-le-zero, le-of-suc-le-suc, le-of-lt, le-refl, lt-of-lt-of-le, lt-of-le-of-lt, zero-lt-suc, mod-lt, pow-succ', add-zero, add-suc, add-comm, add-assoc, mod-one, zero-add, add-sub-of-le, sub-le}
+use native.Mathlib.Nat.{not-suc-le-zero, le-of-suc-le-suc, le-of-lt, le-refl, lt-of-lt-of-le, lt-of-le-of-lt, zero-lt-suc, mod-lt, pow-succ', add-zero, add-suc, add-comm, add-assoc, mod-one, zero-add, add-sub-of-le, sub-le, sub-self, div-one}
 use native.Mathlib.Numerals.{one-add, add-one}
 use native.Mathlib.Omega.{arith}
 use lib.Count.{ones, ones-cat, trailingZeros, under}
-use lib.ListN.{length, getD, length-append}
-use lib.Pow.{pow-pos, pow-add, mod-pow-add}
+use lib.ListN.{length, getD, set, length-append}
+use lib.Pow.{pow-pos, pow-add, mod-pow-add, shr-shr}
+use Rattle.answer.proofs.Outcomes.{InFront, in-front-none, in-front-one}
 use Rattle.sets.specs.Masks.{has, those, least}
 use Rattle.sets.specs.Tables.{packed, inTable}
-use Rattle.sets.proofs.Bools.{true-or-false}
+use Rattle.sets.proofs.Bools.{true-or-false, clash}
 use Rattle.sets.proofs.Masks.{odd, even, has-suc, has-low, has-above, has-block, has-shift, quotient-odd, quotient-even}
-use Rattle.sets.proofs.Ranges.{below-or-above, least-found}
+use Rattle.sets.proofs.Ranges.{below-or-above, least-found, those-skip, those-take, those-fewer}
 use Rattle.sets.proofs.Tables.{packed-unique, packed-same, inTable-at}
 use Rattle.words.specs.Words.{inWords, wordOf, wordsOf}
 use Rattle.words.specs.Steps.{Lowest, without, spread}
@@ -191,3 +192,112 @@ those-few test (suc k) =
     cases : (p : Bool) → length (those test k) ≤ k → cond p 1 0 + length (those test k) ≤ suc k
     cases true h = omega arith
     cases false h = omega arith
+
+-- ---- the list of the sets, written bit by bit
+
+-- The walk stands at word `at`; the sets below `mask` are listed, and `rest` has what is left of the word.
+pub record Walk (words buffer : List ℕ) (at mask rest next : ℕ) (now : List ℕ) : Type 0 where
+  pub inside : at ≤ 1024
+  pub low : 64 * at ≤ mask
+  pub high : mask ≤ 64 * at + 64
+  pub last : mask ≤ 65536
+  pub bits : rest ≡ getD words at 0 / 2 ^ (mask - 64 * at)
+  pub listed : InFront buffer (those (inWords words) mask) now next
+
+module _ (words buffer : List ℕ) where
+  pub walk-start : (rest : ℕ) → rest ≡ getD words 0 0 → Walk words buffer 0 0 rest 0 buffer
+  unfolding those
+  walk-start rest e = record {
+    inside = omega arith;
+    low = omega arith;
+    high = omega arith;
+    last = omega arith;
+    bits = e ∙ sym (div-one (getD words 0 0));
+    listed = in-front-none buffer;
+  }
+
+  -- a bit of what is left of the word is a set from the mask on
+  later : (at mask rest : ℕ) → 64 * at ≤ mask → rest ≡ getD words at 0 / 2 ^ (mask - 64 * at) → (k : ℕ) → mask + k < 64 * at + 64
+      → inWords words (mask + k) ≡ has rest k
+  later at mask rest low e k h =
+      let p : ℕ = mask - 64 * at in
+      let whole : mask + k ≡ 64 * at + (p + k) = omega arith in
+      ap (inWords words) whole ∙ inWords-at words at (p + k) (omega (arith, whole)) ∙ sym (ap (λ (x : ℕ). has x k) e ∙ has-shift (getD words at 0) p k)
+
+  -- nothing is left of the word: the next one is taken up
+  pub walk-turn : (at mask rest next : ℕ) (now : List ℕ) → Walk words buffer at mask rest next now → at < 1024 → rest ≡ 0
+      → (word : ℕ) → word ≡ getD words (at + 1) 0 → Walk words buffer (at + 1) (64 * (at + 1)) word next now
+  walk-turn at mask rest next now w h empty word e =
+      let gap : ℕ = 64 * (at + 1) - mask in
+      let whole : mask + gap ≡ 64 * (at + 1) = add-sub-of-le (let hi : mask ≤ 64 * at + 64 = w .high in omega arith) in
+      let same : those (inWords words) (64 * (at + 1)) ≡ those (inWords words) mask =
+          ap (those (inWords words)) (sym whole) ∙ those-skip (inWords words) mask gap (λ i l u.
+          let k : ℕ = i - mask in
+          let split : mask + k ≡ i = add-sub-of-le l in
+          ap (inWords words) (sym split)
+          ∙ later at mask rest (w .low) (w .bits) k (omega (arith, split, whole))
+          ∙ ap (λ (x : ℕ). has x k) empty ∙ has-above 0 0 k (zero-lt-suc 0) zero-le) in
+      record {
+        inside = omega arith;
+        low = le-refl (64 * (at + 1));
+        high = omega arith;
+        last = omega arith;
+        bits = e ∙ sym (ap (λ (x : ℕ). getD words (at + 1) 0 / 2 ^ x) (sub-self (64 * (at + 1))) ∙ div-one (getD words (at + 1) 0));
+        listed = subst (λ (xs : List ℕ). InFront buffer xs now next) (sym same) (w .listed);
+      }
+
+  module _ (at mask rest next : ℕ) (now : List ℕ) (w : Walk words buffer at mask rest next now) (h : at < 1024)
+      (fits : getD words at 0 < 2 ^ 64) (gap : ℕ) (lowest : Lowest rest gap) where
+    -- the lowest bit that is left is still one of this word
+    pub walk-near : mask + gap < 64 * at + 64
+    walk-near = ⊎-elim (λ l. l) beyond (below-or-above (mask + gap) (64 * at + 64))
+      where
+        beyond : 64 * at + 64 ≤ mask + gap → mask + gap < 64 * at + 64
+        beyond l =
+            let p : ℕ = mask - 64 * at in
+            let lo : 64 * at ≤ mask = w .low in
+            let stands : has (getD words at 0) (p + gap) ≡ true =
+                sym (has-shift (getD words at 0) p gap) ∙ ap (λ (x : ℕ). has x gap) (sym (w .bits)) ∙ lowest .stands in
+            clash stands (has-above (getD words at 0) 64 (p + gap) fits (omega arith))
+
+    found : inWords words (mask + gap) ≡ true
+    found = later at mask rest (w .low) (w .bits) gap walk-near ∙ lowest .stands
+
+    skipped : those (inWords words) (mask + gap) ≡ those (inWords words) mask
+    skipped =
+        those-skip (inWords words) mask gap (λ i l u.
+        let k : ℕ = i - mask in
+        let split : mask + k ≡ i = add-sub-of-le l in
+        ap (inWords words) (sym split)
+        ∙ later at mask rest (w .low) (w .bits) k (omega (arith, split, walk-near)) ∙ lowest .clear k (omega (arith, split)))
+
+    grown : those (inWords words) (mask + gap + 1) ≡ those (inWords words) mask ++ ((mask + gap) ∷ [])
+    grown =
+        ap (those (inWords words)) (add-one (mask + gap)) ∙ those-take (inWords words) (mask + gap) found
+        ∙ ap (λ (xs : List ℕ). xs ++ ((mask + gap) ∷ [])) skipped
+
+    -- there is room for it where there is room for all
+    pub walk-room : length (those (inWords words) 65536) ≤ length buffer → length (those (inWords words) mask) < length buffer
+    walk-room all =
+        let more : length (those (inWords words) (mask + gap + 1)) ≡ length (those (inWords words) mask) + 1 =
+            ap length grown ∙ length-append (those (inWords words) mask) ((mask + gap) ∷ []) in
+        let most : length (those (inWords words) (mask + gap + 1)) ≤ length (those (inWords words) 65536) =
+            those-fewer (inWords words) (mask + gap + 1) 65536 (omega (arith, walk-near)) in
+        omega arith
+
+    pub walk-found : length (those (inWords words) 65536) ≤ length buffer
+        → Walk words buffer at (mask + gap + 1) (rest / 2 ^ gap / 2) (next + 1) (set now next (mask + gap))
+    walk-found all =
+        let p : ℕ = mask - 64 * at in
+        let lo : 64 * at ≤ mask = w .low in
+        record {
+          inside = w .inside;
+          low = omega arith;
+          high = omega (arith, walk-near);
+          last = omega (arith, walk-near);
+          bits = ap (λ (x : ℕ). x / 2 ^ gap / 2) (w .bits) ∙ ap (λ (x : ℕ). x / 2) (shr-shr (getD words at 0) p gap)
+          ∙ shr-shr (getD words at 0) (p + gap) 1
+          ∙ ap (λ (x : ℕ). getD words at 0 / 2 ^ x) (omega arith);
+          listed = subst (λ (xs : List ℕ). InFront buffer xs (set now next (mask + gap)) (next + 1)) (sym grown)
+          (in-front-one buffer (those (inWords words) mask) now next (mask + gap) (w .listed) (walk-room all));
+        }

@@ -10,7 +10,7 @@ use native.Mathlib.Numerals.{add-one}
 use native.Mathlib.Omega.{arith}
 use lib.Bits.{or-lt, and-lt}
 use lib.Dec.{eqb}
-use lib.ListN.{getD, set, length-set}
+use lib.ListN.{getD, set, length-set, replicate, length-replicate, getD-replicate}
 use lib.Pow.{pow-pos, pow-lt}
 use lib.Seq.{getD-set-same, getD-set-other}
 use borrow.Author.Tests.{eqb-true, eq-eqb, ne-eqb}
@@ -91,6 +91,13 @@ wordsOf-same f g same =
     tabulate-unique 1024 (wordOf g) (wordsOf f) 0 (tabulate-length 1024 (wordOf f)) (λ j h.
     tabulate-at 1024 (wordOf f) j 0 h
     ∙ wordOf-unique g j (wordOf f j) (wordOf-below f j) (λ k l. has-wordOf f j k l ∙ same (64 * j + k) (omega arith)))
+
+-- no set: every word is 0
+pub wordsOf-none : (f : ℕ → Bool) → ((a : ℕ) → f a ≡ false) → replicate 1024 0 ≡ wordsOf f
+wordsOf-none f none =
+    tabulate-unique 1024 (wordOf f) (replicate 1024 0) 0 (length-replicate {A = ℕ} 1024 0) (λ j h.
+    getD-replicate 1024 j 0 0 h
+    ∙ wordOf-unique f j 0 (pow-pos 64) (λ k l. has-above 0 0 k (zero-lt-suc 0) zero-le ∙ sym (none (64 * j + k))))
 
 -- ---- one set more
 

@@ -1,46 +1,69 @@
+-- `words::count` meets its contract: each word adds as many sets as it has bits set.
+-- Assumes nothing.
+use mathlib.Core.Path.{_≡_, refl, sym, ap, ap₂, _∙_, subst}
+use Prim.Native.Nat.{ℕ, _+_, _-_, _*_, _%_, _^_, _≤_, _<_}
+use native.Mathlib.Nat.{add-comm, mod-eq-of-lt, le-refl}
+use native.Mathlib.Omega.{arith}
+use denote.Ref.{now}
+use lib.Count.{ones, ones-le}
+use lib.ListN.{length, getD}
+use Rattle.sets.specs.Masks.{those}
+use Rattle.words.specs.Words.{inWords}
+use Rattle.words.proofs.Runs.{those-count, those-few}
+use borrow.Author.Needs.{needs}
 use Rattle.words.proofs.count.Statement.{statement}
 use Rattle.words.proofs.count.Tie as tie
-use Rattle.words.proofs.count.Reads as reads
-use Rattle.words.proofs.count.Lts as lts
-use Rattle.words.proofs.word.Reads as word-reads
 
 abbrev Inv-loop : tie.InvT-loop
-Inv-loop words sum₀ at₀ sum at = ?
+Inv-loop words sum₀ at₀ sum at = (at ≤ 1024) × (sum ≡ length (those (inWords words) (64 * at)))
 
 abbrev μ-loop : tie.MeasureT-loop
-μ-loop words sum₀ at₀ sum at = ?
+μ-loop words sum₀ at₀ sum at = 1024 - at
 
--- src/lib.rt:90:5
+-- a word has at most 64 bits set
+few : (c : tie.After-word Inv-loop μ-loop) → ones (c .word .result) ≤ 64
+few c = ones-le 64 (c .word .result) (omega (arith, c .word .ok))
+
 loop-holds : tie.Need-loop-holds Inv-loop μ-loop
-loop-holds c = ?
+unfolding those
+loop-holds c = (omega arith, refl)
 
--- src/lib.rt:91:32
 word-requires : tie.Need-word-requires Inv-loop μ-loop
-word-requires c κs = ?
+word-requires c κs = search needs
 
--- src/lib.rt:91:16
 cast-sum : tie.Need-cast-sum Inv-loop μ-loop
-cast-sum c = ?
+cast-sum c = omega (arith, few c)
 
--- src/lib.rt:91:9
 add-sum : tie.Need-add-sum Inv-loop μ-loop
-add-sum c = ?
+add-sum c =
+    let head = c .before .before in
+    omega (arith, few c, those-few (inWords (now (head .before .before .args .words))) (64 * head .loop .at), head .loop .inv .1)
 
--- src/lib.rt:90:9
 add-at : tie.Need-add-at Inv-loop μ-loop
-add-at c = ?
+add-at c = omega arith
 
--- src/lib.rt:90:5
 loop-less : tie.Need-loop-less Inv-loop μ-loop
-loop-less c = ?
+loop-less c = omega arith
 
--- src/lib.rt:90:5
 loop-again : tie.Need-loop-again Inv-loop μ-loop
-loop-again c = ?
+loop-again c =
+    let head = c .before .before in
+    let words = now (head .before .before .args .words) in
+    let at = head .loop .at in
+    let whole : getD words at 0 % 2 ^ 64 ≡ c .word .result =
+        ap (λ (w : ℕ). w % 2 ^ 64) (sym (c .word .ensures)) ∙ mod-eq-of-lt (omega (arith, c .word .ok)) in
+    (
+      omega arith,
+      add-comm (head .loop .sum) (ones (c .word .result))
+      ∙ ap₂ (λ (x y : ℕ). ones x + y) (sym whole) (head .loop .inv .1) ∙ sym (those-count words at 64 (le-refl 64))
+      ∙ ap (λ (k : ℕ). length (those (inWords words) k)) (omega arith),
+    )
 
--- src/lib.rt:86:1
 returns : tie.Need-returns Inv-loop μ-loop
-returns c = ?
+returns c =
+    let head = c .before in
+    let words = now (head .before .before .args .words) in
+    head .loop .inv .1 ∙ ap (λ (k : ℕ). length (those (inWords words) k)) (omega arith)
 
 pub count-spec : {M : Type 1} → statement M
 count-spec =

@@ -1,100 +1,152 @@
+-- `words::list` meets its contract: the sets are counted first, so the buffer is left alone where it is short, and then written in their
+-- order, a word after the other.
+-- Assumes nothing.
+use mathlib.Core.Path.{_≡_, sym, ap, _∙_, subst}
+use Prim.Native.Nat.{ℕ, _+_, _-_, _*_, _^_, _≤_, _<_}
+use native.Mathlib.Omega.{arith}
+use denote.Ref.{now}
+use lib.ListN.{length, getD}
+use Rattle.answer.specs.Refusals.{shortBuffer}
+use Rattle.answer.specs.Outcome.{at as refusalAt, outcome}
+use Rattle.answer.specs.declared.Written.the-variants.{Refused}
+use Rattle.answer.proofs.Outcomes.{InFront, in-front-delivered, in-front-length, short-delivered}
+use Rattle.sets.specs.Masks.{those}
+use Rattle.sets.proofs.Ranges.{those-fewer}
+use Rattle.words.specs.Words.{inWords}
+use Rattle.words.proofs.Runs.{Walk, walk-start, walk-turn, walk-near, walk-room, walk-found}
+use borrow.Author.Needs.{needs}
 use Rattle.words.proofs.list.Statement.{statement}
 use Rattle.words.proofs.list.Tie as tie
-use Rattle.words.proofs.list.Reads as reads
-use Rattle.words.proofs.list.Lts as lts
-use Rattle.words.proofs.count.Reads as count-reads
-use Rattle.words.proofs.lowest.Reads as lowest-reads
-use Rattle.words.proofs.word.Reads as word-reads
 
 abbrev Inv-loop : tie.InvT-loop
-Inv-loop words sets₀ needed at₀ mask₀ rest₀ next₀ sets at mask rest next = ?
+Inv-loop words sets₀ needed at₀ mask₀ rest₀ next₀ sets at mask rest next = (needed ≡ length (those (inWords words) 65536)) × ((needed ≤ length sets₀) × Walk words sets₀ at mask rest next sets)
 
 abbrev μ-loop : tie.MeasureT-loop
-μ-loop words sets₀ needed at₀ mask₀ rest₀ next₀ sets at mask rest next = ?
+μ-loop words sets₀ needed at₀ mask₀ rest₀ next₀ sets at mask rest next = (65536 - mask) + (1024 - at)
 
--- src/lib.rt:100:9
 count-requires : tie.Need-count-requires Inv-loop μ-loop
-count-requires c κs = ?
+count-requires c κs = search needs
 
--- src/lib.rt:102:9
 returns : tie.Need-returns Inv-loop μ-loop
-returns c = ?
+returns c =
+    let a = c .before .before .before .before .args in
+    let found = c .before .count in
+    ap (λ (n : ℕ). outcome (Refused (refusalAt shortBuffer n)) (now (a .sets))) (found .ensures)
+    ∙ short-delivered (now (a .sets)) (those (inWords (now (a .words))) 65536)
+      (subst (λ (n : ℕ). length (now (a .sets)) < n) (found .ensures) (c .if1 .taken))
 
--- src/lib.rt:106:9
 word-requires : tie.Need-word-requires Inv-loop μ-loop
-word-requires c κs = ?
+word-requires c κs = search needs
 
--- src/lib.rt:108:5
+-- the buffer has room for all sets
+all : (c : tie.At-loop Inv-loop μ-loop) → length (those (inWords (now (c .before .before .before .before .before .before .args .words))) 65536)
+    ≤ length (now (c .before .before .before .before .before .before .args .sets))
+all c = omega (arith, c .loop .inv .0, c .loop .inv .1 .0)
+
+fits : (c : tie.At-loop Inv-loop μ-loop) → getD (now (c .before .before .before .before .before .before .args .words)) (c .loop .at) 0 < 2 ^ 64
+fits c = omega (arith, c .before .before .before .before .before .shared-slice-known .given (c .loop .at))
+
+-- the stores keep the buffer's length
+kept : (c : tie.At-loop Inv-loop μ-loop) → length (c .loop .sets) ≡ length (now (c .before .before .before .before .before .before .args .sets))
+kept c =
+    let a = c .before .before .before .before .before .before .args in
+    let l = c .loop in
+    let fewer = those-fewer (inWords (now (a .words))) (l .mask) 65536 (l .inv .1 .1 .last) in
+    in-front-length (now (a .sets)) (those (inWords (now (a .words))) (l .mask)) (l .sets) (l .next) (l .inv .1 .1 .listed) (omega (arith, fewer, all c))
+
+near : (c : tie.After-lowest Inv-loop μ-loop) → c .before .before .before .loop .mask + c .lowest .result < 65536
+near c =
+    let head = c .before .before .before in
+    let a = head .before .before .before .before .before .before .args in
+    let l = head .loop in
+    omega (arith, walk-near (now (a .words)) (now (a .sets)) (l .at) (l .mask) (l .rest) (l .next) (l .sets) (l .inv .1 .1) (c .before .before .loop-test .taken)
+    (fits head) (c .lowest .result) (c .lowest .ensures))
+
+room : (c : tie.After-lowest Inv-loop μ-loop) → c .before .before .before .loop .next < length (now (c .before .before .before .before .before .before .before .before .before .args .sets))
+room c =
+    let head = c .before .before .before in
+    let a = head .before .before .before .before .before .before .args in
+    let l = head .loop in
+    omega (arith, l .inv .1 .1 .listed .ends, walk-room (now (a .words)) (now (a .sets)) (l .at) (l .mask) (l .rest) (l .next) (l .sets) (l .inv .1 .1)
+    (c .before .before .loop-test .taken) (fits head) (c .lowest .result) (c .lowest .ensures) (all head))
+
 loop-holds : tie.Need-loop-holds Inv-loop μ-loop
-loop-holds c = ?
+loop-holds c =
+    let a = c .before .before .before .before .before .args in
+    (c .before .before .count .ensures, (c .before .if1 .left, walk-start (now (a .words)) (now (a .sets)) (c .word .result) (c .word .ensures)))
 
--- src/lib.rt:110:13
 add-at : tie.Need-add-at Inv-loop μ-loop
-add-at c = ?
+add-at c = omega arith
 
--- src/lib.rt:111:20
 mul-mask : tie.Need-mul-mask Inv-loop μ-loop
-mul-mask c = ?
+mul-mask c = omega arith
 
--- src/lib.rt:112:13
 word-requires-2 : tie.Need-word-requires-2 Inv-loop μ-loop
-word-requires-2 c κs = ?
+word-requires-2 c κs = search needs
 
--- src/lib.rt:108:5
 loop-less : tie.Need-loop-less Inv-loop μ-loop
-loop-less c = ?
+loop-less c = omega (arith, c .before .before .before .loop .inv .1 .1 .high)
 
--- src/lib.rt:108:5
 loop-again : tie.Need-loop-again Inv-loop μ-loop
-loop-again c = ?
+loop-again c =
+    let head = c .before .before .before in
+    let a = head .before .before .before .before .before .before .args in
+    let l = head .loop in
+    (l .inv .0, (l .inv .1 .0, walk-turn (now (a .words)) (now (a .sets)) (l .at) (l .mask) (l .rest) (l .next) (l .sets) (l .inv .1 .1) (c .before .before .loop-test .taken) (c .before .if2 .taken) (c .word2 .result) (c .word2 .ensures)))
 
--- src/lib.rt:114:17
 lowest-requires : tie.Need-lowest-requires Inv-loop μ-loop
-lowest-requires c κs = ?
+lowest-requires c κs = search needs
 
--- src/lib.rt:115:13
 add-mask : tie.Need-add-mask Inv-loop μ-loop
-add-mask c = ?
+add-mask c = omega (arith, near c)
 
--- src/lib.rt:116:26
 cast-sets : tie.Need-cast-sets Inv-loop μ-loop
-cast-sets c = ?
+cast-sets c = omega (arith, near c)
 
--- src/lib.rt:116:13
 mul-sets : tie.Need-mul-sets Inv-loop μ-loop
-mul-sets c = ?
+mul-sets c = omega (arith, room c)
 
--- src/lib.rt:116:13
 slice-write-sets : tie.Need-slice-write-sets Inv-loop μ-loop
-slice-write-sets c = ?
+slice-write-sets c =
+    subst (λ (n : ℕ). c .before .before .before .loop .next < n) (sym (kept (c .before .before .before))) (room c)
 
--- src/lib.rt:117:13
 add-next : tie.Need-add-next Inv-loop μ-loop
-add-next c = ?
+add-next c = omega (arith, room c)
 
--- src/lib.rt:118:13
 add-mask-2 : tie.Need-add-mask-2 Inv-loop μ-loop
-add-mask-2 c = ?
+add-mask-2 c = omega (arith, near c)
 
--- src/lib.rt:119:20
 shr-rest : tie.Need-shr-rest Inv-loop μ-loop
-shr-rest c = ?
+shr-rest c = c .lowest .ensures .within
 
--- src/lib.rt:108:5
 loop-less-2 : tie.Need-loop-less-2 Inv-loop μ-loop
-loop-less-2 c = ?
+loop-less-2 c = omega (arith, near c)
 
--- src/lib.rt:108:5
 loop-again-2 : tie.Need-loop-again-2 Inv-loop μ-loop
-loop-again-2 c = ?
+loop-again-2 c =
+    let head = c .before .before .before in
+    let a = head .before .before .before .before .before .before .args in
+    let l = head .loop in
+    (
+      l .inv .0,
+      (
+        l .inv .1 .0,
+        walk-found (now (a .words)) (now (a .sets)) (l .at) (l .mask) (l .rest) (l .next) (l .sets) (l .inv .1 .1) (c .before .before .loop-test .taken)
+        (fits head) (c .lowest .result) (c .lowest .ensures) (all head),
+      ),
+    )
 
--- src/lib.rt:97:1
 same-length : tie.Need-same-length Inv-loop μ-loop
-same-length c = ?
+same-length c = kept (c .before)
 
--- src/lib.rt:97:1
 returns-2 : tie.Need-returns-2 Inv-loop μ-loop
-returns-2 c = ?
+returns-2 c =
+    let head = c .before in
+    let a = head .before .before .before .before .before .before .args in
+    let l = head .loop in
+    let done : l .mask ≡ 65536 = omega (arith, l .inv .1 .1 .low, l .inv .1 .1 .last) in
+    in-front-delivered (now (a .sets)) (those (inWords (now (a .words))) 65536) (l .sets) (l .next)
+    (subst (λ (m : ℕ). InFront (now (a .sets)) (those (inWords (now (a .words))) m) (l .sets) (l .next)) done (l .inv .1 .1 .listed)) (all head)
 
 pub list-spec : {M : Type 1} → statement M
 list-spec =

@@ -1,65 +1,93 @@
+-- `words::marked` meets its contract: each listed set turns on its own bit.
+-- Assumes nothing.
+use mathlib.Core.Path.{_≡_, refl, sym, ap, _∙_}
+use mathlib.Core.Bool.{Bool}
+use mathlib.Core.List.{List}
+use Prim.Native.Nat.{ℕ, _-_, _*_, _/_, _%_, _^_, _≤_, _<_}
+use native.Mathlib.Nat.{le-antisymm, one-mul, mod-eq-of-lt, mod-lt, zero-lt-suc}
+use native.Mathlib.Numerals.{add-one}
+use native.Mathlib.Omega.{arith}
+use denote.Ref.{now}
+use lib.Dec.{eqb}
+use lib.ListN.{length, getD, set}
+use lib.Pow.{pow-lt}
+use Rattle.sets.specs.Masks.{any, join}
+use Rattle.words.specs.Words.{wordOf, wordsOf}
+use Rattle.words.proofs.Words.{marked-more, wordsOf-none}
+use borrow.Author.Needs.{needs}
 use Rattle.words.proofs.marked.Statement.{statement}
 use Rattle.words.proofs.marked.Tie as tie
-use Rattle.words.proofs.marked.Reads as reads
-use Rattle.words.proofs.marked.Lts as lts
+
+-- the mask is one of the first i of the list
+abbrev first : List ℕ → ℕ → ℕ → Bool
+first list i a = any (λ k. eqb (getD list k 0) a) i
 
 abbrev Inv-loop : tie.InvT-loop
-Inv-loop list words₀ i₀ i-end words i = ?
+Inv-loop list words₀ i₀ i-end words i = (i ≤ length list) × (words ≡ wordsOf (first list i))
 
 abbrev μ-loop : tie.MeasureT-loop
-μ-loop list words₀ i₀ i-end words i = ?
+μ-loop list words₀ i₀ i-end words i = length list - i
 
--- src/lib.rt:35:5
+-- an element of the list is a mask of 16 bits
+small : (c : tie.After-shared-slice-known Inv-loop μ-loop) → getD (now (c .before .before .before .args .list)) (c .before .before .loop .i) 0 < 65536
+small c = omega (arith, c .shared-slice-known .given (c .before .before .loop .i))
+
 loop-holds : tie.Need-loop-holds Inv-loop μ-loop
-loop-holds c = ?
+unfolding any
+loop-holds c = (omega arith, wordsOf-none (first (now (c .args .list)) 0) (λ a. refl))
 
--- src/lib.rt:36:20
 mul-mask : tie.Need-mul-mask Inv-loop μ-loop
-mul-mask c = ?
+mul-mask c = omega arith
 
--- src/lib.rt:36:20
 shared-slice-read-mask : tie.Need-shared-slice-read-mask Inv-loop μ-loop
-shared-slice-read-mask c = ?
+shared-slice-read-mask c = omega arith
 
--- src/lib.rt:36:20
 cast-mask : tie.Need-cast-mask Inv-loop μ-loop
-cast-mask c = ?
+cast-mask c = omega (arith, small c)
 
--- src/lib.rt:38:21
 mul-words : tie.Need-mul-words Inv-loop μ-loop
-mul-words c = ?
+mul-words c = omega (arith, small c)
 
--- src/lib.rt:38:21
 array-read-words : tie.Need-array-read-words Inv-loop μ-loop
-array-read-words c = ?
+array-read-words c = omega (arith, small c)
 
--- src/lib.rt:38:34
 shl-words : tie.Need-shl-words Inv-loop μ-loop
-shl-words c = ?
+shl-words c = search needs
 
--- src/lib.rt:38:9
 mul-words-2 : tie.Need-mul-words-2 Inv-loop μ-loop
-mul-words-2 c = ?
+mul-words-2 c = omega (arith, small c)
 
--- src/lib.rt:38:9
 array-write-words : tie.Need-array-write-words Inv-loop μ-loop
-array-write-words c = ?
+array-write-words c = omega (arith, small c)
 
--- src/lib.rt:35:9
 add-i : tie.Need-add-i Inv-loop μ-loop
-add-i c = ?
+add-i c = omega arith
 
--- src/lib.rt:35:5
 loop-less : tie.Need-loop-less Inv-loop μ-loop
-loop-less c = ?
+loop-less c = omega arith
 
--- src/lib.rt:35:5
 loop-again : tie.Need-loop-again Inv-loop μ-loop
-loop-again c = ?
+unfolding any
+loop-again c =
+    let head = c .before .before in
+    let list = now (head .before .args .list) in
+    let i = head .loop .i in
+    let m : ℕ = getD list i 0 in
+    let f : ℕ → Bool = first list i in
+    let bit : 1 * 2 ^ (m % 64) % 2 ^ 64 ≡ 2 ^ (m % 64) =
+        ap (λ (x : ℕ). x % 2 ^ 64) (one-mul (2 ^ (m % 64))) ∙ mod-eq-of-lt (pow-lt (mod-lt m (zero-lt-suc 63))) in
+    (
+      omega arith,
+      ap (λ (words : List ℕ). set words (m / 64) (join (getD words (m / 64) 0) (1 * 2 ^ (m % 64) % 2 ^ 64))) (head .loop .inv .1)
+      ∙ ap (λ (b : ℕ). set (wordsOf f) (m / 64) (join (getD (wordsOf f) (m / 64) 0) b)) bit
+      ∙ marked-more f m (small c) ∙ ap (λ (k : ℕ). wordsOf (first list k)) (sym (add-one i)),
+    )
 
--- src/lib.rt:31:1
 returns : tie.Need-returns Inv-loop μ-loop
-returns c = ?
+returns c =
+    let head = c .before in
+    let list = now (head .before .args .list) in
+    head .loop .inv .1 ∙ ap (λ (k : ℕ). wordsOf (first list k)) (le-antisymm (head .loop .inv .0) (c .loop-test .left))
 
 pub marked-spec : {M : Type 1} → statement M
 marked-spec =

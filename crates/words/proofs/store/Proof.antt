@@ -1,51 +1,75 @@
+-- `words::store` meets its contract: each byte is cut out of its word.
+-- Assumes nothing.
+use mathlib.Core.Path.{_≡_, refl, ap, _∙_}
+use mathlib.Core.List.{List}
+use Prim.Native.Nat.{ℕ, _+_, _-_, _*_, _/_, _%_, _≤_}
+use native.Mathlib.Omega.{arith}
+use denote.Ref.{now}
+use lib.ListN.{length}
+use Rattle.numbers.proofs.Tables.{filled, filled-none, filled-again, filled-end, filled-length}
+use Rattle.sets.specs.Masks.{has}
+use Rattle.sets.specs.Tables.{packed}
+use Rattle.words.specs.Words.{inWords}
+use Rattle.words.proofs.Runs.{byte-at}
+use borrow.Author.Needs.{needs}
 use Rattle.words.proofs.store.Statement.{statement}
 use Rattle.words.proofs.store.Tie as tie
-use Rattle.words.proofs.store.Reads as reads
-use Rattle.words.proofs.store.Lts as lts
-use Rattle.words.proofs.byte_of.Reads as byte-of-reads
-use Rattle.words.proofs.word.Reads as word-reads
+
+-- byte b of the table
+abbrev byteFor : List ℕ → ℕ → ℕ
+byteFor words b = packed 8 (λ k. inWords words (8 * b + k))
 
 abbrev Inv-loop : tie.InvT-loop
-Inv-loop words table₀ b₀ b-end table b = ?
+Inv-loop words table₀ b₀ b-end table b = (b ≤ length table₀) × (table ≡ filled (byteFor words) table₀ b)
 
 abbrev μ-loop : tie.MeasureT-loop
-μ-loop words table₀ b₀ b-end table b = ?
+μ-loop words table₀ b₀ b-end table b = length table₀ - b
 
--- src/lib.rt:129:5
+-- the stores keep the table's length
+kept : (c : tie.At-loop Inv-loop μ-loop) → length (c .loop .table) ≡ length (now (c .before .before .before .args .table))
+kept c = ap length (c .loop .inv .1) ∙ filled-length (byteFor (now (c .before .before .before .args .words))) _ (c .loop .b) (c .loop .inv .0)
+
 loop-holds : tie.Need-loop-holds Inv-loop μ-loop
-loop-holds c = ?
+loop-holds c = (omega arith, filled-none (byteFor (now (c .before .before .args .words))) _)
 
--- src/lib.rt:130:28
 word-requires : tie.Need-word-requires Inv-loop μ-loop
-word-requires c κs = ?
+word-requires c κs = search needs
 
--- src/lib.rt:130:20
 byte-of-requires : tie.Need-byte-of-requires Inv-loop μ-loop
-byte-of-requires c κs = ?
+byte-of-requires c κs = search needs
 
--- src/lib.rt:130:9
 slice-write-table : tie.Need-slice-write-table Inv-loop μ-loop
-slice-write-table c = ?
+slice-write-table c =
+    let head = c .before .before .before in
+    omega (arith, kept head)
 
--- src/lib.rt:129:9
 add-b : tie.Need-add-b Inv-loop μ-loop
-add-b c = ?
+add-b c =
+    let head = c .before .before .before in
+    omega (arith, kept head)
 
--- src/lib.rt:129:5
 loop-less : tie.Need-loop-less Inv-loop μ-loop
-loop-less c = ?
+loop-less c = omega arith
 
--- src/lib.rt:129:5
 loop-again : tie.Need-loop-again Inv-loop μ-loop
-loop-again c = ?
+loop-again c =
+    let head = c .before .before .before in
+    let words = now (head .before .before .before .args .words) in
+    let b = head .loop .b in
+    (
+      omega arith,
+      filled-again (byteFor words) _ b (c .byte-of .result) (head .loop .table) (head .loop .inv .1) (omega arith)
+      (c .byte-of .ensures ∙ ap (λ (w : ℕ). packed 8 (λ k. has w (8 * (b % 8) + k))) (c .before .word .ensures) ∙ byte-at words b),
+    )
 
--- src/lib.rt:126:1
 same-length : tie.Need-same-length Inv-loop μ-loop
-same-length c = ?
+same-length c = kept (c .before)
 
--- src/lib.rt:126:1
 returns : tie.Need-returns Inv-loop μ-loop
-returns c = ?
+returns c =
+    let head = c .before in
+    let a = head .before .before .before .args in
+    filled-end (byteFor (now (a .words))) _ (head .loop .b) (length (now (a .table))) (head .loop .table) (head .loop .inv .1) (head .loop .inv .0) (c .loop-test .left) refl
 
 pub store-spec : {M : Type 1} → statement M
 store-spec =

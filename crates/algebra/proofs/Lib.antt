@@ -1,0 +1,5 @@
+pub mod Sums
+pub mod Integers
+pub mod IntegerSums
+pub mod Differences
+pub mod Binomials

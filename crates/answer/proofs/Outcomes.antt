@@ -1,0 +1,53 @@
+-- Laws of outcomes: the three cases of `delivered`, and a result that is written into a lent buffer from its front.
+-- Assumes nothing.
+use mathlib.Core.Path.{_≡_, refl, sym, ap, ap₂, _∙_}
+use mathlib.Core.List.{List, [], _∷_, _++_}
+use Prim.Native.Nat.{ℕ, suc, _+_, _≤_, _<_}
+use native.Mathlib.Nat.{add-sub-of-le}
+use native.Mathlib.Numerals.{add-one}
+use borrow.Author.Tests.{le-leb, lt-leb}
+use lib.ListN.{length, getD, drop, set, length-append, length-drop}
+use lib.Seq.{drop-cons, set-append-seam, append-snoc}
+use Rattle.answer.specs.Refusals.{shortBuffer}
+use Rattle.answer.specs.Outcome.{at, outcome, delivered}
+use Rattle.answer.specs.declared.Verdict.the-variants.{Accepted}
+use Rattle.answer.specs.declared.Written.the-variants.{Length, Refused}
+
+-- A result stands in front of a lent buffer, all else is as it was, and the next cell is behind it.
+pub record InFront {A : Type 0} (buffer result now : List A) (next : ℕ) : Type 0 where
+  pub ends : next ≡ length result
+  pub stands : now ≡ result ++ drop (length result) buffer
+
+module _ {A : Type 0} (buffer : List A) where
+  -- nothing is written yet
+  pub in-front-none : InFront buffer [] buffer 0
+  in-front-none = record { ends = refl; stands = refl }
+
+  -- one cell more, stored at the next place
+  pub in-front-one : (result now : List A) (next : ℕ) (value : A) → InFront buffer result now next → length result < length buffer
+      → InFront buffer (result ++ (value ∷ [])) (set now next value) (next + 1)
+  in-front-one result now next value before room =
+      let longer : length (result ++ (value ∷ [])) ≡ length result + 1 = length-append result (value ∷ []) in
+      record {
+        ends = ap (λ (n : ℕ). n + 1) (before .ends) ∙ sym longer;
+        stands = ap₂ (λ (ys : List A) (n : ℕ). set ys n value) (before .stands) (before .ends)
+        ∙ ap (λ (ys : List A). set (result ++ ys) (length result) value) (drop-cons buffer (length result) value room)
+        ∙ set-append-seam result (getD buffer (length result) value) (drop (suc (length result)) buffer) value
+        ∙ sym (append-snoc result value (drop (suc (length result)) buffer))
+        ∙ ap (λ (n : ℕ). result ++ (value ∷ []) ++ drop n buffer) (sym (longer ∙ add-one (length result)));
+      }
+
+  pub in-front-length : (result now : List A) (next : ℕ) → InFront buffer result now next → length result ≤ length buffer → length now ≡ length buffer
+  in-front-length result now next before fits =
+      ap length (before .stands) ∙ length-append result (drop (length result) buffer)
+      ∙ ap (λ (n : ℕ). length result + n) (length-drop (length result) buffer) ∙ add-sub-of-le fits
+
+  -- the whole result is delivered
+  pub in-front-delivered : (result now : List A) (next : ℕ) → InFront buffer result now next → length result ≤ length buffer
+      → outcome (Length next) now ≡ delivered Accepted result buffer
+  in-front-delivered result now next whole fits =
+      simp (le-leb (length result) (length buffer) fits) (ap₂ (λ (n : ℕ) (b : List A). outcome (Length n) b) (whole .ends) (whole .stands))
+
+  -- a result that does not fit is not delivered
+  pub short-delivered : (result : List A) → length buffer < length result → outcome (Refused (at shortBuffer (length result))) buffer ≡ delivered Accepted result buffer
+  short-delivered result short = simp (lt-leb (length result) (length buffer) short)

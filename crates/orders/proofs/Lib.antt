@@ -1,0 +1,10 @@
+pub mod Orders
+pub mod Positions
+pub mod Stopping
+pub mod Sizes
+pub mod Divisions
+pub mod Counting
+pub mod Sperner
+pub mod Pairs
+pub mod Totals
+pub mod Examples

@@ -1,0 +1,4 @@
+pub mod Orders
+pub mod Counting
+pub mod Formulas
+pub mod Antichains

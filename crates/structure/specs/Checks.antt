@@ -1,0 +1,43 @@
+-- The first refusal of a list and of a table (01, "Where each refusal is found"): each check in its order.
+use mathlib.Core.Bool.{Bool, not, _&&_}
+use mathlib.Core.List.{List, [], _∷_}
+use Prim.Native.Nat.{ℕ, suc, _-_, _^_}
+use lib.Dec.{leb, ltb, eqb}
+use lib.ListN.{length}
+use Rattle.answer.specs.Outcome.{refuse}
+use Rattle.answer.specs.Refusals.{wrongPartCount, emptyList, longList, unknownPart, emptySet, wrongTableLength, unusedBit, emptySetWorks, fullSetFails, brokenSet}
+use Rattle.answer.specs.declared.Verdict.{Verdict}
+use Rattle.answer.specs.declared.Verdict.the-variants.{Accepted}
+use Rattle.orders.specs.Antichains.{mostSets}
+use Rattle.sets.specs.Masks.{any, least}
+use Rattle.sets.specs.Structures.{broken}
+use Rattle.sets.specs.Tables.{inTable, tableLength}
+
+-- n, always first
+abbrev pub partsRefusal : ℕ → Verdict → Verdict
+partsRefusal n later = refuse (not (leb 1 n && leb n 16)) wrongPartCount 0 later
+
+-- list entries, in order, each with its index as place
+unfoldable pub entriesRefusal : ℕ → ℕ → List ℕ → Verdict
+entriesRefusal n index [] = Accepted
+entriesRefusal n index (mask ∷ rest) =
+    refuse (leb (2 ^ n) mask) unknownPart index (refuse (eqb mask 0) emptySet index (entriesRefusal n (suc index) rest))
+
+-- the first refusal of a list of sets
+unfoldable pub listRefusal : ℕ → List ℕ → Verdict
+listRefusal n list =
+    partsRefusal n (refuse (eqb (length list) 0) emptyList 0 (refuse (ltb mostSets (length list)) longList 0 (entriesRefusal n 0 list)))
+
+-- a bit of a table's only byte that stands for no set of n parts
+abbrev pub unused : ℕ → List ℕ → Bool
+unused n table = any (λ a. leb (2 ^ n) a && inTable table a) 8
+
+-- the first refusal of a table
+unfoldable pub tableRefusal : ℕ → List ℕ → Verdict
+tableRefusal n table =
+    partsRefusal n
+    (refuse (not (eqb (length table) (tableLength n))) wrongTableLength 0
+    (refuse (unused n table) unusedBit 0
+    (refuse (inTable table 0) emptySetWorks 0
+    (refuse (not (inTable table (2 ^ n - 1))) fullSetFails 0
+    (refuse (any (broken n (inTable table)) (2 ^ n)) brokenSet (least (broken n (inTable table)) (2 ^ n)) Accepted)))))

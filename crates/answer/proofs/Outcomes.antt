@@ -1,17 +1,32 @@
--- Laws of outcomes: the three cases of `delivered`, and a result that is written into a lent buffer from its front.
+-- Laws of outcomes: one check of a chain, the cases of `delivered`, and a result that is written into a lent buffer from its front.
 -- Assumes nothing.
 use mathlib.Core.Path.{_≡_, refl, sym, ap, ap₂, _∙_}
+use mathlib.Core.Bool.{Bool, true, false}
 use mathlib.Core.List.{List, [], _∷_, _++_}
 use Prim.Native.Nat.{ℕ, suc, _+_, _≤_, _<_}
 use native.Mathlib.Nat.{add-sub-of-le}
 use native.Mathlib.Numerals.{add-one}
+use native.Mathlib.Omega.{arith}
 use borrow.Author.Tests.{le-leb, lt-leb}
 use lib.ListN.{length, getD, drop, set, length-append, length-drop}
 use lib.Seq.{drop-cons, set-append-seam, append-snoc}
 use Rattle.answer.specs.Refusals.{shortBuffer}
-use Rattle.answer.specs.Outcome.{at, outcome, delivered}
+use Rattle.answer.specs.Outcome.{at, refuse, outcome, delivered}
+use Rattle.answer.specs.declared.Verdict.{Verdict}
 use Rattle.answer.specs.declared.Verdict.the-variants.{Accepted}
+use Rattle.answer.specs.declared.Verdict.the-variants as verdict
 use Rattle.answer.specs.declared.Written.the-variants.{Length, Refused}
+
+-- a check that accepts: its condition does not hold, and what comes later accepts
+pub refuse-accepted : (test : Bool) (number place : ℕ) (later : Verdict) → refuse test number place later ≡ Accepted → (test ≡ false) × (later ≡ Accepted)
+refuse-accepted true number place later h = absurd (let wrong : _≡_ {A = ℕ} 0 1 = cc in omega arith)
+refuse-accepted false number place later h = (refl, h)
+
+pub refuse-passed : (test : Bool) (number place : ℕ) (later : Verdict) → test ≡ false → refuse test number place later ≡ later
+refuse-passed test number place later h = ap (λ (t : Bool). refuse t number place later) h
+
+pub refuse-held : (test : Bool) (number place : ℕ) (later : Verdict) → test ≡ true → refuse test number place later ≡ verdict.Refused (at number place)
+refuse-held test number place later h = ap (λ (t : Bool). refuse t number place later) h
 
 -- A result stands in front of a lent buffer, all else is as it was, and the next cell is behind it.
 pub record InFront {A : Type 0} (buffer result now : List A) (next : ℕ) : Type 0 where

@@ -77,3 +77,8 @@ pub tabulate-unique : {A : Type 0} (n : ℕ) (f : ℕ → A) (xs : List A) (d : 
 tabulate-unique n f xs d len same =
     ext-getD d xs (tabulate n f) (len ∙ sym (tabulate-length n f)) (λ j h.
     let below : j < n = rw len at h in same j below ∙ sym (tabulate-at n f j d below))
+
+-- two functions whose tables are the same agree below their length: one computed test for all entries
+pub tabulate-agree : {A : Type 0} (n : ℕ) (f g : ℕ → A) → tabulate n f ≡ tabulate n g → (k : ℕ) → k < n → f k ≡ g k
+tabulate-agree {A} n f g same k h =
+    sym (tabulate-at n f k (f k) h) ∙ ap (λ (xs : List A). getD xs k (f k)) same ∙ tabulate-at n g k (f k) h

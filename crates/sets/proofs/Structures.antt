@@ -1,7 +1,7 @@
 -- Laws of structures: monotony by single parts is monotony; every path set holds a minimal one; a list of sets gives a semicoherent
 -- structure, its minimal sets give back the structure, and a rising list of sets none of which holds another is its own minimal sets.
 -- Assumes nothing.
-use mathlib.Core.Path.{_≡_, refl, sym, ap, _∙_, subst}
+use mathlib.Core.Path.{_≡_, refl, sym, ap, ap₂, _∙_, subst}
 use mathlib.Core.Bool.{Bool, true, false, not, _&&_, _||_}
 use mathlib.Core.List.{List, [], _∷_, List·Memᴰ, List·Memᴰ·head, List·Memᴰ·tail, List·Memᴰ·not-nil, List·Memᴰ·cases-cons}
 use mathlib.Core.Logic.{_⊎_, inl, inr}
@@ -11,13 +11,13 @@ use native.Mathlib.Omega.{arith}
 use lib.Arith.{lt-of-le-ne, le-zero}
 use lib.Dec.{eqb}
 use lib.ListN.{length}
-use lib.Pow.{pow-pos}
+use lib.Pow.{pow-pos, ones-lt}
 use borrow.Author.Tests.{eqb-true, eqb-false, eq-eqb, ne-eqb, not-true, not-false}
 use Rattle.sets.specs.Masks.{has, holds, any, those, Rising}
 use Rattle.sets.specs.Structures.{Semicoherent, listed, broken, minimal, minimalSets}
 use Rattle.sets.proofs.Bools.{and-left, and-right, and-both, or-cases, or-left, or-right, clash, false-of, same-test, true-or-false}
 use Rattle.sets.proofs.Masks.{has-add, holds-part, holds-of-parts, holds-refl, holds-trans, holds-le, holds-antisym, holds-add, holds-with, add-below, full-holds, quotient-half, quotient-odd, quotient-even}
-use Rattle.sets.proofs.Ranges.{any-intro, any-elim, any-none, any-false, those-elim, those-intro, those-rising, rising-unique}
+use Rattle.sets.proofs.Ranges.{any-intro, any-elim, any-none, any-false, any-same, those-same, those-elim, those-intro, those-rising, rising-unique}
 
 -- ---- monotony by single parts
 
@@ -127,3 +127,33 @@ module _ (n : ℕ) (works : ℕ → Bool) where
               let y = found .0 in
               let low = rest y (lt-of-lt-of-le (found .1) (le-of-suc-le-suc h)) (found .2) in
               (low .0, le-trans (low .1) (le-of-lt (found .1)), low .2, holds-trans x y (low .0) (found .3) (low .3))
+
+-- ---- set functions that agree on the sets of n parts
+
+module _ (n : ℕ) (f g : ℕ → Bool) (same : (a : ℕ) → a < 2 ^ n → f a ≡ g a) where
+  pub semicoherent-same : Semicoherent n f → Semicoherent n g
+  semicoherent-same sc = record {
+    upward = λ a b ha hb within w. sym (same b hb) ∙ sc .upward a b ha hb within (same a ha ∙ w);
+    empty = sym (same 0 (pow-pos n)) ∙ sc .empty;
+    full = sym (same (2 ^ n - 1) (ones-lt n)) ∙ sc .full;
+  }
+
+  pub minimal-same : (a : ℕ) → a < 2 ^ n → minimal n f a ≡ minimal n g a
+  unfolding minimal
+  minimal-same a ha =
+      ap₂ (λ (p q : Bool). p && not q) (same a ha)
+      (any-same (λ b. f b && holds a b && not (eqb a b)) (λ b. g b && holds a b && not (eqb a b)) (2 ^ n) (λ b hb.
+      ap (λ (p : Bool). p && holds a b && not (eqb a b)) (same b hb)))
+
+  pub minimalSets-same : minimalSets n f ≡ minimalSets n g
+  minimalSets-same = those-same (minimal n f) (minimal n g) (2 ^ n) minimal-same
+
+  pub broken-same : (a : ℕ) → a < 2 ^ n → broken n f a ≡ broken n g a
+  unfolding broken
+  broken-same a ha =
+      ap₂ (λ (p q : Bool). p && q) (same a ha)
+      (any-same (λ i. not (has a i) && not (f (a + 2 ^ i))) (λ i. not (has a i) && not (g (a + 2 ^ i))) n (λ i hi. step i hi (true-or-false (has a i))))
+    where
+      step : (i : ℕ) → i < n → (has a i ≡ true) ⊎ (has a i ≡ false) → not (has a i) && not (f (a + 2 ^ i)) ≡ not (has a i) && not (g (a + 2 ^ i))
+      step i hi (inl t) = rw t
+      step i hi (inr lacks) = ap (λ (q : Bool). not (has a i) && not q) (same (a + 2 ^ i) (add-below n a i ha hi lacks))

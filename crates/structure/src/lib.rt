@@ -10,7 +10,7 @@ ghost use lib.Dec.{leb};
 ghost use Rattle.sets.specs.Masks.{has, any};
 ghost use Rattle.sets.specs.Structures.{listed, minimalSets};
 ghost use Rattle.sets.specs.Tables.{inTable, tableOf, tableLength};
-ghost use Rattle.structure.specs.Checks.{listRefusal, tableRefusal};
+ghost use Rattle.structure.specs.Checks.{listRefusal, entriesRefusal, tableRefusal};
 
 // The table of a list of sets, into a lent buffer.
 pub fn table_of_list(n: usize, list: &[u16], table: &mut [u8]) -> Written
@@ -51,10 +51,7 @@ pub fn minimal_sets(n: usize, table: &[u8], sets: &mut [u16]) -> Written
 pub fn list_verdict(n: usize, list: &[u16]) -> Verdict
     ensures { λ r. ⌜ r ≡ listRefusal n (now (list .entry)) ⌝ }
 {
-    if n == 0 {
-        return refused(answer::WRONG_PART_COUNT, 0);
-    }
-    if 16 < n {
+    if !in_range(n) {
         return refused(answer::WRONG_PART_COUNT, 0);
     }
     if list.len() == 0 {
@@ -63,26 +60,14 @@ pub fn list_verdict(n: usize, list: &[u16]) -> Verdict
     if 12870 < list.len() {
         return refused(answer::LONG_LIST, 0);
     }
-    for i in 0..list.len() {
-        let mask = list[i] as usize;
-        if power(n) <= mask {
-            return refused(answer::UNKNOWN_PART, i);
-        }
-        if mask == 0 {
-            return refused(answer::EMPTY_SET, i);
-        }
-    }
-    Verdict::Accepted
+    entries_verdict(n, list)
 }
 
 // The verdict on a table.
 pub fn table_verdict(n: usize, table: &[u8]) -> Verdict
     ensures { λ r. ⌜ r ≡ tableRefusal n (now (table .entry)) ⌝ }
 {
-    if n == 0 {
-        return refused(answer::WRONG_PART_COUNT, 0);
-    }
-    if 16 < n {
+    if !in_range(n) {
         return refused(answer::WRONG_PART_COUNT, 0);
     }
     if table.len() != table_length(n) {
@@ -103,6 +88,30 @@ pub fn table_verdict(n: usize, table: &[u8]) -> Verdict
         return refused(answer::BROKEN_SET, place);
     }
     Verdict::Accepted
+}
+
+// The verdict on the entries of a list, one after the other.
+fn entries_verdict(n: usize, list: &[u16]) -> Verdict
+    requires { ⌜ n ≤ 16 ⌝ }
+    ensures { λ r. ⌜ r ≡ entriesRefusal n 0 (now (list .entry)) ⌝ }
+{
+    for i in 0..list.len() {
+        let mask = list[i] as usize;
+        if power(n) <= mask {
+            return refused(answer::UNKNOWN_PART, i);
+        }
+        if mask == 0 {
+            return refused(answer::EMPTY_SET, i);
+        }
+    }
+    Verdict::Accepted
+}
+
+// Whether n is a number of parts that a structure may have.
+fn in_range(n: usize) -> bool
+    ensures { λ r. ⌜ r ≡ leb 1 n && leb n 16 ⌝ }
+{
+    1 <= n && n <= 16
 }
 
 // A refusal as a verdict.
@@ -135,10 +144,16 @@ fn table_length(n: usize) -> usize
     if n < 3 { 1 } else { power(n - 3) }
 }
 
-// Whether a bit stands in a table's first byte that is for no set of n parts.
+// Whether a table's first byte has a bit that is for no set of n parts.
 fn has_unused(n: usize, byte: u8) -> bool
-    requires { ⌜ n ≤ 16 ⌝ }
+    requires { ⌜ 1 ≤ n ⌝ }
     ensures { λ r. ⌜ r ≡ any (λ a. leb (2 ^ n) a && has byte a) 8 ⌝ }
 {
-    if n < 3 { power(power(n)) <= byte as usize } else { false }
+    if n == 1 {
+        return 4 <= byte;
+    }
+    if n == 2 {
+        return 16 <= byte;
+    }
+    false
 }

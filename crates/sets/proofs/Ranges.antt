@@ -188,3 +188,17 @@ rising-unique b (x ∷ xs) (y ∷ ys) r s into back =
     ap₂ (λ (z : ℕ) (zs : List ℕ). z ∷ zs) e
     (rising-unique (suc x) xs ys (r .1) (subst (λ (z : ℕ). RisingFrom (suc z) ys) (sym e) (s .1)) (tail-into x y xs ys e (r .1) into)
     (tail-into y x ys xs (sym e) (s .1) back))
+
+-- some number passes: the first of them is what `least` gives, whatever the default
+pub least-some : (test : ℕ → Bool) (k : ℕ) → any test k ≡ true → (d : ℕ) → (getD (those test k) 0 d ≡ least test k) × (least test k < k)
+least-some test k some d =
+    let found = any-elim test k some in
+    cases (those test k) (those-intro test k (found .0) (found .1) (found .2)) (those-elim test k)
+  where
+    cases : (xs : List ℕ) → {a : ℕ} → List·Memᴰ a xs → ((b : ℕ) → List·Memᴰ b xs → (b < k) × (test b ≡ true)) → (getD xs 0 d ≡ getD xs 0 k) × (getD xs 0 k < k)
+    cases [] m each = absurd (List·Memᴰ·not-nil m)
+    cases (x ∷ xs) m each = (refl, each x (List·Memᴰ·head refl) .0)
+
+-- none passes: there is none to list
+pub those-empty : (test : ℕ → Bool) (k : ℕ) → any test k ≡ false → those test k ≡ []
+those-empty test k none = those-none test k (λ i h. any-none test k i none h)

@@ -6,11 +6,13 @@ use mathlib.Core.Bool.{Bool, true, false, not, _&&_}
 use mathlib.Core.List.{List, [], _∷_, List·Memᴰ, List·Memᴰ·head, List·Memᴰ·tail, List·Memᴰ·not-nil, List·Memᴰ·cases-cons}
 use mathlib.Core.Logic.{_⊎_, inl, inr}
 use Prim.Native.Nat.{ℕ, suc, _+_, _-_, _*_, _^_, _≤_, _<_}
-use native.Mathlib.Nat.{pos-of-ne-zero, lt-irrefl, lt-of-lt-of-le, lt-of-le-of-lt, zero-lt-suc}
+use native.Mathlib.Nat.{pos-of-ne-zero, lt-irrefl, lt-of-lt-of-le, lt-of-le-of-lt, zero-lt-suc, zero-add}
+use native.Mathlib.Numerals.{add-one}
 use native.Mathlib.Omega.{arith}
 use lib.Dec.{leb, ltb, eqb}
-use lib.ListN.{length, getD}
+use lib.ListN.{length, getD, drop}
 use lib.Pow.{ones-lt}
+use lib.Seq.{drop-cons}
 use borrow.Author.Tests.{eqb-true, eqb-false, eq-eqb, ne-eqb, leb-true, leb-false, le-leb, lt-leb, ltb-true, ltb-false, lt-ltb, le-ltb, not-false}
 use Rattle.answer.specs.Outcome.{refuse}
 use Rattle.answer.specs.Refusals.{wrongPartCount, emptyList, longList, unknownPart, emptySet, wrongTableLength, unusedBit, emptySetWorks, fullSetFails, brokenSet}
@@ -18,12 +20,12 @@ use Rattle.answer.specs.declared.Verdict.the-variants.{Accepted}
 use Rattle.answer.proofs.Outcomes.{refuse-accepted, refuse-passed}
 use Rattle.orders.specs.Antichains.{mostSets}
 use Rattle.orders.proofs.Sperner.{minimalSets-most}
-use Rattle.sets.specs.Masks.{holds, least, Rising}
+use Rattle.sets.specs.Masks.{has, holds, any, least, Rising}
 use Rattle.sets.specs.Structures.{Semicoherent, listed, broken, minimal, minimalSets}
 use Rattle.sets.specs.Tables.{packed, inTable, tableOf, tableLength}
 use Rattle.sets.proofs.Bools.{and-left, and-right, and-both, clash}
 use Rattle.sets.proofs.Lists.{Covers, listed-same, listed-semicoherent, minimal-listed, listed-minimal}
-use Rattle.sets.proofs.Ranges.{any-false, any-none, those-elim, those-intro, below-or-above}
+use Rattle.sets.proofs.Ranges.{any-false, any-none, any-same, those-elim, those-intro, below-or-above}
 use Rattle.sets.proofs.Structures.{upward-steps, steps-upward, unbroken-steps, steps-unbroken, minimal-works, minimal-below, semicoherent-same, minimalSets-same}
 use Rattle.sets.proofs.Tables.{packed-unique, inTable-at, inTable-beyond, tableOf-length, tableOf-at, tableOf-works, tableLength-small, tableLength-large}
 use Rattle.numbers.proofs.Tables.{tabulate-unique}
@@ -81,19 +83,25 @@ table-accepted n table t =
     ∙ refuse-passed _ brokenSet (least (broken n (inTable table)) (2 ^ n)) Accepted
       (steps-unbroken n (inTable table) (upward-steps n (inTable table) (sc .upward)))
 
--- an accepted table has no bit for a set beyond those of n parts
-pub table-beyond : (n : ℕ) (table : List ℕ) → AcceptedTable n table → (a : ℕ) → 2 ^ n ≤ a → inTable table a ≡ false
-table-beyond n table t a h = cases (below-or-above n 3)
+-- the unused bits are those of the first byte
+pub unused-first : (n : ℕ) (table : List ℕ) → unused n table ≡ any (λ a. leb (2 ^ n) a && has (getD table 0 0) a) 8
+unused-first n table =
+    any-same (λ a. leb (2 ^ n) a && inTable table a) (λ a. leb (2 ^ n) a && has (getD table 0 0) a) 8 (λ a h.
+    ap (λ (p : Bool). leb (2 ^ n) a && p) (ap (inTable table) (sym (zero-add a)) ∙ inTable-at table 0 a h))
+
+-- a table of the right length with no unused bit has no bit for a set beyond those of n parts
+pub table-beyond : (n : ℕ) (table : List ℕ) → length table ≡ tableLength n → unused n table ≡ false → (a : ℕ) → 2 ^ n ≤ a → inTable table a ≡ false
+table-beyond n table long clear a h = cases (below-or-above n 3)
   where
     cases : (n < 3) ⊎ (3 ≤ n) → inTable table a ≡ false
     cases (inr large) =
         let whole : 8 * tableLength n ≡ 2 ^ n = tableLength-large n large in
-        inTable-beyond table a (omega (arith, t .long))
+        inTable-beyond table a (omega (arith, long))
     cases (inl small) = byte (below-or-above a 8)
       where
         byte : (a < 8) ⊎ (8 ≤ a) → inTable table a ≡ false
-        byte (inl low) = rw (le-leb (2 ^ n) a h) at (any-none (λ a. leb (2 ^ n) a && inTable table a) 8 a (t .clear) low)
-        byte (inr high) = inTable-beyond table a (omega (arith, t .long, tableLength-small n small))
+        byte (inl low) = rw (le-leb (2 ^ n) a h) at (any-none (λ a. leb (2 ^ n) a && inTable table a) 8 a clear low)
+        byte (inr high) = inTable-beyond table a (omega (arith, long, tableLength-small n small))
 
 -- the table of a semicoherent structure is accepted
 pub tableOf-accepted : (n : ℕ) (works : ℕ → Bool) → 1 ≤ n → n ≤ 16 → Semicoherent n works → tableRefusal n (tableOf n works) ≡ Accepted
@@ -143,6 +151,14 @@ accepted-entries n index (x ∷ xs) good =
     refuse-passed _ unknownPart index _ (lt-leb (2 ^ n) x (first .0))
     ∙ refuse-passed _ emptySet index _ (ne-eqb x 0 (λ e. lt-irrefl 0 (subst (λ (y : ℕ). 0 < y) e (first .1))))
     ∙ accepted-entries n (suc index) xs (λ b m. good b (List·Memᴰ·tail m))
+
+-- the entries from an index on: this one's checks, and then the entries after it
+pub entries-from : (n i : ℕ) (list : List ℕ) → i < length list → entriesRefusal n i (drop i list)
+    ≡ refuse (leb (2 ^ n) (getD list i 0)) unknownPart i (refuse (eqb (getD list i 0) 0) emptySet i (entriesRefusal n (i + 1) (drop (i + 1) list)))
+unfolding entriesRefusal
+entries-from n i list h =
+    ap (entriesRefusal n i) (drop-cons list i 0 h)
+    ∙ ap (λ (k : ℕ). refuse (leb (2 ^ n) (getD list i 0)) unknownPart i (refuse (eqb (getD list i 0) 0) emptySet i (entriesRefusal n k (drop k list)))) (sym (add-one i))
 
 pub accepted-list : (n : ℕ) (list : List ℕ) → listRefusal n list ≡ Accepted → AcceptedList n list
 unfolding listRefusal
@@ -228,7 +244,7 @@ minimal-table n table bytes h =
 
     bit : (a : ℕ) → (a < 2 ^ n) ⊎ (2 ^ n ≤ a) → inTable table a ≡ ltb a (2 ^ n) && back a
     bit a (inl below) = sym (rw (lt-ltb a (2 ^ n) below) (minimal-listed n (inTable table) (t .semicoherent) a below))
-    bit a (inr above) = table-beyond n table t a above ∙ sym (rw (le-ltb a (2 ^ n) above))
+    bit a (inr above) = table-beyond n table (t .long) (t .clear) a above ∙ sym (rw (le-ltb a (2 ^ n) above))
 
 -- a rising list of sets none of which holds another is the minimal sets of its table
 pub list-minimal : (n : ℕ) (list : List ℕ) → listRefusal n list ≡ Accepted → Rising list

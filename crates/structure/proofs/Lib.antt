@@ -1,3 +1,4 @@
 pub mod Spread
 pub mod Trimmed
 pub mod Acceptance
+pub mod Walks

@@ -32,12 +32,16 @@ listRefusal n list =
 abbrev pub unused : ℕ → List ℕ → Bool
 unused n table = any (λ a. leb (2 ^ n) a && inTable table a) 8
 
+-- what a table's bits are refused for: the empty set works, the full set does not, or a path set with one part more is none
+abbrev pub structureRefusal : ℕ → (ℕ → Bool) → Verdict
+structureRefusal n works =
+    refuse (works 0) emptySetWorks 0
+    (refuse (not (works (2 ^ n - 1))) fullSetFails 0
+    (refuse (any (broken n works) (2 ^ n)) brokenSet (least (broken n works) (2 ^ n)) Accepted))
+
 -- the first refusal of a table
 unfoldable pub tableRefusal : ℕ → List ℕ → Verdict
 tableRefusal n table =
     partsRefusal n
     (refuse (not (eqb (length table) (tableLength n))) wrongTableLength 0
-    (refuse (unused n table) unusedBit 0
-    (refuse (inTable table 0) emptySetWorks 0
-    (refuse (not (inTable table (2 ^ n - 1))) fullSetFails 0
-    (refuse (any (broken n (inTable table)) (2 ^ n)) brokenSet (least (broken n (inTable table)) (2 ^ n)) Accepted)))))
+    (refuse (unused n table) unusedBit 0 (structureRefusal n (inTable table))))

@@ -3,14 +3,14 @@ use answer::Refusal;
 use answer::Verdict;
 use answer::Written;
 ghost use mathlib.Core.Path.{_≡_};
-ghost use Prim.Native.Nat.{_^_, _≤_, _<_};
+ghost use Prim.Native.Nat.{ℕ, _^_, _≤_};
 ghost use Rattle.answer.specs.Outcome.{outcome, delivered};
-ghost use mathlib.Core.Bool.{_&&_};
+ghost use mathlib.Core.Bool.{false, _&&_};
 ghost use lib.Dec.{leb};
 ghost use Rattle.sets.specs.Masks.{has, any};
 ghost use Rattle.sets.specs.Structures.{listed, minimalSets};
 ghost use Rattle.sets.specs.Tables.{inTable, tableOf, tableLength};
-ghost use Rattle.structure.specs.Checks.{listRefusal, entriesRefusal, tableRefusal};
+ghost use Rattle.structure.specs.Checks.{listRefusal, entriesRefusal, tableRefusal, structureRefusal};
 
 // The table of a list of sets, into a lent buffer.
 pub fn table_of_list(n: usize, list: &[u16], table: &mut [u8]) -> Written
@@ -25,8 +25,8 @@ pub fn table_of_list(n: usize, list: &[u16], table: &mut [u8]) -> Written
                 return short(needed);
             }
             let listed = words::marked(list);
-            let works = words::carried(&listed, n);
-            words::store(&works, &mut table[..needed]);
+            let reached = words::carried(&listed, n);
+            words::store(&reached, &mut table[..needed]);
             Written::Length(needed)
         }
     }
@@ -40,8 +40,8 @@ pub fn minimal_sets(n: usize, table: &[u8], sets: &mut [u16]) -> Written
     match checked {
         Verdict::Refused(refusal) => Written::Refused(refusal),
         Verdict::Accepted => {
-            let works = words::load(table);
-            let minimal = words::trimmed(&works, n);
+            let loaded = words::load(table);
+            let minimal = words::trimmed(&loaded, n);
             words::list(&minimal, sets)
         }
     }
@@ -76,14 +76,23 @@ pub fn table_verdict(n: usize, table: &[u8]) -> Verdict
     if has_unused(n, table[0]) {
         return refused(answer::UNUSED_BIT, 0);
     }
-    let works = words::load(table);
-    if words::works(&works, 0) {
+    structure_verdict(n, table)
+}
+
+// The verdict on a table's bits.
+fn structure_verdict(n: usize, table: &[u8]) -> Verdict
+    requires { ⌜ n ≤ 16 ⌝ }
+    requires { ⌜ ((a : ℕ) → 2 ^ n ≤ a → inTable (now table) a ≡ false) ⌝ }
+    ensures { λ r. ⌜ r ≡ structureRefusal n (inTable (now (table .entry))) ⌝ }
+{
+    let loaded = words::load(table);
+    if words::works(&loaded, 0) {
         return refused(answer::EMPTY_SET_WORKS, 0);
     }
-    if !words::works(&works, power(n) - 1) {
+    if !words::works(&loaded, power(n) - 1) {
         return refused(answer::FULL_SET_FAILS, 0);
     }
-    let place = words::first_broken(&works, n);
+    let place = words::first_broken(&loaded, n);
     if place < 65536 {
         return refused(answer::BROKEN_SET, place);
     }

@@ -46,10 +46,10 @@ module _ {A : Type 0} (buffer : List A) where
       record {
         ends = ap (λ (n : ℕ). n + 1) (before .ends) ∙ sym longer;
         stands = ap₂ (λ (ys : List A) (n : ℕ). set ys n value) (before .stands) (before .ends)
-        ∙ ap (λ (ys : List A). set (result ++ ys) (length result) value) (drop-cons buffer (length result) value room)
-        ∙ set-append-seam result (getD buffer (length result) value) (drop (suc (length result)) buffer) value
-        ∙ sym (append-snoc result value (drop (suc (length result)) buffer))
-        ∙ ap (λ (n : ℕ). result ++ (value ∷ []) ++ drop n buffer) (sym (longer ∙ add-one (length result)));
+            ∙ ap (λ (ys : List A). set (result ++ ys) (length result) value) (drop-cons buffer (length result) value room)
+            ∙ set-append-seam result (getD buffer (length result) value) (drop (suc (length result)) buffer) value
+            ∙ sym (append-snoc result value (drop (suc (length result)) buffer))
+            ∙ ap (λ (n : ℕ). result ++ (value ∷ []) ++ drop n buffer) (sym (longer ∙ add-one (length result)));
       }
 
   pub in-front-length : (result now : List A) (next : ℕ) → InFront buffer result now next → length result ≤ length buffer → length now ≡ length buffer

@@ -20,28 +20,53 @@ pub enum Written {
 
 // 01's refusal numbers by name; specs/Refusals.antt has the same names with their conditions.
 pub const WRONG_PART_COUNT: u8 = 1;
+
 pub const EMPTY_LIST: u8 = 2;
+
 pub const LONG_LIST: u8 = 3;
+
 pub const UNKNOWN_PART: u8 = 4;
+
 pub const EMPTY_SET: u8 = 5;
+
 pub const WRONG_TABLE_LENGTH: u8 = 6;
+
 pub const UNUSED_BIT: u8 = 7;
+
 pub const EMPTY_SET_WORKS: u8 = 8;
+
 pub const FULL_SET_FAILS: u8 = 9;
+
 pub const BROKEN_SET: u8 = 10;
+
 pub const SHORT_BUFFER: u8 = 11;
+
 pub const WRONG_VECTOR_LENGTH: u8 = 12;
+
 pub const WRONG_PATH_COUNT: u8 = 13;
+
 pub const FALLING_PROPORTION: u8 = 14;
+
 pub const EMPTY_GROUP: u8 = 15;
+
 pub const UNKNOWN_GROUP_PART: u8 = 16;
+
 pub const UNKNOWN_POSITION: u8 = 17;
+
 pub const IN_EVERY_SET: u8 = 18;
+
 pub const FULL_MACHINE: u8 = 19;
+
 pub const NUMBERS_SPENT: u8 = 20;
+
 pub const END_OF_BYTES: u8 = 21;
+
 pub const WRONG_NUMBER: u8 = 22;
+
 pub const WRONG_PART_NUMBER: u8 = 23;
+
 pub const WRONG_SET: u8 = 24;
+
 pub const BYTES_LEFT: u8 = 25;
+
 pub const WRONG_KIND: u8 = 26;

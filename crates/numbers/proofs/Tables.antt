@@ -40,7 +40,7 @@ module _ {A : Type 0} (f : ℕ → A) (xs : List A) where
   filled-more n v h e =
       ap (λ (ys : List A). set (tabulate n f ++ ys) n v) (drop-cons xs n v h)
       ∙ subst (λ (k : ℕ). set (tabulate n f ++ (getD xs n v ∷ drop (suc n) xs)) k v ≡ tabulate n f ++ (v ∷ drop (suc n) xs)) (tabulate-length n f)
-        (set-append-seam (tabulate n f) (getD xs n v) (drop (suc n) xs) v)
+      (set-append-seam (tabulate n f) (getD xs n v) (drop (suc n) xs) v)
       ∙ sym (append-snoc (tabulate n f) v (drop (suc n) xs))
       ∙ ap (λ (w : A). tabulate n f ++ (w ∷ []) ++ drop (suc n) xs) e
       ∙ ap (λ (ys : List A). ys ++ drop (suc n) xs) (sym (tabulate-suc n f))

@@ -51,11 +51,11 @@ listed-same xs ys there back a = same-test (listed xs a) (listed ys a) (covered 
 pub listed-semicoherent : (n : ℕ) (x : ℕ) (xs : List ℕ) → ((b : ℕ) → List·Memᴰ b (x ∷ xs) → (b < 2 ^ n) × (0 < b)) → Semicoherent n (listed (x ∷ xs))
 listed-semicoherent n x xs good = record {
   upward = λ a b ha hb within h.
-    let found = listed-elim (x ∷ xs) a h in
-    listed-intro (x ∷ xs) b (found .0) (found .1) (holds-trans b a (found .0) within (found .2));
+      let found = listed-elim (x ∷ xs) a h in
+      listed-intro (x ∷ xs) b (found .0) (found .1) (holds-trans b a (found .0) within (found .2));
   empty = false-of (listed (x ∷ xs) 0) (λ h.
-    let found = listed-elim (x ∷ xs) 0 h in
-    lt-irrefl 0 (lt-of-lt-of-le (good (found .0) (found .1) .1) (holds-le 0 (found .0) (found .2))));
+      let found = listed-elim (x ∷ xs) 0 h in
+      lt-irrefl 0 (lt-of-lt-of-le (good (found .0) (found .1) .1) (holds-le 0 (found .0) (found .2))));
   full = listed-intro (x ∷ xs) (2 ^ n - 1) x (List·Memᴰ·head refl) (full-holds n x (good x (List·Memᴰ·head refl) .0));
 }
 

@@ -110,8 +110,7 @@ unfolding those
 those-later test k zero = ([], ap (those test) (add-zero k) ∙ sym (append-nil (those test k)))
 those-later test k (suc m) =
     let before = those-later test k m in
-    let last : List ℕ = cond (test (k + m)) ((k + m) ∷ []) [] in
-    (
+    let last : List ℕ = cond (test (k + m)) ((k + m) ∷ []) [] in (
       before .0 ++ last,
       ap (those test) (add-suc k m) ∙ ap (λ (xs : List ℕ). xs ++ last) (before .1) ∙ append-assoc (those test k) (before .0) last,
     )
@@ -120,7 +119,7 @@ pub those-fewer : (test : ℕ → Bool) (j k : ℕ) → j ≤ k → length (thos
 those-fewer test j k h =
     let later = those-later test j (k - j) in
     let longer : length (those test k) ≡ length (those test j) + length (later .0) =
-        ap (λ (m : ℕ). length (those test m)) (sym (add-sub-of-le h)) ∙ ap length (later .1) ∙ length-append (those test j) (later .0) in
+    ap (λ (m : ℕ). length (those test m)) (sym (add-sub-of-le h)) ∙ ap length (later .1) ∙ length-append (those test j) (later .0) in
     omega arith
 
 -- ---- `least`

@@ -81,7 +81,7 @@ table-accepted n table t =
     ∙ refuse-passed _ emptySetWorks 0 _ (sc .empty)
     ∙ refuse-passed _ fullSetFails 0 _ (ap not (sc .full))
     ∙ refuse-passed _ brokenSet (least (broken n (inTable table)) (2 ^ n)) Accepted
-      (steps-unbroken n (inTable table) (upward-steps n (inTable table) (sc .upward)))
+    (steps-unbroken n (inTable table) (upward-steps n (inTable table) (sc .upward)))
 
 -- the unused bits are those of the first byte
 pub unused-first : (n : ℕ) (table : List ℕ) → unused n table ≡ any (λ a. leb (2 ^ n) a && has (getD table 0 0) a) 8
@@ -111,10 +111,10 @@ tableOf-accepted n works some few sc =
       few = few;
       long = tableOf-length n works;
       clear = any-false (λ a. leb (2 ^ n) a && inTable (tableOf n works) a) 8 (λ a ha t.
-        let above : 2 ^ n ≤ a = leb-true (2 ^ n) a (and-left (leb (2 ^ n) a) (inTable (tableOf n works) a) t) in
-        let inside : ltb a (2 ^ n) && works a ≡ true =
-            sym (tableOf-at n works a (omega arith)) ∙ and-right (leb (2 ^ n) a) (inTable (tableOf n works) a) t in
-        lt-irrefl a (lt-of-lt-of-le (ltb-true a (2 ^ n) (and-left (ltb a (2 ^ n)) (works a) inside)) above));
+          let above : 2 ^ n ≤ a = leb-true (2 ^ n) a (and-left (leb (2 ^ n) a) (inTable (tableOf n works) a) t) in
+          let inside : ltb a (2 ^ n) && works a ≡ true =
+          sym (tableOf-at n works a (omega arith)) ∙ and-right (leb (2 ^ n) a) (inTable (tableOf n works) a) t in
+          lt-irrefl a (lt-of-lt-of-le (ltb-true a (2 ^ n) (and-left (ltb a (2 ^ n)) (works a) inside)) above));
       semicoherent = semicoherent-same n works (inTable (tableOf n works)) (λ a ha. sym (tableOf-works n works a ha)) sc;
     })
 
@@ -210,11 +210,11 @@ minimal-accepted n table h =
       some = t .some;
       few = t .few;
       any-set = member-length (minimalSets n (inTable table)) (least-set .0)
-        (those-intro (minimal n (inTable table)) (2 ^ n) (least-set .0) (lt-of-le-of-lt (least-set .1) (ones-lt n)) (least-set .2));
+          (those-intro (minimal n (inTable table)) (2 ^ n) (least-set .0) (lt-of-le-of-lt (least-set .1) (ones-lt n)) (least-set .2));
       most = minimalSets-most n (inTable table) (t .few);
       sets = λ b m.
-        let found = those-elim (minimal n (inTable table)) (2 ^ n) b m in
-        (found .0, pos-of-ne-zero (λ e. clash (minimal-works n (inTable table) b (found .1)) (ap (inTable table) e ∙ t .semicoherent .empty)));
+          let found = those-elim (minimal n (inTable table)) (2 ^ n) b m in
+          (found .0, pos-of-ne-zero (λ e. clash (minimal-works n (inTable table) b (found .1)) (ap (inTable table) e ∙ t .semicoherent .empty)));
     })
   where
     t : AcceptedTable n table

@@ -59,7 +59,7 @@ module _ (works : ℕ → Bool) where
   lower : (n a : ℕ) → has a n ≡ true → a / 2 ^ suc n ≡ (a - 2 ^ n) / 2 ^ suc n
   lower n a h =
       let less : a / 2 ^ n ≡ (a - 2 ^ n) / 2 ^ n + 1 =
-          ap (λ (x : ℕ). x / 2 ^ n) (sym (sub-add-cancel (has-le a n h))) ∙ add-div-right (a - 2 ^ n) (pow-pos n) in
+      ap (λ (x : ℕ). x / 2 ^ n) (sym (sub-add-cancel (has-le a n h))) ∙ add-div-right (a - 2 ^ n) (pow-pos n) in
       quotient-half a n ∙ omega (arith, less, quotient-odd a n h) ∙ sym (quotient-half (a - 2 ^ n) n)
 
   pub spread-elim : (n a : ℕ) → spread n works a ≡ true → Above n a
@@ -93,7 +93,7 @@ module _ (works : ℕ → Bool) where
           or-left (has a n && spread n works (a - 2 ^ n)) (stay (omega (arith, halves, quotient-odd a n ha, quotient-odd b n hb)))
       cases (inl ha) (inr hb) stay less =
           let down : a / 2 ^ n ≡ (a - 2 ^ n) / 2 ^ n + 1 =
-              ap (λ (x : ℕ). x / 2 ^ n) (sym (sub-add-cancel (has-le a n ha))) ∙ add-div-right (a - 2 ^ n) (pow-pos n) in
+          ap (λ (x : ℕ). x / 2 ^ n) (sym (sub-add-cancel (has-le a n ha))) ∙ add-div-right (a - 2 ^ n) (pow-pos n) in
           or-right (spread n works a)
           (and-both ha (less (holds-without a b n within ha hb) (omega (arith, halves, down, quotient-odd a n ha, quotient-even b n hb))))
       cases (inr ha) (inl hb) stay less = clash (holds-part a b within n hb) ha

@@ -76,7 +76,7 @@ module _ (n : ℕ) (table : List ℕ) (few : n ≤ 16) (beyond : (a : ℕ) → 2
   broken-walk =
       ap (λ (k : ℕ). those (broken k (inWords (wordsOf (inTable table)))) 65536) (min-eq-left few)
       ∙ those-same (broken n (inWords (wordsOf (inTable table)))) (broken n (inTable table)) 65536
-        (λ a h. broken-same (inWords (wordsOf (inTable table))) (inTable table) loaded n a few h)
+      (λ a h. broken-same (inWords (wordsOf (inTable table))) (inTable table) loaded n a few h)
       ∙ those-near n (broken n (inTable table)) few broken-beyond
 
   pub first-walk : least (broken (min n 16) (inWords (wordsOf (inTable table)))) 65536 ≡ getD (those (broken n (inTable table)) (2 ^ n)) 0 65536
@@ -117,7 +117,7 @@ minimal-walk n table t =
     let few = t .few in
     ap (λ (k : ℕ). those (inWords (wordsOf (trimmed k (inWords (wordsOf works))))) 65536) (min-eq-left few)
     ∙ those-same (inWords (wordsOf (trimmed n (inWords (wordsOf works))))) (trimmed n works) 65536 (λ a h.
-      inWords-wordsOf (trimmed n (inWords (wordsOf works))) a h ∙ trimmed-same (inWords (wordsOf works)) works (inWords-wordsOf works) n a h)
+    inWords-wordsOf (trimmed n (inWords (wordsOf works))) a h ∙ trimmed-same (inWords (wordsOf works)) works (inWords-wordsOf works) n a h)
     ∙ those-near n (trimmed n works) few (λ a h. trimmed-beyond n works a (table-beyond n table (t .long) (t .clear) a h))
     ∙ those-same (trimmed n works) (minimal n works) (2 ^ n) (trimmed-minimal n works (t .semicoherent))
 
@@ -131,7 +131,7 @@ listed-walk n list l =
     (tabulate-length (tableLength n) stored) (λ b h.
     tabulate-at (tableLength n) stored b 0 h
     ∙ packed-same 8 (λ i. inWords (wordsOf (spread (min n 16) (inWords (wordsOf (among list))))) (8 * b + i))
-      (λ i. ltb (8 * b + i) (2 ^ n) && listed list (8 * b + i)) (λ i k. bit (8 * b + i) (near b i h k)))
+    (λ i. ltb (8 * b + i) (2 ^ n) && listed list (8 * b + i)) (λ i k. bit (8 * b + i) (near b i h k)))
   where
     stored : ℕ → ℕ
     stored b = packed 8 (λ i. inWords (wordsOf (spread (min n 16) (inWords (wordsOf (among list))))) (8 * b + i))

@@ -134,7 +134,10 @@ fn refused(number: u8, place: usize) -> Verdict
 fn short(needed: usize) -> Written
     ensures { λ r. ⌜ r ≡ Written.Refused (record { number = 11; place = needed }) ⌝ }
 {
-    Written::Refused(Refusal { number: answer::SHORT_BUFFER, place: needed })
+    Written::Refused(Refusal {
+        number: answer::SHORT_BUFFER,
+        place: needed,
+    })
 }
 
 // 2^n, for the parts that a structure may have.

@@ -59,12 +59,12 @@ module _ (words : List ℕ) (at part : ℕ) where
             let whole : 2 ^ part + t ≡ k = add-sub-of-le large in
             let near : t < 64 = omega (arith, whole) in
             let moves : has moved k ≡ has w t && not (has t part) =
-                ap (has moved) (sym whole) ∙ has-shl (meet w (lacks part)) (2 ^ part) t ∙ has-meet w (lacks part) t
-                ∙ ap (λ (q : Bool). has w t && q) (has-packed 64 (λ k. not (has k part)) t near) in
+            ap (has moved) (sym whole) ∙ has-shl (meet w (lacks part)) (2 ^ part) t ∙ has-meet w (lacks part) t
+            ∙ ap (λ (q : Bool). has w t && q) (has-packed 64 (λ k. not (has k part)) t near) in
             let turned : has (64 * at + k) part ≡ not (has t part) =
-                index-low at k part h hp ∙ ap (λ (x : ℕ). has x part) (sym whole ∙ add-comm (2 ^ part) t) ∙ has-flip t part in
+            index-low at k part h hp ∙ ap (λ (x : ℕ). has x part) (sym whole ∙ add-comm (2 ^ part) t) ∙ has-flip t part in
             let under : inWords words (64 * at + k - 2 ^ part) ≡ has w t =
-                ap (inWords words) (omega (arith, whole)) ∙ inWords-at words at t near in
+            ap (inWords words) (omega (arith, whole)) ∙ inWords-at words at t near in
             moves ∙ and-swap (has w t) (not (has t part)) ∙ sym (rw (turned, under))
 
     pub with-low : join (getD words at 0 / 2 ^ (2 ^ part)) (2 ^ 64 - 1 - lacks part) ≡ wordOf (with part (inWords words)) at
@@ -74,8 +74,8 @@ module _ (words : List ℕ) (at part : ℕ) where
         has-join lower others k
         ∙ ap (λ (p : Bool). p || has others k) (has-shift w (2 ^ part) k)
         ∙ ap (λ (p : Bool). has w (2 ^ part + k) || p)
-          (has-complement 64 (lacks part) (packed-below 64 (λ k. not (has k part))) k h
-          ∙ ap not (has-packed 64 (λ k. not (has k part)) k h) ∙ not-not (has k part))
+        (has-complement 64 (lacks part) (packed-below 64 (λ k. not (has k part))) k h
+        ∙ ap not (has-packed 64 (λ k. not (has k part)) k h) ∙ not-not (has k part))
         ∙ cases k h (true-or-false (has k part)))
       where
         w : ℕ
@@ -93,7 +93,7 @@ module _ (words : List ℕ) (at part : ℕ) where
         cases k h (inr f) =
             let near : k + 2 ^ part < 64 = add-below 6 k part h hp f in
             let over : inWords words (64 * at + k + 2 ^ part) ≡ has w (2 ^ part + k) =
-                ap (inWords words) (omega arith) ∙ inWords-at words at (k + 2 ^ part) near ∙ ap (has w) (add-comm k (2 ^ part)) in
+            ap (inWords words) (omega arith) ∙ inWords-at words at (k + 2 ^ part) near ∙ ap (has w) (add-comm k (2 ^ part)) in
             rw (index-low at k part h hp, f) (or-false (has w (2 ^ part + k)) ∙ sym over)
 
 -- A part from 6 on, with the step s that it makes among the words.

@@ -231,12 +231,12 @@ module _ (words buffer : List ℕ) where
       let gap : ℕ = 64 * (at + 1) - mask in
       let whole : mask + gap ≡ 64 * (at + 1) = add-sub-of-le (let hi : mask ≤ 64 * at + 64 = w .high in omega arith) in
       let same : those (inWords words) (64 * (at + 1)) ≡ those (inWords words) mask =
-          ap (those (inWords words)) (sym whole) ∙ those-skip (inWords words) mask gap (λ i l u.
-          let k : ℕ = i - mask in
-          let split : mask + k ≡ i = add-sub-of-le l in
-          ap (inWords words) (sym split)
-          ∙ later at mask rest (w .low) (w .bits) k (omega (arith, split, whole))
-          ∙ ap (λ (x : ℕ). has x k) empty ∙ has-above 0 0 k (zero-lt-suc 0) zero-le) in
+      ap (those (inWords words)) (sym whole) ∙ those-skip (inWords words) mask gap (λ i l u.
+      let k : ℕ = i - mask in
+      let split : mask + k ≡ i = add-sub-of-le l in
+      ap (inWords words) (sym split)
+      ∙ later at mask rest (w .low) (w .bits) k (omega (arith, split, whole))
+      ∙ ap (λ (x : ℕ). has x k) empty ∙ has-above 0 0 k (zero-lt-suc 0) zero-le) in
       record {
         inside = omega arith;
         low = le-refl (64 * (at + 1));
@@ -257,7 +257,7 @@ module _ (words buffer : List ℕ) where
             let p : ℕ = mask - 64 * at in
             let lo : 64 * at ≤ mask = w .low in
             let stands : has (getD words at 0) (p + gap) ≡ true =
-                sym (has-shift (getD words at 0) p gap) ∙ ap (λ (x : ℕ). has x gap) (sym (w .bits)) ∙ lowest .stands in
+            sym (has-shift (getD words at 0) p gap) ∙ ap (λ (x : ℕ). has x gap) (sym (w .bits)) ∙ lowest .stands in
             clash stands (has-above (getD words at 0) 64 (p + gap) fits (omega arith))
 
     found : inWords words (mask + gap) ≡ true
@@ -280,9 +280,9 @@ module _ (words buffer : List ℕ) where
     pub walk-room : length (those (inWords words) 65536) ≤ length buffer → length (those (inWords words) mask) < length buffer
     walk-room all =
         let more : length (those (inWords words) (mask + gap + 1)) ≡ length (those (inWords words) mask) + 1 =
-            ap length grown ∙ length-append (those (inWords words) mask) ((mask + gap) ∷ []) in
+        ap length grown ∙ length-append (those (inWords words) mask) ((mask + gap) ∷ []) in
         let most : length (those (inWords words) (mask + gap + 1)) ≤ length (those (inWords words) 65536) =
-            those-fewer (inWords words) (mask + gap + 1) 65536 (omega (arith, walk-near)) in
+        those-fewer (inWords words) (mask + gap + 1) 65536 (omega (arith, walk-near)) in
         omega arith
 
     pub walk-found : length (those (inWords words) 65536) ≤ length buffer
@@ -296,8 +296,8 @@ module _ (words buffer : List ℕ) where
           high = omega (arith, walk-near);
           last = omega (arith, walk-near);
           bits = ap (λ (x : ℕ). x / 2 ^ gap / 2) (w .bits) ∙ ap (λ (x : ℕ). x / 2) (shr-shr (getD words at 0) p gap)
-          ∙ shr-shr (getD words at 0) (p + gap) 1
-          ∙ ap (λ (x : ℕ). getD words at 0 / 2 ^ x) (omega arith);
+              ∙ shr-shr (getD words at 0) (p + gap) 1
+              ∙ ap (λ (x : ℕ). getD words at 0 / 2 ^ x) (omega arith);
           listed = subst (λ (xs : List ℕ). InFront buffer xs (set now next (mask + gap)) (next + 1)) (sym grown)
-          (in-front-one buffer (those (inWords words) mask) now next (mask + gap) (w .listed) (walk-room all));
+              (in-front-one buffer (those (inWords words) mask) now next (mask + gap) (w .listed) (walk-room all));
         }

@@ -121,7 +121,7 @@ module _ (f : ℕ → Bool) (m : ℕ) (h : m < 65536) where
       (or-lt 64 (wordOf f (m / 64)) (2 ^ (m % 64)) (wordOf-below f (m / 64)) (pow-lt (mod-lt m (zero-lt-suc 63)))) (λ k l.
       has-join (wordOf f (m / 64)) (2 ^ (m % 64)) k
       ∙ ap₂ (λ (p q : Bool). p || q) (has-wordOf f (m / 64) k l)
-        (pow-bits (m % 64) k ∙ same-eqb k (m % 64) m (64 * (m / 64) + k) (λ e. omega arith) (λ e. omega arith)))
+      (pow-bits (m % 64) k ∙ same-eqb k (m % 64) m (64 * (m / 64) + k) (λ e. omega arith) (λ e. omega arith)))
 
   miss : (j : ℕ) → (j ≡ m / 64 → ⊥) → wordOf f j ≡ wordOf more j
   unfolding more
@@ -145,7 +145,7 @@ module _ (f : ℕ → Bool) (m : ℕ) (h : m < 65536) where
           let read : getD (wordsOf f) (m / 64) 0 ≡ wordOf f (m / 64) = tabulate-at 1024 (wordOf f) (m / 64) 0 inside in
           ap (λ (x : ℕ). getD (set (wordsOf f) (m / 64) (join (getD (wordsOf f) (m / 64) 0) (2 ^ (m % 64)))) x 0) e
           ∙ getD-set-same (wordsOf f) (m / 64) (join (getD (wordsOf f) (m / 64) 0) (2 ^ (m % 64))) 0
-            (subst (λ (x : ℕ). m / 64 < x) (sym (tabulate-length 1024 (wordOf f))) inside)
+          (subst (λ (x : ℕ). m / 64 < x) (sym (tabulate-length 1024 (wordOf f))) inside)
           ∙ ap (λ (x : ℕ). join x (2 ^ (m % 64))) read ∙ hit ∙ ap (wordOf more) (sym e)
       cases j l inside (no other) =
           getD-set-other (wordsOf f) (m / 64) j (join (getD (wordsOf f) (m / 64) 0) (2 ^ (m % 64))) 0 other

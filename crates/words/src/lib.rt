@@ -100,7 +100,10 @@ pub fn list(words: &[u64], sets: &mut [u16]) -> Written
 {
     let needed = count(words);
     if sets.len() < needed {
-        return Written::Refused(Refusal { number: answer::SHORT_BUFFER, place: needed });
+        return Written::Refused(Refusal {
+            number: answer::SHORT_BUFFER,
+            place: needed,
+        });
     }
     let mut at = 0;
     let mut mask = 0;
@@ -171,7 +174,11 @@ fn without(words: &[u64], at: usize, part: usize) -> u64
         return (word(words, at) & lacking(part)) << weight(part);
     }
     let step = weight(part - 6);
-    if at / step % 2 == 1 { word(words, at - step) } else { 0 }
+    if at / step % 2 == 1 {
+        word(words, at - step)
+    } else {
+        0
+    }
 }
 
 // Word `at` of the sets that have the part or work with it.
@@ -184,7 +191,11 @@ fn with(words: &[u64], at: usize, part: usize) -> u64
         return (word(words, at) >> weight(part)) | !lacking(part);
     }
     let step = weight(part - 6);
-    if at / step % 2 == 1 { 0xFFFF_FFFF_FFFF_FFFF } else { word(words, at + step) }
+    if at / step % 2 == 1 {
+        0xFFFF_FFFF_FFFF_FFFF
+    } else {
+        word(words, at + step)
+    }
 }
 
 // Word `at` of the sets that work, or have the part and work without it.

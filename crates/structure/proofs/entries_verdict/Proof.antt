@@ -61,7 +61,7 @@ returns-2 c =
     let known : mask < 2 ^ (a .n) = subst (λ (x : ℕ). mask < x) (c .before .before .before .power .ensures) (c .before .before .if1 .left) in
     c .refused2 .ensures
     ∙ sym (head .loop .inv .1 ∙ entries-from (a .n) i (now (a .list)) (c .before .before .before .before .before .loop-test .taken)
-      ∙ refuse-passed _ unknownPart i _ (lt-leb (2 ^ (a .n)) mask known) ∙ refuse-held _ emptySet i _ (eq-eqb mask 0 (c .before .if2 .taken)))
+    ∙ refuse-passed _ unknownPart i _ (lt-leb (2 ^ (a .n)) mask known) ∙ refuse-held _ emptySet i _ (eq-eqb mask 0 (c .before .if2 .taken)))
 
 add-i : tie.Need-add-i Inv-loop μ-loop
 add-i c = omega arith
@@ -75,11 +75,10 @@ loop-again c =
     let a = head .before .before .args in
     let i = head .loop .i in
     let mask : ℕ = getD (now (a .list)) i 0 in
-    let known : mask < 2 ^ (a .n) = subst (λ (x : ℕ). mask < x) (c .before .before .power .ensures) (c .before .if1 .left) in
-    (
+    let known : mask < 2 ^ (a .n) = subst (λ (x : ℕ). mask < x) (c .before .before .power .ensures) (c .before .if1 .left) in (
       omega arith,
       head .loop .inv .1 ∙ entries-from (a .n) i (now (a .list)) (c .before .before .before .before .loop-test .taken)
-      ∙ refuse-passed _ unknownPart i _ (lt-leb (2 ^ (a .n)) mask known) ∙ refuse-passed _ emptySet i _ (ne-eqb mask 0 (c .if2 .left)),
+          ∙ refuse-passed _ unknownPart i _ (lt-leb (2 ^ (a .n)) mask known) ∙ refuse-passed _ emptySet i _ (ne-eqb mask 0 (c .if2 .left)),
     )
 
 returns-3 : tie.Need-returns-3 Inv-loop μ-loop

@@ -49,8 +49,8 @@ returns-3 c =
     let list = now (c .before .before .before .before .before .before .args .list) in
     c .refused3 .ensures
     ∙ sym (refuse-passed _ wrongPartCount 0 _ (in-parts (c .before .before .before))
-      ∙ refuse-passed _ emptyList 0 _ (ne-eqb (length list) 0 (c .before .before .if2 .left))
-      ∙ refuse-held _ longList 0 _ (lt-ltb mostSets (length list) (c .before .if3 .taken)))
+    ∙ refuse-passed _ emptyList 0 _ (ne-eqb (length list) 0 (c .before .before .if2 .left))
+    ∙ refuse-held _ longList 0 _ (lt-ltb mostSets (length list) (c .before .if3 .taken)))
 
 entries-verdict-requires : tie.Need-entries-verdict-requires
 entries-verdict-requires c κs =
@@ -63,8 +63,8 @@ returns-4 c =
     let list = now (c .before .before .before .before .before .before .args .list) in
     c .entries-verdict .ensures
     ∙ sym (refuse-passed _ wrongPartCount 0 _ (in-parts (c .before .before .before))
-      ∙ refuse-passed _ emptyList 0 _ (ne-eqb (length list) 0 (c .before .before .if2 .left))
-      ∙ refuse-passed _ longList 0 _ (le-ltb mostSets (length list) (c .before .if3 .left)))
+    ∙ refuse-passed _ emptyList 0 _ (ne-eqb (length list) 0 (c .before .before .if2 .left))
+    ∙ refuse-passed _ longList 0 _ (le-ltb mostSets (length list) (c .before .if3 .left)))
 
 pub list-verdict-spec : {M : Type 1} → statement M
 list-verdict-spec =

@@ -63,7 +63,7 @@ returns-2 c =
     let works = inTable table in
     c .before .before .list .ensures
     ∙ ap (λ (ws : List ℕ). delivered Accepted (those (inWords ws) 65536) sets)
-      (c .before .before .before .before .before .trimmed .ensures ∙ ap (λ (ws : List ℕ). wordsOf (trimmed (min n 16) (inWords ws))) (c .before .before .before .before .before .before .before .load .ensures))
+    (c .before .before .before .before .before .trimmed .ensures ∙ ap (λ (ws : List ℕ). wordsOf (trimmed (min n 16) (inWords ws))) (c .before .before .before .before .before .before .before .load .ensures))
     ∙ ap (λ (xs : List ℕ). delivered Accepted xs sets) (minimal-walk n table (accepted-table n table verdict))
     ∙ ap (λ (v : Verdict). delivered v (minimalSets n works) sets) (sym verdict)
 

@@ -77,7 +77,7 @@ returns-2 : tie.Need-returns-2
 returns-2 c =
     c .refused2 .ensures
     ∙ sym (refuse-passed _ emptySetWorks 0 _ (empty-is (c .before .before .before .before .before .before) ∙ c .before .before .before .before .before .if1 .left)
-      ∙ refuse-held _ fullSetFails 0 _ (ap not (full-is (c .before .before)) ∙ c .before .if2 .taken))
+    ∙ refuse-held _ fullSetFails 0 _ (ap not (full-is (c .before .before)) ∙ c .before .if2 .taken))
 
 slice-aggregate-first-broken : tie.Need-slice-aggregate-first-broken
 slice-aggregate-first-broken c = search needs
@@ -97,7 +97,7 @@ returns-3 c =
     let found = first-found n table (start .pre .0) (start .pre .1) place (place-is (c .before .before)) (c .before .if3 .taken) in
     c .refused3 .ensures ∙ ap (λ (p : ℕ). Refused (at brokenSet p)) (found .1)
     ∙ sym (refuse-passed _ emptySetWorks 0 _ (empty-is (c .before .before .before .before .before .before .before .before .before) ∙ c .before .before .before .before .before .before .before .before .if1 .left)
-      ∙ refuse-passed _ fullSetFails 0 _ (ap not (full-is (c .before .before .before .before .before)) ∙ c .before .before .before .before .if2 .left) ∙ refuse-held _ brokenSet _ _ (found .0))
+    ∙ refuse-passed _ fullSetFails 0 _ (ap not (full-is (c .before .before .before .before .before)) ∙ c .before .before .before .before .if2 .left) ∙ refuse-held _ brokenSet _ _ (found .0))
 
 returns-4 : tie.Need-returns-4
 returns-4 c =
@@ -107,7 +107,7 @@ returns-4 c =
     sym (refuse-passed _ emptySetWorks 0 _ (empty-is (c .before .before .before .before .before .before .before .before) ∙ c .before .before .before .before .before .before .before .if1 .left)
     ∙ refuse-passed _ fullSetFails 0 _ (ap not (full-is (c .before .before .before .before)) ∙ c .before .before .before .if2 .left)
     ∙ refuse-passed _ brokenSet _ Accepted
-      (first-none n table (start .pre .0) (start .pre .1) (c .before .first-broken .result) (place-is (c .before)) (c .if3 .left)))
+    (first-none n table (start .pre .0) (start .pre .1) (c .before .first-broken .result) (place-is (c .before)) (c .if3 .left)))
 
 pub structure-verdict-spec : {M : Type 1} → statement M
 structure-verdict-spec =

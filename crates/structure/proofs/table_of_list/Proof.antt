@@ -102,9 +102,9 @@ returns-3 c =
     let whole : needed ≡ length result = long ∙ sym (tableOf-length n (listed list)) in
     let reached = c .before .before .before .before .before .carried .ensures ∙ ap (λ (ws : List ℕ). wordsOf (spread (min n 16) (inWords ws))) (c .before .before .before .before .before .before .before .marked .ensures) in
     let bytes =
-        c .before .before .store .ensures
-        ∙ ap₂ (λ (k : ℕ) (ws : List ℕ). tabulate k (λ b. packed 8 (λ i. inWords ws (8 * b + i)))) (length-take-le needed table (c .before .before .before .before .before .before .before .before .if1 .left) ∙ long) reached
-        ∙ listed-walk n list (accepted passed) in
+    c .before .before .store .ensures
+    ∙ ap₂ (λ (k : ℕ) (ws : List ℕ). tabulate k (λ b. packed 8 (λ i. inWords ws (8 * b + i)))) (length-take-le needed table (c .before .before .before .before .before .before .before .before .if1 .left) ∙ long) reached
+    ∙ listed-walk n list (accepted passed) in
     in-front-delivered table result _ needed (record { ends = whole; stands = ap₂ (λ (xs : List ℕ) (k : ℕ). xs ++ drop k table) bytes whole })
     (subst (λ (k : ℕ). k ≤ length table) whole (c .before .before .before .before .before .before .before .before .if1 .left))
     ∙ ap (λ (v : Verdict). delivered v result table) (sym (verdict passed))

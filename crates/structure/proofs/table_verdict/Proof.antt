@@ -61,8 +61,8 @@ returns-2 c =
     let a = c .before .before .before .before .before .before .args in
     c .refused2 .ensures
     ∙ sym (refuse-passed _ wrongPartCount 0 _ (in-parts (c .before .before .before))
-      ∙ refuse-held _ wrongTableLength 0 _
-        (ap not (ne-eqb (length (now (a .table))) (tableLength (a .n)) (λ e. c .before .if2 .taken (e ∙ sym (c .before .before .table-length .ensures))))))
+    ∙ refuse-held _ wrongTableLength 0 _
+    (ap not (ne-eqb (length (now (a .table))) (tableLength (a .n)) (λ e. c .before .if2 .taken (e ∙ sym (c .before .before .table-length .ensures))))))
 
 shared-slice-read-has-unused : tie.Need-shared-slice-read-has-unused
 shared-slice-read-has-unused c = search needs
@@ -78,7 +78,7 @@ unfolding tableRefusal
 returns-3 c =
     c .refused3 .ensures
     ∙ sym (refuse-passed _ wrongPartCount 0 _ (in-parts (c .before .before .before .before .before .before)) ∙ refuse-passed _ wrongTableLength 0 _ (long-enough (c .before .before .before .before))
-      ∙ refuse-held _ unusedBit 0 _ (unused-is (c .before .before) ∙ c .before .if3 .taken))
+    ∙ refuse-held _ unusedBit 0 _ (unused-is (c .before .before) ∙ c .before .if3 .taken))
 
 structure-verdict-requires : tie.Need-structure-verdict-requires
 structure-verdict-requires c κs =
@@ -90,7 +90,7 @@ unfolding tableRefusal
 returns-4 c =
     c .structure-verdict .ensures
     ∙ sym (refuse-passed _ wrongPartCount 0 _ (in-parts (c .before .before .before .before .before .before)) ∙ refuse-passed _ wrongTableLength 0 _ (long-enough (c .before .before .before .before))
-      ∙ refuse-passed _ unusedBit 0 _ (unused-is (c .before .before) ∙ c .before .if3 .left))
+    ∙ refuse-passed _ unusedBit 0 _ (unused-is (c .before .before) ∙ c .before .if3 .left))
 
 pub table-verdict-spec : {M : Type 1} → statement M
 table-verdict-spec =

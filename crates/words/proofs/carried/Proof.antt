@@ -51,13 +51,12 @@ loop-again : tie.Need-loop-again Inv-loop μ-loop
 loop-again c =
     let head = c .before .before .before in
     let works = inWords (now (head .before .before .before .before .args .words)) in
-    let part = head .loop .part in
-    (
+    let part = head .loop .part in (
       omega arith,
       (
         head .loop .inv .1 .0,
         c .carried-over .ensures
-        ∙ ap (λ (words : List ℕ). wordsOf (λ a. inWords words a || without part (inWords words) a)) (head .loop .inv .1 .1) ∙ spread-more works part,
+            ∙ ap (λ (words : List ℕ). wordsOf (λ a. inWords words a || without part (inWords words) a)) (head .loop .inv .1 .1) ∙ spread-more works part,
       ),
     )
 

@@ -51,12 +51,11 @@ loop-again c =
     let words = now (head .before .before .args .words) in
     let at = head .loop .at in
     let whole : getD words at 0 % 2 ^ 64 ≡ c .word .result =
-        ap (λ (w : ℕ). w % 2 ^ 64) (sym (c .word .ensures)) ∙ mod-eq-of-lt (omega (arith, c .word .ok)) in
-    (
+    ap (λ (w : ℕ). w % 2 ^ 64) (sym (c .word .ensures)) ∙ mod-eq-of-lt (omega (arith, c .word .ok)) in (
       omega arith,
       add-comm (head .loop .sum) (ones (c .word .result))
-      ∙ ap₂ (λ (x y : ℕ). ones x + y) (sym whole) (head .loop .inv .1) ∙ sym (those-count words at 64 (le-refl 64))
-      ∙ ap (λ (k : ℕ). length (those (inWords words) k)) (omega arith),
+          ∙ ap₂ (λ (x y : ℕ). ones x + y) (sym whole) (head .loop .inv .1) ∙ sym (those-count words at 64 (le-refl 64))
+          ∙ ap (λ (k : ℕ). length (those (inWords words) k)) (omega arith),
     )
 
 returns : tie.Need-returns Inv-loop μ-loop

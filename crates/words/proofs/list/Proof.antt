@@ -33,7 +33,7 @@ returns c =
     let found = c .before .count in
     ap (λ (n : ℕ). outcome (Refused (refusalAt shortBuffer n)) (now (a .sets))) (found .ensures)
     ∙ short-delivered (now (a .sets)) (those (inWords (now (a .words))) 65536)
-      (subst (λ (n : ℕ). length (now (a .sets)) < n) (found .ensures) (c .if1 .taken))
+    (subst (λ (n : ℕ). length (now (a .sets)) < n) (found .ensures) (c .if1 .taken))
 
 word-requires : tie.Need-word-requires Inv-loop μ-loop
 word-requires c κs = search needs
@@ -59,16 +59,23 @@ near c =
     let head = c .before .before .before in
     let a = head .before .before .before .before .before .before .args in
     let l = head .loop in
-    omega (arith, walk-near (now (a .words)) (now (a .sets)) (l .at) (l .mask) (l .rest) (l .next) (l .sets) (l .inv .1 .1) (c .before .before .loop-test .taken)
-    (fits head) (c .lowest .result) (c .lowest .ensures))
+    omega (
+      arith,
+      walk-near (now (a .words)) (now (a .sets)) (l .at) (l .mask) (l .rest) (l .next) (l .sets) (l .inv .1 .1) (c .before .before .loop-test .taken)
+          (fits head) (c .lowest .result) (c .lowest .ensures),
+    )
 
 room : (c : tie.After-lowest Inv-loop μ-loop) → c .before .before .before .loop .next < length (now (c .before .before .before .before .before .before .before .before .before .args .sets))
 room c =
     let head = c .before .before .before in
     let a = head .before .before .before .before .before .before .args in
     let l = head .loop in
-    omega (arith, l .inv .1 .1 .listed .ends, walk-room (now (a .words)) (now (a .sets)) (l .at) (l .mask) (l .rest) (l .next) (l .sets) (l .inv .1 .1)
-    (c .before .before .loop-test .taken) (fits head) (c .lowest .result) (c .lowest .ensures) (all head))
+    omega (
+      arith,
+      l .inv .1 .1 .listed .ends,
+      walk-room (now (a .words)) (now (a .sets)) (l .at) (l .mask) (l .rest) (l .next) (l .sets) (l .inv .1 .1)
+          (c .before .before .loop-test .taken) (fits head) (c .lowest .result) (c .lowest .ensures) (all head),
+    )
 
 loop-holds : tie.Need-loop-holds Inv-loop μ-loop
 loop-holds c =
@@ -126,13 +133,12 @@ loop-again-2 : tie.Need-loop-again-2 Inv-loop μ-loop
 loop-again-2 c =
     let head = c .before .before .before in
     let a = head .before .before .before .before .before .before .args in
-    let l = head .loop in
-    (
+    let l = head .loop in (
       l .inv .0,
       (
         l .inv .1 .0,
         walk-found (now (a .words)) (now (a .sets)) (l .at) (l .mask) (l .rest) (l .next) (l .sets) (l .inv .1 .1) (c .before .before .loop-test .taken)
-        (fits head) (c .lowest .result) (c .lowest .ensures) (all head),
+            (fits head) (c .lowest .result) (c .lowest .ensures) (all head),
       ),
     )
 

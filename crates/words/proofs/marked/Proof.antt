@@ -75,12 +75,11 @@ loop-again c =
     let m : ℕ = getD list i 0 in
     let f : ℕ → Bool = first list i in
     let bit : 1 * 2 ^ (m % 64) % 2 ^ 64 ≡ 2 ^ (m % 64) =
-        ap (λ (x : ℕ). x % 2 ^ 64) (one-mul (2 ^ (m % 64))) ∙ mod-eq-of-lt (pow-lt (mod-lt m (zero-lt-suc 63))) in
-    (
+    ap (λ (x : ℕ). x % 2 ^ 64) (one-mul (2 ^ (m % 64))) ∙ mod-eq-of-lt (pow-lt (mod-lt m (zero-lt-suc 63))) in (
       omega arith,
       ap (λ (words : List ℕ). set words (m / 64) (join (getD words (m / 64) 0) (1 * 2 ^ (m % 64) % 2 ^ 64))) (head .loop .inv .1)
-      ∙ ap (λ (b : ℕ). set (wordsOf f) (m / 64) (join (getD (wordsOf f) (m / 64) 0) b)) bit
-      ∙ marked-more f m (small c) ∙ ap (λ (k : ℕ). wordsOf (first list k)) (sym (add-one i)),
+          ∙ ap (λ (b : ℕ). set (wordsOf f) (m / 64) (join (getD (wordsOf f) (m / 64) 0) b)) bit
+          ∙ marked-more f m (small c) ∙ ap (λ (k : ℕ). wordsOf (first list k)) (sym (add-one i)),
     )
 
 returns : tie.Need-returns Inv-loop μ-loop

@@ -55,11 +55,10 @@ loop-again : tie.Need-loop-again Inv-loop μ-loop
 loop-again c =
     let head = c .before .before .before in
     let words = now (head .before .before .before .args .words) in
-    let b = head .loop .b in
-    (
+    let b = head .loop .b in (
       omega arith,
       filled-again (byteFor words) _ b (c .byte-of .result) (head .loop .table) (head .loop .inv .1) (omega arith)
-      (c .byte-of .ensures ∙ ap (λ (w : ℕ). packed 8 (λ k. has w (8 * (b % 8) + k))) (c .before .word .ensures) ∙ byte-at words b),
+          (c .byte-of .ensures ∙ ap (λ (w : ℕ). packed 8 (λ k. has w (8 * (b % 8) + k))) (c .before .word .ensures) ∙ byte-at words b),
     )
 
 same-length : tie.Need-same-length Inv-loop μ-loop

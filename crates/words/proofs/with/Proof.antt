@@ -48,8 +48,8 @@ add-word c =
     let start = c .before .before .before .before in
     let a = start .args in
     let above : a .at + c .before .weight2 .result < 1024 =
-        step-below (now (a .words)) (a .at) (a .part) (c .before .weight2 .result) (c .before .before .if1 .left) (c .before .weight2 .ensures)
-        (c .if2 .left) (start .pre .0) (start .pre .1) in
+    step-below (now (a .words)) (a .at) (a .part) (c .before .weight2 .result) (c .before .before .if1 .left) (c .before .weight2 .ensures)
+    (c .if2 .left) (start .pre .0) (start .pre .1) in
     omega arith
 
 word-requires-2 : tie.Need-word-requires-2
@@ -66,7 +66,7 @@ returns-3 c =
     let s = c .before .before .weight2 .result in
     c .word2 .ensures
     ∙ with-high (now (a .words)) (a .at) (a .part) s (c .before .before .before .if1 .left) (c .before .before .weight2 .ensures) (c .before .if2 .left)
-      (subst (λ (w : ℕ). w < 2 ^ 64) (c .word2 .ensures) (omega (arith, c .word2 .ok)))
+    (subst (λ (w : ℕ). w < 2 ^ 64) (c .word2 .ensures) (omega (arith, c .word2 .ok)))
 
 pub with-spec : {M : Type 1} → statement M
 with-spec =

@@ -58,7 +58,7 @@ returns-2 c =
     let words = now (a .words) in
     c .word2 .ensures
     ∙ without-high words (a .at) (a .part) s (c .before .before .before .if1 .left) (c .before .before .weight2 .ensures) (c .before .if2 .taken)
-      (subst (λ (w : ℕ). w < 2 ^ 64) (c .word2 .ensures) (omega (arith, c .word2 .ok)))
+    (subst (λ (w : ℕ). w < 2 ^ 64) (c .word2 .ensures) (omega (arith, c .word2 .ok)))
 
 returns-3 : tie.Need-returns-3
 returns-3 c =

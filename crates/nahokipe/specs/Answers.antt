@@ -1,0 +1,26 @@
+-- What a host is handed: number 0 where the call is given, with the length written; else the refusal's number, with its place.
+use mathlib.Core.List.{List}
+use mathlib.Core.Path.{_≡_}
+use Prim.Native.Nat.{ℕ}
+use Rattle.answer.specs.Outcome.{Outcome}
+use Rattle.answer.specs.declared.Verdict.{Verdict}
+use Rattle.answer.specs.declared.Verdict.the-variants as verdict
+use Rattle.answer.specs.declared.Written.{Written}
+use Rattle.answer.specs.declared.Written.the-variants as written
+use Rattle.nahokipe.specs.declared.Answer.{Answer}
+
+abbrev pub answer : ℕ → ℕ → Answer
+answer number value = record { number = number; value = value }
+
+abbrev pub ofVerdict : Verdict → Answer
+ofVerdict verdict.Accepted = answer 0 0
+ofVerdict (verdict.Refused r) = answer (r .number) (r .place)
+
+abbrev pub ofWritten : Written → Answer
+ofWritten (written.Length n) = answer 0 n
+ofWritten (written.Refused r) = answer (r .number) (r .place)
+
+-- a call hands out the answer of an outcome, and leaves its buffer
+pub record Leaves (o : Outcome ℕ) (handed : Answer) (buffer : List ℕ) : Type 0 where
+  pub answered : handed ≡ ofWritten (o .answer)
+  pub left : buffer ≡ o .buffer

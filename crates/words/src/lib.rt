@@ -31,13 +31,13 @@ pub fn load(table: &[u8]) -> [u64; 1024]
 pub fn marked(list: &[u16]) -> [u64; 1024]
     ensures { λ r. ⌜ r ≡ wordsOf (among (now (list .entry))) ⌝ }
 {
-    let mut words = [0u64; 1024];
+    let mut marks = [0u64; 1024];
     for i in 0..list.len() {
         let mask = list[i] as usize;
         let at = mask / 64;
-        words[at] = words[at] | (1 << (mask % 64));
+        marks[at] = marks[at] | (1 << (mask % 64));
     }
-    words
+    marks
 }
 
 // The sets that work without some of the first parts, at most 16 of these.

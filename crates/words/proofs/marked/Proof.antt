@@ -23,10 +23,10 @@ abbrev first : List ℕ → ℕ → ℕ → Bool
 first list i a = any (λ k. eqb (getD list k 0) a) i
 
 abbrev Inv-loop : tie.InvT-loop
-Inv-loop list words₀ i₀ i-end words i = (i ≤ length list) × (words ≡ wordsOf (first list i))
+Inv-loop list marks₀ i₀ i-end marks i = (i ≤ length list) × (marks ≡ wordsOf (first list i))
 
 abbrev μ-loop : tie.MeasureT-loop
-μ-loop list words₀ i₀ i-end words i = length list - i
+μ-loop list marks₀ i₀ i-end marks i = length list - i
 
 -- an element of the list is a mask of 16 bits
 small : (c : tie.After-shared-slice-known Inv-loop μ-loop) → getD (now (c .before .before .before .args .list)) (c .before .before .loop .i) 0 < 65536
@@ -45,20 +45,20 @@ shared-slice-read-mask c = omega arith
 cast-mask : tie.Need-cast-mask Inv-loop μ-loop
 cast-mask c = omega (arith, small c)
 
-mul-words : tie.Need-mul-words Inv-loop μ-loop
-mul-words c = omega (arith, small c)
+mul-marks : tie.Need-mul-marks Inv-loop μ-loop
+mul-marks c = omega (arith, small c)
 
-array-read-words : tie.Need-array-read-words Inv-loop μ-loop
-array-read-words c = omega (arith, small c)
+array-read-marks : tie.Need-array-read-marks Inv-loop μ-loop
+array-read-marks c = omega (arith, small c)
 
-shl-words : tie.Need-shl-words Inv-loop μ-loop
-shl-words c = search needs
+shl-marks : tie.Need-shl-marks Inv-loop μ-loop
+shl-marks c = search needs
 
-mul-words-2 : tie.Need-mul-words-2 Inv-loop μ-loop
-mul-words-2 c = omega (arith, small c)
+mul-marks-2 : tie.Need-mul-marks-2 Inv-loop μ-loop
+mul-marks-2 c = omega (arith, small c)
 
-array-write-words : tie.Need-array-write-words Inv-loop μ-loop
-array-write-words c = omega (arith, small c)
+array-write-marks : tie.Need-array-write-marks Inv-loop μ-loop
+array-write-marks c = omega (arith, small c)
 
 add-i : tie.Need-add-i Inv-loop μ-loop
 add-i c = omega arith
@@ -98,11 +98,11 @@ marked-spec =
     mul-mask
     shared-slice-read-mask
     cast-mask
-    mul-words
-    array-read-words
-    shl-words
-    mul-words-2
-    array-write-words
+    mul-marks
+    array-read-marks
+    shl-marks
+    mul-marks-2
+    array-write-marks
     add-i
     loop-less
     loop-again

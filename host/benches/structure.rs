@@ -1,0 +1,112 @@
+//! How long the calculator takes for the largest list there is, all sets of 8 of 16 parts, beside a Rust baseline that carries sets a
+//! 64-bit word at a time. Times are printed and never tested; that both give the same results is asserted in every round.
+
+mod baseline;
+
+use nahokipe_host::Refusal;
+use std::hint::black_box;
+use std::time::Instant;
+
+const PARTS: usize = 16;
+const ROUNDS: usize = 2_000;
+const STEPS: [&str; 3] = ["list to table", "table check", "minimal sets"];
+
+/// The three steps that are timed.
+struct Program {
+    table_of_list: fn(usize, &[u16], &mut [u8]) -> Result<usize, Refusal>,
+    table_verdict: fn(usize, &[u8]) -> Result<(), Refusal>,
+    minimal_sets: fn(usize, &[u8], &mut [u16]) -> Result<usize, Refusal>,
+}
+
+const CALCULATOR: Program = Program {
+    table_of_list: nahokipe_host::table_of_list,
+    table_verdict: nahokipe_host::table_verdict,
+    minimal_sets: nahokipe_host::minimal_sets,
+};
+
+const BASELINE: Program = Program {
+    table_of_list: baseline::table_of_list,
+    table_verdict: baseline::table_verdict,
+    minimal_sets: baseline::minimal_sets,
+};
+
+/// What the three steps gave.
+#[derive(PartialEq)]
+struct Results {
+    table: Vec<u8>,
+    verdict: Result<(), Refusal>,
+    sets: Vec<u16>,
+}
+
+/// The nanoseconds of the three steps in one round.
+type Times = [u128; 3];
+
+fn main() {
+    let list: Vec<u16> = (0..=u16::MAX).filter(|set| set.count_ones() == 8).collect();
+    let (mut calculator, mut baseline) = (Vec::new(), Vec::new());
+    for number in 0..ROUNDS {
+        // Who goes first changes from round to round.
+        let ((ours, our_times), (theirs, their_times)) = if number % 2 == 0 {
+            let ours = round(&CALCULATOR, &list);
+            (ours, round(&BASELINE, &list))
+        } else {
+            let theirs = round(&BASELINE, &list);
+            (round(&CALCULATOR, &list), theirs)
+        };
+        assert!(ours == theirs && ours.sets == list, "results differ");
+        calculator.push(our_times);
+        baseline.push(their_times);
+    }
+    print(list.len(), &calculator, &baseline);
+}
+
+/// The three steps once, into buffers that are filled with a pattern.
+fn round(program: &Program, list: &[u16]) -> (Results, Times) {
+    let (mut table, mut sets) = (vec![0xA5; 8192], vec![0xA5A5; list.len()]);
+    let (made, first) = timed(|| (program.table_of_list)(PARTS, black_box(list), &mut table));
+    let (verdict, second) = timed(|| (program.table_verdict)(PARTS, black_box(&table)));
+    let (listed, third) = timed(|| (program.minimal_sets)(PARTS, black_box(&table), &mut sets));
+    assert_eq!((made, listed), (Ok(table.len()), Ok(sets.len())));
+    let results = Results {
+        table,
+        verdict,
+        sets,
+    };
+    (results, [first, second, third])
+}
+
+fn timed<T>(work: impl FnOnce() -> T) -> (T, u128) {
+    let began = Instant::now();
+    let result = black_box(work());
+    (result, began.elapsed().as_nanos())
+}
+
+fn print(sets: usize, calculator: &[Times], baseline: &[Times]) {
+    println!("{sets} sets of 8 of {PARTS} parts; microseconds, median of {ROUNDS} rounds each");
+    println!("buffers not cleared first: filled with a pattern before each call, outside its time");
+    println!(
+        "{:<14}{:>12}{:>12}{:>8}",
+        "", "calculator", "baseline", "ratio"
+    );
+    for step in 0..STEPS.len() {
+        print_row(STEPS[step], calculator, baseline, |times| times[step]);
+    }
+    print_row("in all", calculator, baseline, |times| times.iter().sum());
+}
+
+fn print_row(
+    name: &str,
+    calculator: &[Times],
+    baseline: &[Times],
+    part: impl Fn(&Times) -> u128 + Copy,
+) {
+    let (ours, theirs) = (median(calculator, part), median(baseline, part));
+    println!("{name:<14}{ours:>12.1}{theirs:>12.1}{:>8.2}", ours / theirs);
+}
+
+/// In microseconds.
+fn median(rounds: &[Times], part: impl Fn(&Times) -> u128) -> f64 {
+    let mut times: Vec<u128> = rounds.iter().map(part).collect();
+    times.sort_unstable();
+    times[times.len() / 2] as f64 / 1000.0
+}

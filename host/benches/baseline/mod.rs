@@ -111,8 +111,8 @@ fn accepted(n: usize, table: &[u8]) -> Result<Words, Refusal> {
 /// Carries each path set to the sets with one part more, part by part.
 fn carry(n: usize, works: &mut Words) {
     let used = &mut works[..word_count(n)];
-    for word in used.iter_mut() {
-        for i in 0..n.min(6) {
+    for i in 0..n.min(6) {
+        for word in used.iter_mut() {
             *word |= (*word & WITHOUT[i]) << (1 << i);
         }
     }
@@ -131,8 +131,8 @@ fn carry(n: usize, works: &mut Words) {
 fn is_broken(n: usize, works: &Words) -> bool {
     let used = &works[..word_count(n)];
     let mut broken = 0;
-    for &word in used {
-        for i in 0..n.min(6) {
+    for i in 0..n.min(6) {
+        for word in used {
             broken |= word & WITHOUT[i] & !(word >> (1 << i));
         }
     }
@@ -157,18 +157,16 @@ fn first_broken(n: usize, works: &Words) -> usize {
 
 /// The path sets that without any one part aren't one.
 fn trimmed(n: usize, works: &Words) -> Words {
-    let mut minimal = [0; 1024];
-    let count = word_count(n);
-    for (minimal, &word) in minimal[..count].iter_mut().zip(works) {
-        let mut held = 0;
-        for i in 0..n.min(6) {
-            held |= (word & WITHOUT[i]) << (1 << i);
+    let mut minimal = *works;
+    let used = &works[..word_count(n)];
+    for i in 0..n.min(6) {
+        for (minimal, word) in minimal.iter_mut().zip(used) {
+            *minimal &= !((word & WITHOUT[i]) << (1 << i));
         }
-        *minimal = word & !held;
     }
     for i in 6..n {
         let step = 1 << (i - 6);
-        let blocks = works[..count].chunks_exact(2 * step);
+        let blocks = used.chunks_exact(2 * step);
         for (block, minimal) in blocks.zip(minimal.chunks_exact_mut(2 * step)) {
             for (minimal, low) in minimal[step..].iter_mut().zip(&block[..step]) {
                 *minimal &= !low;

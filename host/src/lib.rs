@@ -1,6 +1,9 @@
 //! Safe calls of the calculator's static library, on Rust slices.
 //!
 //! Every function takes every input: where the calculator refuses, the answer is a [`Refusal`] and what was lent is as it was.
+//!
+//! `./check` runs the tests. `cargo bench --manifest-path host/Cargo.toml` runs the benchmarks, once `rt staticlib nahokipe` has written
+//! the archive.
 
 use std::fmt;
 

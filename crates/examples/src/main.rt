@@ -35,7 +35,11 @@ fn lists() {
     list(b"n = 2, {1,2}", 2, &[3]);
     list(b"n = 2, {1}", 2, &[1]);
     list(b"the bridge", 5, &[9, 18, 21, 14]);
-    list(b"the bridge, with repeats and nested sets", 5, &[31, 9, 9, 18, 27, 21, 14]);
+    list(
+        b"the bridge, with repeats and nested sets",
+        5,
+        &[31, 9, 9, 18, 27, 21, 14],
+    );
     list(b"n = 2, no set", 2, &[]);
     list(b"n = 2, {1} {3}", 2, &[1, 4]);
     list(b"n = 2, {1} and the empty set", 2, &[1, 0]);

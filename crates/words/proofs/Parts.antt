@@ -105,9 +105,9 @@ module _ (words : List ℕ) (at part s : ℕ) (hp : 6 ≤ part) (e : s ≡ 2 ^ (
   step = ap (λ (x : ℕ). 2 ^ x) (sym (add-sub-of-le hp)) ∙ pow-add 2 6 (part - 6) ∙ ap (λ (x : ℕ). 64 * x) (sym e)
 
   -- the test of the word's index
-  module _ (t : at / s % 2 ≡ 1) where
+  module _ (t : at / 2 ^ (part - 6) % 2 ≡ 1) where
     stands : has at (part - 6) ≡ true
-    stands = bit-of-odd at (part - 6) (subst (λ (x : ℕ). at / x % 2 ≡ 1) e t)
+    stands = bit-of-odd at (part - 6) t
 
     pub step-le : s ≤ at
     step-le = subst (λ (x : ℕ). x ≤ at) (sym e) (has-le at (part - 6) stands)
@@ -122,11 +122,11 @@ module _ (words : List ℕ) (at part s : ℕ) (hp : 6 ≤ part) (e : s ≡ 2 ^ (
     with-all =
         wordOf-unique (with part (inWords words)) at (2 ^ 64 - 1) (omega arith) (λ k h. has-full 64 k h ∙ sym (rw (index k h, stands)))
 
-  module _ (f : at / s % 2 ≡ 1 → ⊥) where
+  module _ (f : at / 2 ^ (part - 6) % 2 ≡ 1 → ⊥) where
     absent : has at (part - 6) ≡ false
     absent =
-        bit-of-even at (part - 6) (subst (λ (x : ℕ). at / x % 2 ≡ 0) e
-        (let rest : at / s % 2 < 2 = mod-lt (at / s) (zero-lt-suc 1) in omega arith))
+        bit-of-even at (part - 6)
+        (let rest : at / 2 ^ (part - 6) % 2 < 2 = mod-lt (at / 2 ^ (part - 6)) (zero-lt-suc 1) in omega arith)
 
     pub step-below : at < 1024 → part < 16 → at + s < 1024
     step-below ha hq = subst (λ (x : ℕ). at + x < 1024) (sym e) (add-below 10 at (part - 6) ha (omega arith) absent)

@@ -173,9 +173,9 @@ fn without(words: &[u64], at: usize, part: usize) -> u64
     if part < 6 {
         return (word(words, at) & lacking(part)) << weight(part);
     }
-    let step = weight(part - 6);
-    if at / step % 2 == 1 {
-        word(words, at - step)
+    let high = part - 6;
+    if (at >> high) % 2 == 1 {
+        word(words, at - weight(high))
     } else {
         0
     }
@@ -190,11 +190,11 @@ fn with(words: &[u64], at: usize, part: usize) -> u64
     if part < 6 {
         return (word(words, at) >> weight(part)) | !lacking(part);
     }
-    let step = weight(part - 6);
-    if at / step % 2 == 1 {
+    let high = part - 6;
+    if (at >> high) % 2 == 1 {
         0xFFFF_FFFF_FFFF_FFFF
     } else {
-        word(words, at + step)
+        word(words, at + weight(high))
     }
 }
 
@@ -285,5 +285,11 @@ fn lowest(word: u64) -> usize
     requires { ⌜ (word ≡ 0 → ⊥) ⌝ }
     ensures { λ r. ⌜ Lowest word r ⌝ }
 {
-    u64::trailing_zeros(word) as usize
+    wide(u64::trailing_zeros(word))
+}
+
+fn wide(count: u32) -> usize
+    ensures { λ r. ⌜ r ≡ count ⌝ }
+{
+    count as usize
 }

@@ -1,13 +1,13 @@
 -- `words::with` meets its contract: below 6 the part is a shift inside the word, and from 6 on it leads to a higher word, where the word's
 -- index lacks it.
 -- Assumes nothing.
-use mathlib.Core.Path.{sym, ap, ap₂, _∙_, subst}
+use mathlib.Core.Path.{refl, sym, ap, ap₂, _∙_, subst}
 use mathlib.Core.Bool.{not}
 use Prim.Native.Nat.{ℕ, _+_, _-_, _/_, _^_, _<_}
 use native.Mathlib.Omega.{arith}
 use denote.Ref.{now}
 use lib.ListN.{getD}
-use lib.Pow.{pow-pos, pow-lt}
+use lib.Pow.{pow-lt}
 use Rattle.sets.specs.Masks.{has, join}
 use Rattle.sets.specs.Tables.{packed}
 use Rattle.words.proofs.Parts.{with-low, with-high, with-all, step-below}
@@ -37,19 +37,19 @@ returns c =
     ∙ ap (λ (w : ℕ). join (w / 2 ^ (2 ^ (a .part))) (2 ^ 64 - 1 - packed 64 (λ k. not (has k (a .part))))) (got .ensures)
     ∙ with-low words (a .at) (a .part) (c .before .before .before .if1 .taken) fits
 
+shr-if2 : tie.Need-shr-if2
+shr-if2 c = search needs
+
 weight-requires-2 : tie.Need-weight-requires-2
 weight-requires-2 c κs = search needs
-
-div-if2 : tie.Need-div-if2
-div-if2 c = subst (λ (x : ℕ). 0 < x) (sym (c .weight2 .ensures)) (pow-pos (c .before .before .before .args .part - 6))
 
 add-word : tie.Need-add-word
 add-word c =
     let start = c .before .before .before .before in
     let a = start .args in
-    let above : a .at + c .before .weight2 .result < 1024 =
-    step-below (now (a .words)) (a .at) (a .part) (c .before .weight2 .result) (c .before .before .if1 .left) (c .before .weight2 .ensures)
-    (c .if2 .left) (start .pre .0) (start .pre .1) in
+    let above : a .at + c .weight2 .result < 1024 =
+    step-below (now (a .words)) (a .at) (a .part) (c .weight2 .result) (c .before .before .if1 .left) (c .weight2 .ensures)
+    (c .before .if2 .left) (start .pre .0) (start .pre .1) in
     omega arith
 
 word-requires-2 : tie.Need-word-requires-2
@@ -57,15 +57,15 @@ word-requires-2 c κs = search needs
 
 returns-2 : tie.Need-returns-2
 returns-2 c =
-    let a = c .before .before .before .before .args in
-    with-all (now (a .words)) (a .at) (a .part) (c .before .weight2 .result) (c .before .before .if1 .left) (c .before .weight2 .ensures) (c .if2 .taken)
+    let a = c .before .before .before .args in
+    with-all (now (a .words)) (a .at) (a .part) (2 ^ (a .part - 6)) (c .before .if1 .left) refl (c .if2 .taken)
 
 returns-3 : tie.Need-returns-3
 returns-3 c =
     let a = c .before .before .before .before .before .args in
-    let s = c .before .before .weight2 .result in
+    let step = c .before .weight2 in
     c .word2 .ensures
-    ∙ with-high (now (a .words)) (a .at) (a .part) s (c .before .before .before .if1 .left) (c .before .before .weight2 .ensures) (c .before .if2 .left)
+    ∙ with-high (now (a .words)) (a .at) (a .part) (step .result) (c .before .before .before .if1 .left) (step .ensures) (c .before .before .if2 .left)
     (subst (λ (w : ℕ). w < 2 ^ 64) (c .word2 .ensures) (omega (arith, c .word2 .ok)))
 
 pub with-spec : {M : Type 1} → statement M
@@ -77,8 +77,8 @@ with-spec =
     shr-result
     lacking-requires
     returns
+    shr-if2
     weight-requires-2
-    div-if2
     add-word
     word-requires-2
     returns-2

@@ -1,13 +1,13 @@
 -- `words::without` meets its contract: below 6 the part is a shift inside the word, and from 6 on it leads to a lower word, where the
 -- word's index has it.
 -- Assumes nothing.
-use mathlib.Core.Path.{sym, ap, ap₂, _∙_, subst}
+use mathlib.Core.Path.{refl, sym, ap, ap₂, _∙_, subst}
 use mathlib.Core.Bool.{not}
 use Prim.Native.Nat.{ℕ, _-_, _*_, _%_, _^_, _<_}
 use native.Mathlib.Omega.{arith}
 use denote.Ref.{now}
 use lib.ListN.{getD}
-use lib.Pow.{pow-pos, pow-lt}
+use lib.Pow.{pow-lt}
 use Rattle.sets.specs.Masks.{has, meet}
 use Rattle.sets.specs.Tables.{packed}
 use Rattle.words.proofs.Parts.{without-low, without-high, without-none, step-le}
@@ -37,16 +37,16 @@ returns c =
     ∙ ap (λ (w : ℕ). meet w (packed 64 (λ k. not (has k (a .part)))) * 2 ^ (2 ^ (a .part)) % 2 ^ 64) (got .ensures)
     ∙ without-low words (a .at) (a .part) (c .before .before .before .if1 .taken) fits
 
+shr-if2 : tie.Need-shr-if2
+shr-if2 c = search needs
+
 weight-requires-2 : tie.Need-weight-requires-2
 weight-requires-2 c κs = search needs
-
-div-if2 : tie.Need-div-if2
-div-if2 c = subst (λ (x : ℕ). 0 < x) (sym (c .weight2 .ensures)) (pow-pos (c .before .before .before .args .part - 6))
 
 sub-word : tie.Need-sub-word
 sub-word c =
     let a = c .before .before .before .before .args in
-    step-le (now (a .words)) (a .at) (a .part) (c .before .weight2 .result) (c .before .before .if1 .left) (c .before .weight2 .ensures) (c .if2 .taken)
+    step-le (now (a .words)) (a .at) (a .part) (c .weight2 .result) (c .before .before .if1 .left) (c .weight2 .ensures) (c .before .if2 .taken)
 
 word-requires-2 : tie.Need-word-requires-2
 word-requires-2 c κs = search needs
@@ -54,16 +54,15 @@ word-requires-2 c κs = search needs
 returns-2 : tie.Need-returns-2
 returns-2 c =
     let a = c .before .before .before .before .before .args in
-    let s = c .before .before .weight2 .result in
-    let words = now (a .words) in
+    let step = c .before .weight2 in
     c .word2 .ensures
-    ∙ without-high words (a .at) (a .part) s (c .before .before .before .if1 .left) (c .before .before .weight2 .ensures) (c .before .if2 .taken)
+    ∙ without-high (now (a .words)) (a .at) (a .part) (step .result) (c .before .before .before .if1 .left) (step .ensures) (c .before .before .if2 .taken)
     (subst (λ (w : ℕ). w < 2 ^ 64) (c .word2 .ensures) (omega (arith, c .word2 .ok)))
 
 returns-3 : tie.Need-returns-3
 returns-3 c =
-    let a = c .before .before .before .before .args in
-    without-none (now (a .words)) (a .at) (a .part) (c .before .weight2 .result) (c .before .before .if1 .left) (c .before .weight2 .ensures) (c .if2 .left)
+    let a = c .before .before .before .args in
+    without-none (now (a .words)) (a .at) (a .part) (2 ^ (a .part - 6)) (c .before .if1 .left) refl (c .if2 .left)
 
 pub without-spec : {M : Type 1} → statement M
 without-spec =
@@ -74,8 +73,8 @@ without-spec =
     weight-requires
     shl-result
     returns
+    shr-if2
     weight-requires-2
-    div-if2
     sub-word
     word-requires-2
     returns-2

@@ -1,9 +1,9 @@
 -- First laws of factorials and binomials, and what `upTo16` gives on either side of its bound.
 -- Assumes nothing.
-use mathlib.Core.Path.{_≡_, refl, ap, ap₂, _∙_}
+use mathlib.Core.Path.{_≡_, refl, ap, ap₂}
 use mathlib.Core.Bool.{Bool, cond}
-use Prim.Native.Nat.{ℕ, zero, suc, _+_, _*_, _≤_, _<_}
-use native.Mathlib.Nat.{zero-add, le-of-suc-le-suc, not-suc-le-zero, le-of-lt, mul-pos, zero-lt-suc}
+use Prim.Native.Nat.{ℕ, zero, suc, _+_, _≤_, _<_}
+use native.Mathlib.Nat.{le-of-suc-le-suc, not-suc-le-zero, le-of-lt, mul-pos, zero-lt-suc}
 use borrow.Author.Tests.{le-leb, lt-leb}
 use Rattle.numbers.specs.Counts.{factorial, choose, upTo16}
 

@@ -7,7 +7,7 @@ use mathlib.Core.List.{List, [], _∷_, List·Memᴰ, List·Memᴰ·head, List·
 use mathlib.Core.Logic.{_⊎_, inl, inr}
 use Prim.Native.Nat.{ℕ, _-_, _^_, _<_}
 use native.Mathlib.Nat.{lt-of-le-of-lt, lt-irrefl, lt-of-lt-of-le}
-use Rattle.sets.specs.Masks.{holds, those, Rising}
+use Rattle.sets.specs.Masks.{holds, Rising}
 use Rattle.sets.specs.Structures.{Semicoherent, listed, minimal, minimalSets}
 use Rattle.sets.proofs.Bools.{or-cases, or-left, or-right, clash, false-of, same-test}
 use Rattle.sets.proofs.Masks.{holds-refl, holds-trans, holds-le, holds-antisym, full-holds}

@@ -1,23 +1,21 @@
 -- Laws of structures: monotony by single parts is monotony; every path set holds a minimal one; a list of sets gives a semicoherent
 -- structure, its minimal sets give back the structure, and a rising list of sets none of which holds another is its own minimal sets.
 -- Assumes nothing.
-use mathlib.Core.Path.{_≡_, refl, sym, ap, ap₂, _∙_, subst}
-use mathlib.Core.Bool.{Bool, true, false, not, _&&_, _||_}
-use mathlib.Core.List.{List, [], _∷_, List·Memᴰ, List·Memᴰ·head, List·Memᴰ·tail, List·Memᴰ·not-nil, List·Memᴰ·cases-cons}
+use mathlib.Core.Path.{_≡_, sym, ap, ap₂, _∙_, subst}
+use mathlib.Core.Bool.{Bool, true, false, not, _&&_}
 use mathlib.Core.Logic.{_⊎_, inl, inr}
-use Prim.Native.Nat.{ℕ, zero, suc, _+_, _-_, _/_, _%_, _^_, _≤_, _<_}
-use native.Mathlib.Nat.{not-suc-le-zero, le-of-suc-le-suc, le-refl, lt-of-le-of-lt, div-one, add-div-right, le-of-lt, lt-irrefl, lt-of-lt-of-le, le-trans, div-eq-of-lt}
+use Prim.Native.Nat.{ℕ, zero, suc, _+_, _-_, _/_, _^_, _≤_, _<_}
+use native.Mathlib.Nat.{not-suc-le-zero, le-of-suc-le-suc, le-refl, lt-of-le-of-lt, div-one, add-div-right, le-of-lt, lt-of-lt-of-le, le-trans, div-eq-of-lt}
 use native.Mathlib.Omega.{arith}
-use lib.Arith.{lt-of-le-ne, le-zero}
+use lib.Arith.{lt-of-le-ne}
 use lib.Dec.{eqb}
-use lib.ListN.{length}
 use lib.Pow.{pow-pos, ones-lt}
-use borrow.Author.Tests.{eqb-true, eqb-false, eq-eqb, ne-eqb, not-true, not-false}
-use Rattle.sets.specs.Masks.{has, holds, any, those, Rising}
-use Rattle.sets.specs.Structures.{Semicoherent, listed, broken, minimal, minimalSets}
-use Rattle.sets.proofs.Bools.{and-left, and-right, and-both, or-cases, or-left, or-right, clash, false-of, same-test, true-or-false}
-use Rattle.sets.proofs.Masks.{has-add, holds-part, holds-of-parts, holds-refl, holds-trans, holds-le, holds-antisym, holds-add, holds-with, add-below, full-holds, quotient-half, quotient-odd, quotient-even}
-use Rattle.sets.proofs.Ranges.{any-intro, any-elim, any-none, any-false, any-same, those-same, those-elim, those-intro, those-rising, rising-unique}
+use borrow.Author.Tests.{eqb-true, eqb-false, not-true, not-false}
+use Rattle.sets.specs.Masks.{has, holds, any}
+use Rattle.sets.specs.Structures.{Semicoherent, broken, minimal, minimalSets}
+use Rattle.sets.proofs.Bools.{and-left, and-right, and-both, clash, true-or-false}
+use Rattle.sets.proofs.Masks.{holds-part, holds-refl, holds-trans, holds-le, holds-add, holds-with, add-below, quotient-half, quotient-odd, quotient-even}
+use Rattle.sets.proofs.Ranges.{any-elim, any-none, any-false, any-same, those-same}
 
 -- ---- monotony by single parts
 

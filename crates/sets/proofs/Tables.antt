@@ -11,7 +11,6 @@ use lib.Dec.{eqb, ltb}
 use lib.ListN.{length, getD, List·getD-eq-default}
 use lib.Pow.{pow-mono, pow-add, pow-pos}
 use borrow.Author.Tests.{lt-ltb}
-use Rattle.numbers.specs.Tables.{tabulate}
 use Rattle.numbers.proofs.Tables.{tabulate-length, tabulate-at}
 use Rattle.sets.specs.Masks.{has}
 use Rattle.sets.specs.Tables.{packed, inTable, tableLength, tableOf}

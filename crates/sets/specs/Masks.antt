@@ -1,5 +1,5 @@
 -- Sets of parts as masks (01, "Structures"): the part at position i, from 1, is bit i - 1 of the mask.
-use mathlib.Core.Bool.{Bool, true, false, cond, not, _&&_, _||_}
+use mathlib.Core.Bool.{Bool, false, cond, _||_}
 use mathlib.Core.List.{List, [], _∷_, _++_}
 use Prim.Native.Nat.{ℕ, zero, suc, _/_, _%_, _^_, _≤_}
 use lib.Bits.{bitAnd, bitOr}

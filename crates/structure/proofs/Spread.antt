@@ -11,7 +11,7 @@ use lib.Dec.{eqb}
 use lib.ListN.{length, getD}
 use lib.Pow.{pow-pos}
 use borrow.Author.Tests.{eqb-true, eq-eqb}
-use Rattle.sets.specs.Masks.{has, holds, any}
+use Rattle.sets.specs.Masks.{has, holds}
 use Rattle.sets.specs.Structures.{listed}
 use Rattle.sets.proofs.Bools.{and-left, and-right, and-both, or-cases, or-left, or-right, true-or-false, clash, same-test, false-of}
 use Rattle.sets.proofs.Lists.{listed-intro, listed-elim}

@@ -8,7 +8,7 @@ use native.Mathlib.Nat.{lt-of-le-of-lt, sub-le}
 use native.Mathlib.Omega.{arith}
 use lib.Pow.{pow-pos}
 use borrow.Author.Tests.{not-true}
-use Rattle.sets.specs.Masks.{has, holds, any}
+use Rattle.sets.specs.Masks.{has, holds}
 use Rattle.sets.specs.Structures.{Semicoherent, minimal}
 use Rattle.sets.proofs.Bools.{and-left, and-right, and-both, clash, same-test}
 use Rattle.sets.proofs.Masks.{has-le, holds-sub, holds-without, lacking}

@@ -1,14 +1,14 @@
 -- What the words give: the minimal sets and the first broken set of a table, and the bytes of a list's table.
 -- Assumes nothing.
-use mathlib.Core.Path.{_≡_, refl, sym, ap, ap₂, _∙_, subst}
+use mathlib.Core.Path.{_≡_, sym, ap, ap₂, _∙_}
 use mathlib.Core.Bool.{Bool, true, false, not, _&&_, _||_}
-use mathlib.Core.List.{List, []}
+use mathlib.Core.List.{List}
 use mathlib.Core.Logic.{_⊎_, inl, inr}
 use Prim.Native.Nat.{ℕ, zero, suc, _+_, _-_, _*_, _^_, _≤_, _<_, min}
-use native.Mathlib.Nat.{add-sub-of-le, sub-le, lt-of-le-of-lt, lt-of-lt-of-le, min-eq-left, le-trans}
+use native.Mathlib.Nat.{add-sub-of-le, sub-le, lt-of-le-of-lt, lt-of-lt-of-le, min-eq-left}
 use native.Mathlib.Omega.{arith}
 use lib.Dec.{ltb}
-use lib.ListN.{length, getD}
+use lib.ListN.{getD}
 use lib.Pow.{pow-mono}
 use borrow.Author.Tests.{lt-ltb, le-ltb}
 use Rattle.numbers.specs.Tables.{tabulate}
@@ -21,7 +21,7 @@ use Rattle.sets.proofs.Masks.{add-below}
 use Rattle.sets.proofs.Ranges.{any-same, those-same, those-skip, those-empty, least-some, below-or-above}
 use Rattle.sets.proofs.Tables.{packed-same, tableLength-small, tableLength-large}
 use Rattle.words.specs.Words.{inWords, wordsOf, among}
-use Rattle.words.specs.Steps.{without, spare, spread, trimmed}
+use Rattle.words.specs.Steps.{without, spread, trimmed}
 use Rattle.words.proofs.Words.{inWords-wordsOf}
 use Rattle.structure.proofs.Spread.{spread-listed, spread-beyond}
 use Rattle.structure.proofs.Trimmed.{trimmed-minimal}

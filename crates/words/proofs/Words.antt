@@ -1,7 +1,7 @@
 -- Laws of words: what bit of which word a mask is, and that the machine's operations on words are those on set functions.
 -- Assumes nothing.
-use mathlib.Core.Path.{_≡_, refl, sym, ap, ap₂, _∙_, subst}
-use mathlib.Core.Bool.{Bool, true, false, not, _&&_, _||_}
+use mathlib.Core.Path.{_≡_, sym, ap, ap₂, _∙_, subst}
+use mathlib.Core.Bool.{Bool, false, not, _&&_, _||_}
 use mathlib.Core.List.{List}
 use Prim.Native.Nat.{ℕ, _+_, _-_, _*_, _/_, _%_, _^_, _<_, zero-le}
 use native.Mathlib.Decide.{ℕ-discrete}
@@ -16,7 +16,6 @@ use lib.Seq.{getD-set-same, getD-set-other}
 use borrow.Author.Tests.{eqb-true, eq-eqb, ne-eqb}
 use Rattle.numbers.proofs.Tables.{tabulate-at, tabulate-length, tabulate-unique}
 use Rattle.sets.specs.Masks.{has, meet, join, any}
-use Rattle.sets.specs.Tables.{packed}
 use Rattle.sets.proofs.Bools.{same-test, or-false}
 use Rattle.sets.proofs.Masks.{has-above, has-add, has-meet, has-join}
 use Rattle.sets.proofs.Tables.{has-packed, packed-below, packed-unique}

@@ -2,6 +2,7 @@
 -- Assumes nothing.
 use mathlib.Core.Path.{_≡_, refl, ap₂, _∙_}
 use mathlib.Core.Bool.{_||_}
+use mathlib.Core.List.{List}
 use Prim.Native.Nat.{ℕ, _-_, _≤_}
 use native.Mathlib.Omega.{arith}
 use denote.Ref.{now}
@@ -14,14 +15,18 @@ use borrow.Author.Needs.{needs}
 use Rattle.words.proofs.carried_over.Statement.{statement}
 use Rattle.words.proofs.carried_over.Tie as tie
 
+-- word `at` of the sets that work, or work without the part
+abbrev carriedWord : List ℕ → ℕ → ℕ → ℕ
+carriedWord words part at = wordOf (λ a. inWords words a || without part (inWords words) a) at
+
 abbrev Inv-loop : tie.InvT-loop
-Inv-loop words part next₀ at₀ next at = (at ≤ 1024) × (next ≡ filled (wordOf (λ a. inWords words a || without part (inWords words) a)) next₀ at)
+Inv-loop words part next₀ at₀ next at = (at ≤ 1024) × (next ≡ filled (carriedWord words part) next₀ at)
 
 abbrev μ-loop : tie.MeasureT-loop
 μ-loop words part next₀ at₀ next at = 1024 - at
 
 loop-holds : tie.Need-loop-holds Inv-loop μ-loop
-loop-holds c = (omega arith, filled-none (wordOf (λ a. inWords (now (c .before .args .words)) a || without (c .before .args .part) (inWords (now (c .before .args .words))) a)) _)
+loop-holds c = (omega arith, filled-none (carriedWord (now (c .before .args .words)) (c .before .args .part)) _)
 
 word-requires : tie.Need-word-requires Inv-loop μ-loop
 word-requires c κs = search needs
@@ -45,12 +50,21 @@ loop-again : tie.Need-loop-again Inv-loop μ-loop
 loop-again c =
     let head = c .before .before .before in
     let at = head .loop .at in
-    (omega arith, filled-again (wordOf (λ a. inWords (now (head .before .before .args .words)) a || without (head .before .before .args .part) (inWords (now (head .before .before .args .words))) a)) _ at _ (head .loop .next) (head .loop .inv .1) (omega arith) (ap₂ (λ (x y : ℕ). join x y) (word-is (now (head .before .before .args .words)) at (c .before .word .result) (c .before .word .ensures) (omega (arith, c .before .word .ok))) (c .without .ensures) ∙ wordOf-or (inWords (now (head .before .before .args .words))) (without (head .before .before .args .part) (inWords (now (head .before .before .args .words)))) at))
+    let words = now (head .before .before .args .words) in
+    let part = head .before .before .args .part in
+    let read = c .before .word in (
+      omega arith,
+      filled-again (carriedWord words part) _ at _ (head .loop .next) (head .loop .inv .1) (omega arith)
+          (ap₂ (λ (x y : ℕ). join x y) (word-is words at (read .result) (read .ensures) (omega (arith, read .ok))) (c .without .ensures)
+          ∙ wordOf-or (inWords words) (without part (inWords words)) at),
+    )
 
 returns : tie.Need-returns Inv-loop μ-loop
 returns c =
     let head = c .before in
-    filled-end (wordOf (λ a. inWords (now (head .before .before .args .words)) a || without (head .before .before .args .part) (inWords (now (head .before .before .args .words))) a)) _ (head .loop .at) 1024 (head .loop .next) (head .loop .inv .1) (head .loop .inv .0) (c .loop-test .left) refl
+    let a = head .before .before .args in
+    filled-end (carriedWord (now (a .words)) (a .part)) _ (head .loop .at) 1024 (head .loop .next) (head .loop .inv .1) (head .loop .inv .0)
+    (c .loop-test .left) refl
 
 pub carried-over-spec : {M : Type 1} → statement M
 carried-over-spec =

@@ -1,7 +1,7 @@
 -- `words::count` meets its contract: each word adds as many sets as it has bits set.
 -- Assumes nothing.
-use mathlib.Core.Path.{_≡_, refl, sym, ap, ap₂, _∙_, subst}
-use Prim.Native.Nat.{ℕ, _+_, _-_, _*_, _%_, _^_, _≤_, _<_}
+use mathlib.Core.Path.{_≡_, refl, sym, ap, ap₂, _∙_}
+use Prim.Native.Nat.{ℕ, _+_, _-_, _*_, _%_, _^_, _≤_}
 use native.Mathlib.Nat.{add-comm, mod-eq-of-lt, le-refl}
 use native.Mathlib.Omega.{arith}
 use denote.Ref.{now}

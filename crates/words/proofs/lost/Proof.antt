@@ -39,7 +39,16 @@ loop-less c = omega arith
 loop-again : tie.Need-loop-again Inv-loop μ-loop
 loop-again c =
     let head = c .before .before in
-    (omega arith, (head .loop .inv .1 .0, any-word-more (λ p a. not (has a p) && not (inWords (now (head .before .before .before .args .words)) (a + 2 ^ p))) _ (head .loop .part) (head .loop .some) _ (head .loop .inv .1 .1) (lost-part (inWords (now (c .before .before .before .before .before .args .words))) (c .before .before .before .before .before .args .at) (c .before .before .loop .part) (c .with .result) (c .with .ensures))))
+    let a = head .before .before .before .args in
+    let works = inWords (now (a .words)) in
+    let part = head .loop .part in (
+      omega arith,
+      (
+        head .loop .inv .1 .0,
+        any-word-more (λ p m. not (has m p) && not (works (m + 2 ^ p))) _ part (head .loop .some) _ (head .loop .inv .1 .1)
+            (lost-part works (a .at) part (c .with .result) (c .with .ensures)),
+      ),
+    )
 
 returns : tie.Need-returns Inv-loop μ-loop
 returns c =

@@ -12,7 +12,7 @@ use lib.Dec.{eqb}
 use lib.ListN.{length, getD, set}
 use lib.Pow.{pow-lt}
 use Rattle.sets.specs.Masks.{any, join}
-use Rattle.words.specs.Words.{wordOf, wordsOf}
+use Rattle.words.specs.Words.{wordsOf}
 use Rattle.words.proofs.Words.{marked-more, wordsOf-none}
 use borrow.Author.Needs.{needs}
 use Rattle.words.proofs.marked.Statement.{statement}

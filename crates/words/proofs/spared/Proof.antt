@@ -36,7 +36,13 @@ loop-less c = omega arith
 loop-again : tie.Need-loop-again Inv-loop μ-loop
 loop-again c =
     let head = c .before .before in
-    (omega arith, (head .loop .inv .1 .0, any-word-more (λ p a. without p (inWords (now (head .before .before .before .args .words))) a) _ (head .loop .part) (head .loop .some) _ (head .loop .inv .1 .1) (c .without .ensures)))
+    let works = inWords (now (head .before .before .before .args .words)) in (
+      omega arith,
+      (
+        head .loop .inv .1 .0,
+        any-word-more (λ p a. without p works a) _ (head .loop .part) (head .loop .some) _ (head .loop .inv .1 .1) (c .without .ensures),
+      ),
+    )
 
 returns : tie.Need-returns Inv-loop μ-loop
 returns c =

@@ -1,7 +1,7 @@
 -- `words::trimmed` meets its contract: of the sets that work those are left out that work without a single part.
 -- Assumes nothing.
 use mathlib.Core.Path.{_≡_, refl}
-use Prim.Native.Nat.{ℕ, _-_, _≤_, min}
+use Prim.Native.Nat.{_-_, _≤_, min}
 use native.Mathlib.Omega.{arith}
 use denote.Ref.{now}
 use Rattle.numbers.proofs.Tables.{filled, filled-none, filled-again, filled-end}
@@ -44,12 +44,21 @@ unfolding trimmed
 loop-again c =
     let head = c .before .before .before in
     let at = head .loop .at in
-    (omega arith, filled-again (wordOf (trimmed (min (head .before .before .args .parts) 16) (inWords (now (head .before .before .args .words))))) _ at _ (head .loop .next) (head .loop .inv .1) (omega arith) (wordOf-but (inWords (now (head .before .before .args .words))) (spare (min (head .before .before .args .parts) 16) (inWords (now (head .before .before .args .words)))) at (c .before .word .result) (c .spared .result) (word-is (now (head .before .before .args .words)) at (c .before .word .result) (c .before .word .ensures) (omega (arith, c .before .word .ok))) (c .spared .ensures)))
+    let a = head .before .before .args in
+    let works = inWords (now (a .words)) in
+    let read = c .before .word in (
+      omega arith,
+      filled-again (wordOf (trimmed (min (a .parts) 16) works)) _ at _ (head .loop .next) (head .loop .inv .1) (omega arith)
+          (wordOf-but works (spare (min (a .parts) 16) works) at (read .result) (c .spared .result)
+          (word-is (now (a .words)) at (read .result) (read .ensures) (omega (arith, read .ok))) (c .spared .ensures)),
+    )
 
 returns : tie.Need-returns Inv-loop μ-loop
 returns c =
     let head = c .before in
-    filled-end (wordOf (trimmed (min (head .before .before .args .parts) 16) (inWords (now (head .before .before .args .words))))) _ (head .loop .at) 1024 (head .loop .next) (head .loop .inv .1) (head .loop .inv .0) (c .loop-test .left) refl
+    let a = head .before .before .args in
+    filled-end (wordOf (trimmed (min (a .parts) 16) (inWords (now (a .words))))) _ (head .loop .at) 1024 (head .loop .next) (head .loop .inv .1)
+    (head .loop .inv .0) (c .loop-test .left) refl
 
 pub trimmed-spec : {M : Type 1} → statement M
 trimmed-spec =

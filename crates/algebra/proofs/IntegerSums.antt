@@ -1,9 +1,10 @@
--- Laws of sums of integers over the numbers below a bound: equal, added, multiplied and negated terms, and two sums exchanged.
+-- Laws of sums of integers over the numbers below a bound: equal, added, multiplied and negated terms, two sums exchanged, and the
+-- terms from the first on and in the opposite order.
 -- Assumes nothing.
 use mathlib.Core.Path.{_≡_, refl, sym, ap, ap₂, _∙_}
-use Prim.Native.Nat.{ℕ, zero, suc, _<_}
-use native.Mathlib.Nat.{le-step, lt-suc-self}
-use lib.IntN.{ℤ, pos, negℤ, _+ℤ_, _*ℤ_, *ℤ-zero, negℤ-+ℤ}
+use Prim.Native.Nat.{ℕ, zero, suc, _-_, _<_}
+use native.Mathlib.Nat.{le-step, lt-suc-self, sub-zero, suc-sub-suc}
+use lib.IntN.{ℤ, pos, negℤ, _+ℤ_, _*ℤ_, +ℤ-idl, +ℤ-idr, +ℤ-assoc, +ℤ-comm, *ℤ-zero, negℤ-+ℤ}
 use Rattle.algebra.specs.Sums.{sumBelowℤ}
 use Rattle.algebra.proofs.Integers.{*ℤ-+ℤ, ring}
 
@@ -40,3 +41,20 @@ unfolding sumBelowℤ
 sumBelowℤ-exchange f zero l = sym (sumBelowℤ-zero l)
 sumBelowℤ-exchange f (suc k) l =
     ap (λ (u : ℤ). u +ℤ sumBelowℤ (f k) l) (sumBelowℤ-exchange f k l) ∙ sym (sumBelowℤ-add (λ j. sumBelowℤ (λ i. f i j) k) (f k) l)
+
+-- the first term apart
+pub sumBelowℤ-first : (f : ℕ → ℤ) (k : ℕ) → sumBelowℤ f (suc k) ≡ f 0 +ℤ sumBelowℤ (λ i. f (suc i)) k
+unfolding sumBelowℤ
+sumBelowℤ-first f zero = +ℤ-idl (f 0) ∙ sym (+ℤ-idr (f 0))
+sumBelowℤ-first f (suc k) =
+    ap (λ (u : ℤ). u +ℤ f (suc k)) (sumBelowℤ-first f k) ∙ +ℤ-assoc (f 0) (sumBelowℤ (λ i. f (suc i)) k) (f (suc k))
+
+-- the terms in the opposite order
+pub sumBelowℤ-reversed : (f : ℕ → ℤ) (d : ℕ) → sumBelowℤ (λ i. f (d - i)) (suc d) ≡ sumBelowℤ f (suc d)
+unfolding sumBelowℤ
+sumBelowℤ-reversed f zero = ap (λ (u : ℤ). pos 0 +ℤ u) (ap f (sub-zero 0))
+sumBelowℤ-reversed f (suc d) =
+    sumBelowℤ-first (λ i. f (suc d - i)) (suc d)
+    ∙ ap₂ (λ (u v : ℤ). u +ℤ v) (ap f (sub-zero (suc d)))
+    (sumBelowℤ-same _ (λ i. f (d - i)) (suc d) (λ i l. ap f (suc-sub-suc d i)) ∙ sumBelowℤ-reversed f d)
+    ∙ +ℤ-comm (f (suc d)) (sumBelowℤ f (suc d))

@@ -1,12 +1,14 @@
 -- Laws of sums over lists and over the numbers below a bound: sums of equal, of larger, of added and of multiplied terms, sums over joined
--- lists and ranges, and two sums exchanged. Assumes nothing.
+-- lists and ranges, two sums exchanged, and parts of a sum. Assumes nothing.
 use mathlib.Core.Path.{_≡_, refl, sym, ap, ap₂, _∙_}
 use mathlib.Core.Bool.{Bool, true, false, _&&_, _||_}
 use mathlib.Core.List.{List, [], _∷_, _++_, map, flatMap, List·Memᴰ, List·Memᴰ·head, List·Memᴰ·tail}
+use mathlib.Core.Logic.{_⊎_, inl, inr}
 use Prim.Native.Nat.{ℕ, zero, suc, _+_, _*_, _^_, _≤_, _<_}
-use native.Mathlib.Nat.{add-zero, zero-add, add-suc, add-assoc, mul-zero, mul-add, mul-comm, two-pow-succ, le-refl, le-step, lt-suc-self, add-le-add, add-comm}
+use native.Mathlib.Nat.{le-trans, le-of-suc-le-suc, eq-or-lt-of-le, add-zero, zero-add, add-suc, add-assoc, mul-zero, mul-add, mul-comm, two-pow-succ, le-refl, le-step, lt-suc-self, add-le-add, add-comm}
 use native.Mathlib.Numerals.{add-one}
 use native.Mathlib.Omega.{arith}
+use lib.Arith.{le-zero}
 use lib.Dec.{leb, ltb, eqb, leb·zero, leb·suc-zero, leb·suc-suc, eqb·zero-suc, eqb·suc-zero, eqb·suc-suc}
 use lib.ListN.{length}
 use Rattle.algebra.specs.Sums.{indicator, sum, howMany, some, sumBelow}
@@ -117,6 +119,12 @@ sumBelow-append f k (suc l) =
     ap (sumBelow f) (add-suc k l) ∙ ap (λ (u : ℕ). u + f (k + l)) (sumBelow-append f k l)
     ∙ add-assoc (sumBelow f k) (sumBelow (λ i. f (k + i)) l) (f (k + l))
 
+-- the first term apart
+pub sumBelow-first : (f : ℕ → ℕ) (k : ℕ) → sumBelow f (suc k) ≡ f 0 + sumBelow (λ i. f (suc i)) k
+unfolding sumBelow
+sumBelow-first f zero = omega arith
+sumBelow-first f (suc k) = ap (λ (u : ℕ). u + f (suc k)) (sumBelow-first f k) ∙ omega arith
+
 pub sumBelow-exchange : (f : ℕ → ℕ → ℕ) (k l : ℕ) → sumBelow (λ i. sumBelow (f i) l) k ≡ sumBelow (λ j. sumBelow (λ i. f i j) k) l
 unfolding sumBelow
 sumBelow-exchange f zero l = sym (sumBelow-zero l)
@@ -156,3 +164,18 @@ sumBelow-masks f n =
 pub sumBelow-halves : (f g : ℕ → ℕ) (n : ℕ) → ((a : ℕ) → a < 2 ^ n → g a ≡ f a + f (a + 2 ^ n)) → sumBelow g (2 ^ n) ≡ sumBelow f (2 ^ suc n)
 sumBelow-halves f g n h =
     sumBelow-same g (λ a. f a + f (a + 2 ^ n)) (2 ^ n) h ∙ sumBelow-add f (λ a. f (a + 2 ^ n)) (2 ^ n) ∙ sym (sumBelow-masks f n)
+
+-- ---- a part of a sum is no more than the whole
+
+pub sumBelow-prefix : (f : ℕ → ℕ) (t k : ℕ) → t ≤ k → sumBelow f t ≤ sumBelow f k
+unfolding sumBelow
+sumBelow-prefix f t zero h = rw (le-zero h) (le-refl 0)
+sumBelow-prefix f t (suc k) h = cases (eq-or-lt-of-le h) (sumBelow-prefix f t k)
+  where
+    cases : (t ≡ suc k) ⊎ (t < suc k) → (t ≤ k → sumBelow f t ≤ sumBelow f k) → sumBelow f t ≤ sumBelow f k + f k
+    cases (inl e) ih = rw e (le-refl (sumBelow f k + f k))
+    cases (inr l) ih = omega (arith, ih (le-of-suc-le-suc l))
+
+pub sumBelow-term : (f : ℕ → ℕ) (i k : ℕ) → i < k → f i ≤ sumBelow f k
+unfolding sumBelow
+sumBelow-term f i k h = le-trans (let one : f i ≤ sumBelow f i + f i = omega arith in one) (sumBelow-prefix f (suc i) k h)

@@ -12,7 +12,7 @@ use lib.Count.{ones, onesIn, ones-step, ones-le}
 use lib.Dec.{eqb}
 use borrow.Author.Tests.{eq-eqb, ne-eqb}
 use Rattle.algebra.specs.Sums.{indicator, sumBelow}
-use Rattle.algebra.proofs.Sums.{sumBelow-same, sumBelow-add, sumBelow-ones, sumBelow-masks}
+use Rattle.algebra.proofs.Sums.{sumBelow-same, sumBelow-add, sumBelow-ones, sumBelow-masks, sumBelow-first}
 use Rattle.sets.specs.Masks.{has, size, meet}
 use Rattle.sets.proofs.Masks.{has-zero, has-suc, has-add, has-above, has-meet, add-below}
 
@@ -42,11 +42,6 @@ pub size-lacking : (n a i : ℕ) → a < 2 ^ n → i < n → has a i ≡ false �
 size-lacking n a i ha hi lacks = omega (arith, size-add a i lacks, ones-le n (a + 2 ^ i) (add-below n a i ha hi lacks))
 
 -- ---- the size as a sum of bits
-
-sumBelow-first : (f : ℕ → ℕ) (k : ℕ) → sumBelow f (suc k) ≡ f 0 + sumBelow (λ i. f (suc i)) k
-unfolding sumBelow
-sumBelow-first f zero = omega arith
-sumBelow-first f (suc k) = ap (λ (u : ℕ). u + f (suc k)) (sumBelow-first f k) ∙ omega arith
 
 pub size-bits : (n a : ℕ) → a < 2 ^ n → size a ≡ sumBelow (λ i. indicator (has a i)) n
 unfolding sumBelow ones onesIn

@@ -33,13 +33,13 @@ module _ (f g : ℕ → Bool) (same : (a : ℕ) → a < 65536 → f a ≡ g a) w
   without-same : (part a : ℕ) → a < 65536 → without part f a ≡ without part g a
   without-same part a h = ap (λ (p : Bool). has a part && p) (same (a - 2 ^ part) (lt-of-le-of-lt (sub-le a (2 ^ part)) h))
 
-  trimmed-same : (n a : ℕ) → a < 65536 → trimmed n f a ≡ trimmed n g a
+  pub trimmed-same : (n a : ℕ) → a < 65536 → trimmed n f a ≡ trimmed n g a
   unfolding trimmed
   trimmed-same n a h =
       ap₂ (λ (p q : Bool). p && not q) (same a h)
       (any-same (λ part. without part f a) (λ part. without part g a) n (λ part l. without-same part a h))
 
-  spread-same : (n a : ℕ) → a < 65536 → spread n f a ≡ spread n g a
+  pub spread-same : (n a : ℕ) → a < 65536 → spread n f a ≡ spread n g a
   unfolding spread
   spread-same zero a h = same a h
   spread-same (suc n) a h =

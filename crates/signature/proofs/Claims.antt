@@ -1,0 +1,32 @@
+-- What the figures of an accepted table are: each entry of the signature is the count of failure orders for all parts, each importance the count
+-- for its part alone. Assumes nothing.
+use mathlib.Core.Path.{_≡_, ap, _∙_}
+use mathlib.Core.List.{List}
+use Prim.Native.Nat.{ℕ, suc, _-_, _^_}
+use native.Mathlib.Numerals.{sub-one}
+use native.Mathlib.Omega.{arith}
+use lib.IntN.{pos}
+use Rattle.answer.specs.declared.Verdict.the-variants.{Accepted}
+use Rattle.numbers.specs.Tables.{tabulate}
+use Rattle.orders.specs.Counting.{count}
+use Rattle.orders.specs.Formulas.{pathCount}
+use Rattle.sets.specs.Tables.{inTable}
+use Rattle.structure.specs.Checks.{tableRefusal}
+use Rattle.structure.proofs.Acceptance.{accepted-table}
+use Rattle.signature.specs.Figures.{signature, importance, signatures, importances}
+use Rattle.signature.proofs.Rows.{tabulate-same}
+use Rattle.signature.proofs.Tails.{signature-is-count}
+use Rattle.signature.proofs.Importances.{importance-is-count}
+
+module _ (n : ℕ) (table : List ℕ) (accepted : tableRefusal n table ≡ Accepted) where
+  pub signature-counts : signatures n (inTable table) ≡ tabulate n (λ k. pos (count n (inTable table) (2 ^ n - 1) (suc k)))
+  signature-counts =
+      tabulate-same n (λ k. signature n (pathCount n (inTable table)) (suc k)) (λ k. pos (count n (inTable table) (2 ^ n - 1) (suc k)))
+      (λ k h. signature-is-count n (inTable table) (accepted-table n table accepted .semicoherent) (suc k) (omega arith) h)
+
+  pub importance-counts : importances n (inTable table) ≡ tabulate n (λ i. count n (inTable table) (2 ^ i) 1)
+  importance-counts =
+      tabulate-same n (λ i. importance n (inTable table) (suc i)) (λ i. count n (inTable table) (2 ^ i) 1)
+      (λ i h.
+      importance-is-count n (inTable table) (accepted-table n table accepted .semicoherent) (suc i) (omega arith) h
+      ∙ ap (λ (x : ℕ). count n (inTable table) (2 ^ x) 1) (sub-one (suc i)))

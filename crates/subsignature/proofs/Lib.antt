@@ -1,0 +1,10 @@
+pub mod Gathering
+pub mod Sets
+pub mod Refusals
+pub mod Deliveries
+pub mod Sums
+pub mod Coefficients
+pub mod FromCells
+pub mod ThroughH
+pub mod Signs
+pub mod TwoBuffers

@@ -1,0 +1,5 @@
+pub mod Codes
+pub mod Bounds
+pub mod ReadSheet
+pub mod WriteSheet
+pub mod Examples

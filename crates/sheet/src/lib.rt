@@ -1,0 +1,1 @@
+// Vector sheets (01, "Records on disk"): their definitions and laws.

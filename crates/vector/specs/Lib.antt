@@ -1,0 +1,3 @@
+pub mod Kinds
+pub mod Vectors
+pub mod Steps

@@ -1,0 +1,14 @@
+pub mod MovedDown
+pub mod Writing
+pub mod Keeping
+pub mod MinimalSets
+pub mod ListSets
+pub mod TakenOut
+pub mod Rules
+pub mod Refusals
+pub mod Written
+pub mod Names
+pub mod NamedChanges
+pub mod Running
+pub mod Lines
+pub mod Examples

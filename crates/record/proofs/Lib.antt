@@ -1,0 +1,12 @@
+pub mod Found
+pub mod PartNumbers
+pub mod PartWalk
+pub mod Sets
+pub mod Answers
+pub mod Marking
+pub mod Passes
+pub mod RoundTrip
+pub mod MinimalSets
+pub mod Whole
+pub mod Decided
+pub mod Examples

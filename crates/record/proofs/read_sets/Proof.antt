@@ -1,0 +1,106 @@
+-- `record::read_sets` meets its contract: the two passes decide as reading the sets one by one does.
+-- Assumes nothing.
+use mathlib.Core.Path.{_≡_, sym, ap, ap₂, _∙_}
+use mathlib.Core.List.{List, []}
+use Prim.Native.Nat.{ℕ, min}
+use denote.Ref.{now}
+use borrow.Author.Needs.{needs}
+use Rattle.answer.specs.declared.Verdict.{Verdict}
+use Rattle.words.specs.Words.{inWords, wordsOf}
+use Rattle.words.specs.Steps.{spread, trimmed}
+use Rattle.record.specs.declared.Ending.the-variants as ending
+use Rattle.record.specs.declared.Marked.{Marked}
+use Rattle.record.specs.Records.{setsAt}
+use Rattle.record.specs.Steps.{endingOf, Pass, risingAt, nestedAt, decided}
+use Rattle.record.proofs.Answers.{decided-nested, decided-refused, decided-given}
+use Rattle.record.proofs.Passes.{passes-decide}
+use Rattle.record.proofs.read_sets.Statement.{statement}
+use Rattle.record.proofs.read_sets.Tie as tie
+
+mark-sets-requires : tie.Need-mark-sets-requires
+mark-sets-requires c κs = search needs
+
+slice-aggregate-carried : tie.Need-slice-aggregate-carried
+slice-aggregate-carried c = search needs
+
+carried-requires : tie.Need-carried-requires
+carried-requires c κs = search needs
+
+slice-aggregate-trimmed : tie.Need-slice-aggregate-trimmed
+slice-aggregate-trimmed c = search needs
+
+trimmed-requires : tie.Need-trimmed-requires
+trimmed-requires c κs = search needs
+
+slice-aggregate-first-nested : tie.Need-slice-aggregate-first-nested
+slice-aggregate-first-nested c = search needs
+
+first-nested-requires : tie.Need-first-nested-requires
+first-nested-requires c κs = search needs
+
+enum-known-nested : tie.Need-enum-known-nested
+enum-known-nested c = search needs
+
+-- what the sets are, by the verdict of the second pass
+passes : (c : tie.After-first-nested) → setsAt (now (c .before .before .before .before .before .before .before .before .before .args .bytes)) (c .before .before .before .before .before .before .before .before .before .args .n) (c .before .before .before .before .before .before .before .before .before .args .count) [] (c .before .before .before .before .before .before .before .before .before .args .start)
+    ≡ decided (c .first-nested .result) (risingAt (now (c .before .before .before .before .before .before .before .before .before .args .bytes)) (c .before .before .before .before .before .before .before .before .before .args .n) (c .before .before .before .before .before .before .before .before .before .args .count) [] (c .before .before .before .before .before .before .before .before .before .args .start))
+passes c =
+    let marks = c .before .before .before .before .before .before .before in
+    let a = marks .before .before .args in
+    let k = min (a .n) 16 in
+    let p : Pass = risingAt (now (a .bytes)) (a .n) (a .count) [] (a .start) in
+    let marked = marks .mark-sets .ensures in
+    let reached = c .before .before .before .before .carried .ensures ∙ ap (λ (m : Marked). wordsOf (spread k (inWords (m .words)))) marked in
+    let minimal = c .before .before .trimmed .ensures ∙ ap (λ (w : List ℕ). wordsOf (trimmed k (inWords w))) reached in
+    passes-decide (now (a .bytes)) (a .n) (a .count) (a .start) (marks .before .before .pre)
+    ∙ ap (λ (v : Verdict). decided v p)
+    (sym (c .first-nested .ensures ∙ ap₂ (λ (w : List ℕ) (r : ℕ). nestedAt (now (a .bytes)) (inWords w) r (a .start)) minimal (ap (λ (m : Marked). m .read) marked)))
+
+returns : tie.Need-returns
+returns c =
+    let read = c .before .before .before in
+    sym (ap endingOf (passes read ∙ decided-nested _ _ _ (c .before .nested .given .1)))
+
+enum-told : tie.Need-enum-told
+enum-told c = search needs
+
+enum-known-verdict : tie.Need-enum-known-verdict
+enum-known-verdict c = search needs
+
+enum-told-2 : tie.Need-enum-told-2
+enum-told-2 c = search needs
+
+returns-2 : tie.Need-returns-2
+returns-2 c =
+    let told = c .before .before .before in
+    let read = told .before .before in
+    let marks = read .before .before .before .before .before .before .before in
+    sym (ap endingOf (passes read ∙ decided-refused _ _ _ (told .enum-told .given .1) (sym (ap (λ (m : Marked). m .verdict) (marks .mark-sets .ensures)) ∙ c .before .verdict .given .1)))
+
+returns-3 : tie.Need-returns-3
+returns-3 c =
+    let told = c .before .before in
+    let read = told .before .before in
+    let marks = read .before .before .before .before .before .before .before in
+    let marked = marks .mark-sets .ensures in
+    ap ending.At (ap (λ (m : Marked). m .next) marked)
+    ∙ sym (ap endingOf (passes read ∙ decided-given _ _ (told .enum-told .given .1) (sym (ap (λ (m : Marked). m .verdict) marked) ∙ c .enum-told2 .given .1)))
+
+pub read-sets-spec : {M : Type 1} → statement M
+read-sets-spec =
+    tie.close
+    (tie.spec
+    mark-sets-requires
+    slice-aggregate-carried
+    carried-requires
+    slice-aggregate-trimmed
+    trimmed-requires
+    slice-aggregate-first-nested
+    first-nested-requires
+    enum-known-nested
+    returns
+    enum-told
+    enum-known-verdict
+    enum-told-2
+    returns-2
+    returns-3)

@@ -1,0 +1,28 @@
+-- `record::table_length` meets its contract: from 3 parts on the bytes are an eighth of 2^n.
+-- Assumes nothing.
+use mathlib.Core.Path.{_≡_, sym, ap, _∙_}
+use Prim.Native.Nat.{ℕ, _*_, _-_, _^_}
+use native.Mathlib.Nat.{add-sub-of-le}
+use native.Mathlib.Omega.{arith}
+use lib.Pow.{pow-add}
+use Rattle.sets.specs.Tables.{tableLength}
+use Rattle.sets.proofs.Tables.{tableLength-small, tableLength-large}
+use borrow.Author.Needs.{needs}
+use Rattle.record.proofs.table_length.Statement.{statement}
+use Rattle.record.proofs.table_length.Tie as tie
+
+power-requires : tie.Need-power-requires
+power-requires c κs = search needs
+
+returns : tie.Need-returns
+returns c = sym (tableLength-small (c .before .args .n) (c .if1 .taken))
+
+returns-2 : tie.Need-returns-2
+returns-2 c =
+    let n = c .before .before .args .n in
+    let whole : 8 * tableLength n ≡ 2 ^ n = tableLength-large n (c .before .if1 .left) in
+    let eights : 2 ^ n ≡ 2 ^ 3 * 2 ^ (n - 3) = ap (λ (k : ℕ). 2 ^ k) (sym (add-sub-of-le (c .before .if1 .left))) ∙ pow-add 2 3 (n - 3) in
+    c .power .ensures ∙ omega (arith, whole, eights)
+
+pub table-length-spec : {M : Type 1} → statement M
+table-length-spec = tie.close (tie.spec power-requires returns returns-2)

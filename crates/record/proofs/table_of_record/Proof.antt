@@ -1,0 +1,140 @@
+-- `record::table_of_record` meets its contract: a refused record and a short buffer leave the buffer alone, and an accepted record's marked
+-- sets, carried over its parts, are its table.
+-- Assumes nothing.
+use mathlib.Core.Path.{_≡_, sym, ap, ap₂, _∙_, subst}
+use mathlib.Core.List.{List, _++_}
+use Prim.Native.Nat.{ℕ, _+_, _*_, _≤_, _<_, min}
+use native.Mathlib.Omega.{arith}
+use denote.Ref.{now}
+use lib.ListN.{length, drop}
+use lib.Seq.{length-take-le}
+use Rattle.answer.specs.Refusals.{shortBuffer}
+use Rattle.answer.specs.Outcome.{at, outcome, delivered}
+use Rattle.answer.specs.declared.Verdict.{Verdict}
+use Rattle.answer.specs.declared.Written.the-variants.{Refused}
+use Rattle.answer.proofs.Outcomes.{short-delivered, in-front-delivered}
+use Rattle.numbers.specs.Tables.{tabulate}
+use Rattle.sets.specs.Structures.{listed}
+use Rattle.sets.specs.Tables.{packed, tableOf, tableLength}
+use Rattle.sets.proofs.Tables.{tableOf-length}
+use Rattle.structure.proofs.Walks.{listed-walk}
+use Rattle.words.specs.Words.{inWords, wordsOf, among}
+use Rattle.words.specs.Steps.{spread}
+use Rattle.record.specs.declared.Contents.{Contents}
+use Rattle.record.specs.declared.Marked.{Marked}
+use Rattle.record.specs.Contents.{designIn}
+use Rattle.record.proofs.Whole.{ContentsRead, contents-read}
+use borrow.Author.Needs.{needs}
+use Rattle.record.proofs.table_of_record.Statement.{statement}
+use Rattle.record.proofs.table_of_record.Tie as tie
+
+whole-record-requires : tie.Need-whole-record-requires
+whole-record-requires c κs = search needs
+
+enum-known-verdict : tie.Need-enum-known-verdict
+enum-known-verdict c = search needs
+
+enum-told : tie.Need-enum-told
+enum-told c = search needs
+
+-- the contents, which are those of an accepted record
+read : (c : tie.After-enum-told) → ContentsRead (now (c .before .before .before .before .before .args .bytes)) (c .before .before .whole-record .result)
+read c =
+    let w = c .before .before in
+    contents-read (now (w .before .before .before .args .bytes)) (w .whole-record .result) (λ i. omega (arith, w .before .before .shared-slice-known .given i)) (w .whole-record .ensures) (c .enum-told .given .1)
+
+table-length-requires : tie.Need-table-length-requires
+table-length-requires c κs = read (c .before) .accepted .few
+
+returns : tie.Need-returns
+returns c =
+    let told = c .before .before .before in
+    let a = told .before .before .before .before .before .args in
+    let r = read told in
+    let d = designIn (now (a .bytes)) in
+    let table = now (a .table) in
+    let result = tableOf (d .parts .count) (listed (d .sets)) in
+    let long : c .before .table-length .result ≡ length result =
+    c .before .table-length .ensures ∙ ap tableLength (r .count) ∙ sym (tableOf-length (d .parts .count) (listed (d .sets))) in
+    ap (λ (k : ℕ). outcome (Refused (at shortBuffer k)) table) long
+    ∙ short-delivered table result (subst (λ (k : ℕ). length table < k) long (c .if1 .taken))
+    ∙ ap (λ (v : Verdict). delivered v result table) (sym (r .refusal))
+
+mark-sets-requires : tie.Need-mark-sets-requires
+mark-sets-requires c κs = read (c .before .before .before) .accepted .few
+
+slice-aggregate-carried : tie.Need-slice-aggregate-carried
+slice-aggregate-carried c = search needs
+
+carried-requires : tie.Need-carried-requires
+carried-requires c κs = search needs
+
+slice-aggregate-store : tie.Need-slice-aggregate-store
+slice-aggregate-store c = search needs
+
+slice-relend-prefix-store : tie.Need-slice-relend-prefix-store
+slice-relend-prefix-store c = search needs
+
+slice-aggregate-store-2 : tie.Need-slice-aggregate-store-2
+slice-aggregate-store-2 c = sym (length-take-le _ _ (c .before .before .before .before .before .before .if1 .left))
+
+store-requires : tie.Need-store-requires
+store-requires c κs = search needs
+
+returns-2 : tie.Need-returns-2
+returns-2 c =
+    let told = c .before in
+    let w = told .before .before in
+    let a = w .before .before .before .args in
+    let d = designIn (now (a .bytes)) in
+    ap (λ (v : Verdict). delivered v (tableOf (d .parts .count) (listed (d .sets))) (now (a .table)))
+    (sym (told .verdict .given .1) ∙ ap (λ (k : Contents). k .verdict) (w .whole-record .ensures))
+
+same-length : tie.Need-same-length
+same-length c = search needs
+
+returns-3 : tie.Need-returns-3
+returns-3 c =
+    let stored = c .before .before in
+    let marks = stored .before .before .before .before .before .before in
+    let fits = marks .before in
+    let told = fits .before .before .before in
+    let a = told .before .before .before .before .before .args in
+    let r = read told in
+    let contents = told .before .before .whole-record .result in
+    let n = contents .list .count in
+    let d = designIn (now (a .bytes)) in
+    let table = now (a .table) in
+    let needed = fits .before .table-length .result in
+    let result = tableOf (d .parts .count) (listed (d .sets)) in
+    let long : needed ≡ tableLength n = fits .before .table-length .ensures in
+    let whole : needed ≡ length result = long ∙ ap tableLength (r .count) ∙ sym (tableOf-length (d .parts .count) (listed (d .sets))) in
+    let marked = ap (λ (m : Marked). m .words) (marks .mark-sets .ensures) ∙ ap (λ (l : List ℕ). wordsOf (among l)) (r .marks) in
+    let reached = stored .before .before .before .carried .ensures ∙ ap (λ (ws : List ℕ). wordsOf (spread (min n 16) (inWords ws))) marked in
+    let bytes =
+    stored .store .ensures
+    ∙ ap₂ (λ (k : ℕ) (ws : List ℕ). tabulate k (λ b. packed 8 (λ i. inWords ws (8 * b + i)))) (length-take-le needed table (fits .if1 .left) ∙ long) reached
+    ∙ listed-walk n (d .sets) (r .accepted) ∙ ap (λ (k : ℕ). tableOf k (listed (d .sets))) (r .count) in
+    in-front-delivered table result _ needed (record { ends = whole; stands = ap₂ (λ (xs : List ℕ) (k : ℕ). xs ++ drop k table) bytes whole })
+    (subst (λ (k : ℕ). k ≤ length table) whole (fits .if1 .left))
+    ∙ ap (λ (v : Verdict). delivered v result table) (sym (r .refusal))
+
+pub table-of-record-spec : {M : Type 1} → statement M
+table-of-record-spec =
+    tie.close
+    (tie.spec
+    whole-record-requires
+    enum-known-verdict
+    enum-told
+    table-length-requires
+    returns
+    mark-sets-requires
+    slice-aggregate-carried
+    carried-requires
+    slice-aggregate-store
+    slice-relend-prefix-store
+    slice-aggregate-store-2
+    store-requires
+    returns-2
+    same-length
+    returns-3)

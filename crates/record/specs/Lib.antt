@@ -1,0 +1,4 @@
+pub mod Records
+pub mod RecordBytes
+pub mod Contents
+pub mod Steps

@@ -1,0 +1,92 @@
+-- What the private functions answer on the way to a record's contents: a reader of the promises may pass this file over.
+use mathlib.Core.Bool.{Bool, not}
+use mathlib.Core.List.{List, [], _∷_, _++_}
+use Prim.Native.Nat.{ℕ, zero, suc, _^_}
+use lib.Dec.{leb, eqb}
+use lib.ListN.{length}
+use Rattle.answer.specs.Refusals.{unknownPart, emptySet, wrongSet}
+use Rattle.answer.specs.Outcome.{refuse}
+use Rattle.answer.specs.declared.Verdict.{Verdict}
+use Rattle.answer.specs.declared.Verdict.the-variants as verdict
+use Rattle.codec.specs.declared.Field.the-variants.{Record}
+use Rattle.codec.specs.declared.Reading.{Reading}
+use Rattle.codec.specs.declared.Reading.the-variants as reading
+use Rattle.codec.specs.Reading.{numberAt}
+use Rattle.parts.specs.declared.PartList.{PartList}
+use Rattle.parts.specs.PartLists.{listOf}
+use Rattle.words.specs.Words.{wordsOf, among}
+use Rattle.record.specs.declared.Parts.{Parts}
+use Rattle.record.specs.declared.Heading.{Heading}
+use Rattle.record.specs.declared.Marked.{Marked}
+use Rattle.record.specs.declared.Ending.{Ending}
+use Rattle.record.specs.declared.Ending.the-variants as ending
+use Rattle.record.specs.Records.{Read, found, refused, fieldAt, lastOf, Head}
+
+-- a number as it is read
+abbrev pub asRead : Reading → Read ℕ
+asRead (reading.Number value next) = found value next
+asRead (reading.Refused refusal) = refused refusal
+
+-- a part list and the position after it, or a refusal
+abbrev pub partsOf : Read PartList → Parts
+partsOf (found list next) = record { list = list; next = next; verdict = verdict.Accepted }
+partsOf (refused refusal) = record { list = listOf 0 []; next = 0; verdict = verdict.Refused refusal }
+
+-- what stands before the sets, or a refusal
+abbrev pub headingOf : Read Head → Heading
+headingOf (found head begin) = record { list = head .parts; sets = head .count; begin = begin; verdict = verdict.Accepted }
+headingOf (refused refusal) = record { list = listOf 0 []; sets = 0; begin = 0; verdict = verdict.Refused refusal }
+
+-- where the sets end, or a refusal
+abbrev pub endingOf : Read (List ℕ) → Ending
+endingOf (found sets end) = ending.At end
+endingOf (refused refusal) = ending.Refused refusal
+
+-- ---- the two passes over the sets
+
+-- a set without the question whether it holds an earlier one: 4, 5, and 24 where it is not above the one before it
+abbrev pub risingRefusal : ℕ → ℕ → ℕ → ℕ → Verdict
+risingRefusal n previous place set =
+    refuse (leb (2 ^ n) set) unknownPart place
+    (refuse (eqb set 0) emptySet place (refuse (leb set previous) wrongSet place verdict.Accepted))
+
+-- the first pass: the sets up to the first that is refused by this, the position after them, and that refusal
+pub record Pass : Type 0 where
+  pub sets : List ℕ
+  pub next : ℕ
+  pub verdict : Verdict
+
+abbrev pub passed : List ℕ → ℕ → Verdict → Pass
+passed sets next verdict = record { sets = sets; next = next; verdict = verdict }
+
+abbrev pub passOn : List ℕ → ℕ → Read ℕ → (ℕ → ℕ → Pass) → Pass
+passOn earlier start (found set next) later = later set next
+passOn earlier start (refused refusal) later = passed earlier start (verdict.Refused refusal)
+
+unfoldable pub risingAt : List ℕ → ℕ → ℕ → List ℕ → ℕ → Pass
+risingAt bytes n zero earlier start = passed earlier start verdict.Accepted
+risingAt bytes n (suc more) earlier start =
+    passOn earlier start (fieldAt bytes start (risingRefusal n (lastOf 0 earlier) start)) (λ set next.
+    risingAt bytes n more (earlier ++ (set ∷ [])) next)
+
+-- the sets of a pass, marked
+abbrev pub markedOf : Pass → Marked
+markedOf pass = record { words = wordsOf (among (pass .sets)); read = length (pass .sets); next = pass .next; verdict = pass .verdict }
+
+-- the second pass: 24 at the first of so many sets that is none of those given
+abbrev pub nestedOn : (ℕ → Bool) → ℕ → Reading → (ℕ → Verdict) → Verdict
+nestedOn kept start (reading.Number set next) later = refuse (not (kept set)) wrongSet start (later next)
+nestedOn kept start (reading.Refused refusal) later = verdict.Accepted
+
+unfoldable pub nestedAt : List ℕ → (ℕ → Bool) → ℕ → ℕ → Verdict
+nestedAt bytes kept zero start = verdict.Accepted
+nestedAt bytes kept (suc more) start = nestedOn kept start (numberAt bytes start Record) (λ next. nestedAt bytes kept more next)
+
+-- both passes together
+abbrev pub decided : Verdict → Pass → Read (List ℕ)
+decided (verdict.Refused refusal) pass = refused refusal
+decided verdict.Accepted pass = passEnd (pass .verdict)
+  where
+    passEnd : Verdict → Read (List ℕ)
+    passEnd (verdict.Refused refusal) = refused refusal
+    passEnd verdict.Accepted = found (pass .sets) (pass .next)

@@ -1,0 +1,492 @@
+// Design records (01, "Records on disk"): read from a position, checked whole, and walked set by set.
+use answer::Refusal;
+use answer::Verdict;
+use answer::Written;
+use codec::Field;
+use codec::Reading;
+use parts::PartList;
+ghost use mathlib.Core.Path.{_≡_};
+ghost use mathlib.Core.List.{[]};
+ghost use Prim.Native.Nat.{_+_, _^_, _≤_, _<_};
+ghost use denote.Ref.{ptr};
+ghost use Rattle.answer.specs.Outcome.{at, outcome, delivered};
+ghost use Rattle.parts.specs.PartLists.{mostParts, listOf};
+ghost use Rattle.sets.specs.Structures.{listed};
+ghost use Rattle.sets.specs.Tables.{tableOf, tableLength};
+ghost use Rattle.words.specs.Words.{inWords};
+ghost use Rattle.record.specs.Records.{found, then, fieldAt, partCountRefusal, partNumberRefusal, setCountRefusal, numbersAt, partsAt, headAt, setsAt};
+ghost use Rattle.record.specs.Contents.{nothing, contentsAt, wholeContents, recordRefusal, designIn, stretchOf, firstCursor, stepAt};
+ghost use Rattle.record.specs.Steps.{asRead, partsOf, headingOf, endingOf, risingRefusal, risingAt, markedOf, nestedAt};
+
+// What reading a record finds: its part list, the number of its sets, and where their bytes begin and end, which is where the record ends.
+// Of a refused record: a list of no parts and an empty stretch at 0.
+pub struct Contents {
+    pub list: PartList,
+    pub sets: usize,
+    pub begin: usize,
+    pub end: usize,
+    pub verdict: Verdict,
+}
+
+// Where a walk along the sets of a record is: the position of the next set, and how many are left.
+pub struct Cursor {
+    pub next: usize,
+    pub left: usize,
+}
+
+// One step of such a walk: a set and the cursor behind it, or the end.
+pub enum Step {
+    Set { set: u64, cursor: Cursor },
+    End,
+}
+
+// A part list and the position after it.
+struct Parts {
+    list: PartList,
+    next: usize,
+    verdict: Verdict,
+}
+
+// What stands before the sets: the part list and the number of sets, and where the sets begin.
+struct Heading {
+    list: PartList,
+    sets: usize,
+    begin: usize,
+    verdict: Verdict,
+}
+
+// The sets up to the first that does not rise, or is refused for another reason than holding an earlier one: marked, counted, with the
+// position after them and that refusal.
+struct Marked {
+    words: [u64; 1024],
+    read: usize,
+    next: usize,
+    verdict: Verdict,
+}
+
+// Where the sets end, or why they are refused.
+enum Ending {
+    At(usize),
+    Refused(Refusal),
+}
+
+// The contents of the record that stands at a position. What comes after it is not looked at.
+pub fn read_record(bytes: &[u8], start: usize) -> Contents
+    ensures { λ r. ⌜ r ≡ contentsAt (now (bytes .entry)) start ⌝ }
+{
+    let heading = read_heading(bytes, start);
+    let verdict = heading.verdict;
+    match verdict {
+        Verdict::Refused(refusal) => refused_contents(refusal.number, refusal.place),
+        Verdict::Accepted => {
+            let list = heading.list;
+            let sets = heading.sets;
+            let begin = heading.begin;
+            let ending = read_sets(bytes, begin, list.count, sets);
+            match ending {
+                Ending::Refused(refusal) => refused_contents(refusal.number, refusal.place),
+                Ending::At(end) => Contents {
+                    list,
+                    sets,
+                    begin,
+                    end,
+                    verdict: Verdict::Accepted,
+                },
+            }
+        }
+    }
+}
+
+// The contents of the record that the bytes are.
+pub fn whole_record(bytes: &[u8]) -> Contents
+    ensures { λ r. ⌜ r ≡ wholeContents (now (bytes .entry)) ⌝ }
+{
+    let contents = read_record(bytes, 0);
+    let verdict = contents.verdict;
+    match verdict {
+        Verdict::Refused(_) => contents,
+        Verdict::Accepted => {
+            let end = contents.end;
+            if end < bytes.len() {
+                return refused_contents(answer::BYTES_LEFT, end);
+            }
+            contents
+        }
+    }
+}
+
+// The bytes that carry a record's sets: a part of the very slice that is handed in, and empty for a refused record.
+pub fn sets_of(bytes: &[u8]) -> &[u8]
+    ensures { λ r. ⌜ now r ≡ stretchOf (wholeContents (now (bytes .entry))) (now (bytes .entry)) ⌝ }
+    ensures { λ r. ⌜ ptr r ≡ (ptr (bytes .entry) .0, ptr (bytes .entry) .1 + wholeContents (now (bytes .entry)) .begin) ⌝ }
+{
+    let contents = whole_record(bytes);
+    let begin = contents.begin;
+    let end = contents.end;
+    &bytes[begin..end]
+}
+
+impl Cursor {
+    // At the first set of a record; no set is left of a refused one.
+    pub fn first(bytes: &[u8]) -> Cursor
+        ensures { λ r. ⌜ r ≡ firstCursor (now (bytes .entry)) ⌝ }
+    {
+        let contents = whole_record(bytes);
+        Cursor {
+            next: contents.begin,
+            left: contents.sets,
+        }
+    }
+
+    // The set at the cursor and the cursor behind it, on the bytes that the walk began with.
+    pub fn step(self, bytes: &[u8]) -> Step
+        ensures { λ r. ⌜ r ≡ stepAt (now (bytes .entry)) self ⌝ }
+    {
+        let left = self.left;
+        if left == 0 {
+            return Step::End;
+        }
+        let next = self.next;
+        let number = codec::read_number(bytes, next, Field::Record);
+        match number {
+            Reading::Refused(_) => Step::End,
+            Reading::Number { value, next: after } => Step::Set {
+                set: value,
+                cursor: Cursor {
+                    next: after,
+                    left: left - 1,
+                },
+            },
+        }
+    }
+}
+
+// The table of a record, into a lent buffer.
+pub fn table_of_record(bytes: &[u8], table: &mut [u8]) -> Written
+    ensures { λ r. ⌜ outcome r (now (table .exit)) ≡ delivered (recordRefusal (now (bytes .entry))) (tableOf (designIn (now (bytes .entry)) .parts .count) (listed (designIn (now (bytes .entry)) .sets))) (now (table .entry)) ⌝ }
+{
+    let contents = whole_record(bytes);
+    let verdict = contents.verdict;
+    match verdict {
+        Verdict::Refused(refusal) => Written::Refused(refusal),
+        Verdict::Accepted => {
+            let list = contents.list;
+            let n = list.count;
+            let needed = table_length(n);
+            if table.len() < needed {
+                return Written::Refused(Refusal {
+                    number: answer::SHORT_BUFFER,
+                    place: needed,
+                });
+            }
+            let marked = mark_sets(bytes, contents.begin, n, contents.sets);
+            let words = marked.words;
+            let reached = words::carried(&words, n);
+            words::store(&reached, &mut table[..needed]);
+            Written::Length(needed)
+        }
+    }
+}
+
+// n, the mark and n part numbers.
+fn read_parts(bytes: &[u8], start: usize) -> Parts
+    ensures { λ r. ⌜ r ≡ partsOf (partsAt (now (bytes .entry)) start) ⌝ }
+{
+    let count = read_part_count(bytes, start);
+    match count {
+        Reading::Refused(refusal) => refused_parts(refusal.number, refusal.place),
+        Reading::Number { value, next } => {
+            let mark = codec::read_number(bytes, next, Field::Record);
+            match mark {
+                Reading::Refused(refusal) => refused_parts(refusal.number, refusal.place),
+                Reading::Number {
+                    value: highest,
+                    next: after,
+                } => { read_part_numbers(bytes, after, value as usize, highest) }
+            }
+        }
+    }
+}
+
+// So many part numbers under a mark, as a part list.
+fn read_part_numbers(bytes: &[u8], start: usize, count: usize, mark: u64) -> Parts
+    requires { ⌜ count ≤ mostParts ⌝ }
+    ensures { λ r. ⌜ r ≡ partsOf (then (numbersAt (now (bytes .entry)) mark count [] start) (λ numbers end. found (listOf mark numbers) end)) ⌝ }
+{
+    let mut numbers = [0; PartList::MOST_PARTS];
+    let mut previous: u64 = 0;
+    let mut next = start;
+    let mut index = 0;
+    while index < count {
+        let number = read_part_number(bytes, next, previous, mark);
+        match number {
+            Reading::Refused(refusal) => return refused_parts(refusal.number, refusal.place),
+            Reading::Number { value, next: after } => {
+                numbers[index] = value;
+                previous = value;
+                next = after;
+                index += 1;
+            }
+        }
+    }
+    Parts {
+        list: PartList {
+            count,
+            mark,
+            numbers,
+        },
+        next,
+        verdict: Verdict::Accepted,
+    }
+}
+
+// What stands before the sets.
+fn read_heading(bytes: &[u8], start: usize) -> Heading
+    ensures { λ r. ⌜ r ≡ headingOf (headAt (now (bytes .entry)) start) ⌝ }
+{
+    let parts = read_parts(bytes, start);
+    let verdict = parts.verdict;
+    match verdict {
+        Verdict::Refused(refusal) => refused_heading(refusal.number, refusal.place),
+        Verdict::Accepted => {
+            let list = parts.list;
+            let next = parts.next;
+            let count = read_set_count(bytes, next);
+            match count {
+                Reading::Refused(refusal) => refused_heading(refusal.number, refusal.place),
+                Reading::Number { value, next: begin } => Heading {
+                    list,
+                    sets: value as usize,
+                    begin,
+                    verdict: Verdict::Accepted,
+                },
+            }
+        }
+    }
+}
+
+// n, of 1 to 16.
+fn read_part_count(bytes: &[u8], start: usize) -> Reading
+    ensures { λ r. ⌜ asRead r ≡ fieldAt (now (bytes .entry)) start (partCountRefusal start) ⌝ }
+{
+    let number = codec::read_number(bytes, start, Field::Record);
+    match number {
+        Reading::Refused(refusal) => Reading::Refused(refusal),
+        Reading::Number { value, next } => {
+            if value == 0 {
+                return refused(answer::WRONG_PART_COUNT, start);
+            }
+            if (PartList::MOST_PARTS as u64) < value {
+                return refused(answer::WRONG_PART_COUNT, start);
+            }
+            Reading::Number { value, next }
+        }
+    }
+}
+
+// A part number, after the one before it and under the mark.
+fn read_part_number(bytes: &[u8], start: usize, previous: u64, mark: u64) -> Reading
+    ensures { λ r. ⌜ asRead r ≡ fieldAt (now (bytes .entry)) start (partNumberRefusal mark previous start) ⌝ }
+{
+    let number = codec::read_number(bytes, start, Field::Record);
+    match number {
+        Reading::Refused(refusal) => Reading::Refused(refusal),
+        Reading::Number { value, next } => {
+            if PartList::misnumbered(previous, mark, value) {
+                return refused(answer::WRONG_PART_NUMBER, start);
+            }
+            Reading::Number { value, next }
+        }
+    }
+}
+
+// The count of sets, of 1 to 12,870.
+fn read_set_count(bytes: &[u8], start: usize) -> Reading
+    ensures { λ r. ⌜ asRead r ≡ fieldAt (now (bytes .entry)) start (setCountRefusal start) ⌝ }
+{
+    let number = codec::read_number(bytes, start, Field::Record);
+    match number {
+        Reading::Refused(refusal) => Reading::Refused(refusal),
+        Reading::Number { value, next } => {
+            if value == 0 {
+                return refused(answer::EMPTY_LIST, start);
+            }
+            if 12870 < value {
+                return refused(answer::LONG_LIST, start);
+            }
+            Reading::Number { value, next }
+        }
+    }
+}
+
+// A set of n parts that rises above the one before it; whether it holds an earlier one is not asked here.
+fn read_set(bytes: &[u8], start: usize, n: usize, previous: u64) -> Reading
+    requires { ⌜ n ≤ 16 ⌝ }
+    ensures { λ r. ⌜ asRead r ≡ fieldAt (now (bytes .entry)) start (risingRefusal n previous start) ⌝ }
+{
+    let number = codec::read_number(bytes, start, Field::Record);
+    match number {
+        Reading::Refused(refusal) => Reading::Refused(refusal),
+        Reading::Number { value, next } => {
+            if power(n) <= value {
+                return refused(answer::UNKNOWN_PART, start);
+            }
+            if value == 0 {
+                return refused(answer::EMPTY_SET, start);
+            }
+            if value <= previous {
+                return refused(answer::WRONG_SET, start);
+            }
+            Reading::Number { value, next }
+        }
+    }
+}
+
+// 2^n, for the parts that a machine may have.
+fn power(n: usize) -> u64
+    requires { ⌜ n ≤ 16 ⌝ }
+    ensures { λ r. ⌜ r ≡ 2 ^ n ⌝ }
+{
+    1 << n
+}
+
+// The bytes of a table of n parts.
+fn table_length(n: usize) -> usize
+    requires { ⌜ n ≤ 16 ⌝ }
+    ensures { λ r. ⌜ r ≡ tableLength n ⌝ }
+{
+    if n < 3 { 1 } else { power(n - 3) as usize }
+}
+
+// The answers where a check refuses.
+fn refused(number: u8, place: usize) -> Reading
+    ensures { λ r. ⌜ r ≡ Reading.Refused (at number place) ⌝ }
+{
+    Reading::Refused(Refusal { number, place })
+}
+
+fn refused_parts(number: u8, place: usize) -> Parts
+    ensures { λ r. ⌜ r ≡ record { list = listOf 0 []; next = 0; verdict = Verdict.Refused (at number place) } ⌝ }
+{
+    Parts {
+        list: PartList {
+            count: 0,
+            mark: 0,
+            numbers: [0; PartList::MOST_PARTS],
+        },
+        next: 0,
+        verdict: Verdict::Refused(Refusal { number, place }),
+    }
+}
+
+fn refused_heading(number: u8, place: usize) -> Heading
+    ensures { λ r. ⌜ r ≡ record { list = listOf 0 []; sets = 0; begin = 0; verdict = Verdict.Refused (at number place) } ⌝ }
+{
+    Heading {
+        list: PartList {
+            count: 0,
+            mark: 0,
+            numbers: [0; PartList::MOST_PARTS],
+        },
+        sets: 0,
+        begin: 0,
+        verdict: Verdict::Refused(Refusal { number, place }),
+    }
+}
+
+fn refused_contents(number: u8, place: usize) -> Contents
+    ensures { λ r. ⌜ r ≡ nothing (at number place) ⌝ }
+{
+    Contents {
+        list: PartList {
+            count: 0,
+            mark: 0,
+            numbers: [0; PartList::MOST_PARTS],
+        },
+        sets: 0,
+        begin: 0,
+        end: 0,
+        verdict: Verdict::Refused(Refusal { number, place }),
+    }
+}
+
+// The sets of a record, so many of n parts from a position on: each is read and marked, then the marked sets are closed upwards, and a set
+// that is not minimal among them is one that holds an earlier one.
+fn read_sets(bytes: &[u8], start: usize, n: usize, count: usize) -> Ending
+    requires { ⌜ n ≤ 16 ⌝ }
+    ensures { λ r. ⌜ r ≡ endingOf (setsAt (now (bytes .entry)) n count [] start) ⌝ }
+{
+    let marked = mark_sets(bytes, start, n, count);
+    let words = marked.words;
+    let reached = words::carried(&words, n);
+    let minimal = words::trimmed(&reached, n);
+    let nested = first_nested(bytes, start, marked.read, &minimal);
+    if let Verdict::Refused(refusal) = nested {
+        return Ending::Refused(refusal);
+    }
+    let verdict = marked.verdict;
+    match verdict {
+        Verdict::Refused(refusal) => Ending::Refused(refusal),
+        Verdict::Accepted => Ending::At(marked.next),
+    }
+}
+
+// The first pass: sets in their order up to the first that is refused without regard to what it holds.
+fn mark_sets(bytes: &[u8], start: usize, n: usize, count: usize) -> Marked
+    requires { ⌜ n ≤ 16 ⌝ }
+    ensures { λ r. ⌜ r ≡ markedOf (risingAt (now (bytes .entry)) n count [] start) ⌝ }
+{
+    let mut words = [0u64; 1024];
+    let mut previous: u64 = 0;
+    let mut next = start;
+    let mut read = 0;
+    while read < count {
+        let set = read_set(bytes, next, n, previous);
+        match set {
+            Reading::Refused(refusal) => {
+                return Marked {
+                    words,
+                    read,
+                    next,
+                    verdict: Verdict::Refused(refusal),
+                };
+            }
+            Reading::Number { value, next: after } => {
+                let at = value as usize / 64;
+                words[at] = words[at] | (1 << (value % 64));
+                previous = value;
+                next = after;
+                read += 1;
+            }
+        }
+    }
+    Marked {
+        words,
+        read,
+        next,
+        verdict: Verdict::Accepted,
+    }
+}
+
+// The second pass: 24 at the first of so many sets that is none of the minimal ones.
+fn first_nested(bytes: &[u8], start: usize, count: usize, minimal: &[u64]) -> Verdict
+    ensures { λ r. ⌜ r ≡ nestedAt (now (bytes .entry)) (inWords (now (minimal .entry))) count start ⌝ }
+{
+    let mut next = start;
+    let mut index = 0;
+    while index < count {
+        let number = codec::read_number(bytes, next, Field::Record);
+        let Reading::Number { value, next: after } = number else {
+            return Verdict::Accepted;
+        };
+        if !words::works(minimal, value as usize) {
+            return Verdict::Refused(Refusal {
+                number: answer::WRONG_SET,
+                place: next,
+            });
+        }
+        next = after;
+        index += 1;
+    }
+    Verdict::Accepted
+}

@@ -1,0 +1,57 @@
+-- The report of a design record (01, "The report program"), byte for byte. Each figure of an order or a part is the number of failure orders that
+-- 01, "Counting", defines; none is stated by a formula.
+use mathlib.Core.List.{List, _++_}
+use Prim.Native.Nat.{ℕ, _-_, _^_}
+use Prim.Native.String.{String}
+use lib.ListN.{length, getD}
+use Rattle.answer.specs.declared.Refusal.{Refusal}
+use Rattle.sets.specs.Structures.{listed}
+use Rattle.orders.specs.Counting.{count}
+use Rattle.orders.specs.Formulas.{pathCount}
+use Rattle.parts.specs.PartLists.{numbersOf}
+use Rattle.signature.specs.Figures.{domination}
+use Rattle.record.specs.Records.{Read, found, refused, Design, wholeRecord}
+use Rattle.text.specs.Texts.{ascii, decimal, signed, lines}
+
+-- n, the count of minimal sets and the mark
+unfoldable pub firstLine : Design → List ℕ
+firstLine d =
+    ascii "parts " ++ (decimal (d .parts .count)
+    ++ (ascii " sets " ++ (decimal (length (d .sets))
+    ++ (ascii " mark " ++ (decimal (d .parts .mark) ++ ascii "\n")))))
+
+-- a word, a number and a figure
+abbrev pub figureLine : String → ℕ → List ℕ → List ℕ
+figureLine word number figure = ascii word ++ (ascii " " ++ (decimal number ++ (ascii " " ++ (figure ++ ascii "\n"))))
+
+-- `order k`: in how many failure orders the k-th failure stops the machine
+unfoldable pub orderLine : Design → ℕ → List ℕ
+orderLine d k =
+    figureLine "order" k (decimal (count (d .parts .count) (listed (d .sets)) (2 ^ (d .parts .count) - 1) k))
+
+-- `dom k`: d(k)
+unfoldable pub domLine : Design → ℕ → List ℕ
+domLine d k =
+    figureLine "dom" k (signed (domination (d .parts .count) (pathCount (d .parts .count) (listed (d .sets))) k))
+
+-- `part`, for position i: its part number, and in how many failure orders its failure stops the machine
+unfoldable pub partLine : Design → ℕ → List ℕ
+partLine d i =
+    figureLine "part" (getD (numbersOf (d .parts)) (i - 1) 0) (decimal (count (d .parts .count) (listed (d .sets)) (2 ^ (i - 1)) 1))
+
+-- the report of a design
+unfoldable pub reportOf : Design → List ℕ
+reportOf d =
+    firstLine d ++ (lines (orderLine d) (d .parts .count) ++ (lines (domLine d) (d .parts .count) ++ lines (partLine d) (d .parts .count)))
+
+-- the one line of a refusal
+unfoldable pub refusedLine : Refusal → List ℕ
+refusedLine r = ascii "refused " ++ (decimal (r .number) ++ (ascii " " ++ (decimal (r .place) ++ ascii "\n")))
+
+-- what is printed for what was read
+abbrev pub printedFor : Read Design → List ℕ
+printedFor (found d next) = reportOf d
+printedFor (refused r) = refusedLine r
+
+unfoldable pub printed : List ℕ → List ℕ
+printed bytes = printedFor (wholeRecord bytes)

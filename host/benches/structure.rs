@@ -1,11 +1,15 @@
 //! How long the calculator takes for the largest list there is, all sets of 8 of 16 parts, beside a Rust baseline that carries sets a
 //! 64-bit word at a time. Times are printed and never tested; that both give the same results is asserted in every round.
 
-mod baseline;
+mod baseline {
+    pub mod structure;
+    mod table;
+}
+mod timing;
 
 use nahokipe_host::Refusal;
 use std::hint::black_box;
-use std::time::Instant;
+use timing::{print_head, print_row, timed};
 
 const PARTS: usize = 16;
 const ROUNDS: usize = 2_000;
@@ -25,9 +29,9 @@ const CALCULATOR: Program = Program {
 };
 
 const BASELINE: Program = Program {
-    table_of_list: baseline::table_of_list,
-    table_verdict: baseline::table_verdict,
-    minimal_sets: baseline::minimal_sets,
+    table_of_list: baseline::structure::table_of_list,
+    table_verdict: baseline::structure::table_verdict,
+    minimal_sets: baseline::structure::minimal_sets,
 };
 
 /// What the three steps gave.
@@ -75,38 +79,12 @@ fn round(program: &Program, list: &[u16]) -> (Results, Times) {
     (results, [first, second, third])
 }
 
-fn timed<T>(work: impl FnOnce() -> T) -> (T, u128) {
-    let began = Instant::now();
-    let result = black_box(work());
-    (result, began.elapsed().as_nanos())
-}
-
 fn print(sets: usize, calculator: &[Times], baseline: &[Times]) {
-    println!("{sets} sets of 8 of {PARTS} parts; microseconds, median of {ROUNDS} rounds each");
-    println!("buffers not cleared first: filled with a pattern before each call, outside its time");
-    println!(
-        "{:<14}{:>12}{:>12}{:>8}",
-        "", "calculator", "baseline", "ratio"
-    );
+    print_head(&format!("{sets} sets of 8 of {PARTS} parts"), ROUNDS);
     for step in 0..STEPS.len() {
-        print_row(STEPS[step], calculator, baseline, |times| times[step]);
+        let times = |rounds: &[Times]| rounds.iter().map(|times| times[step]).collect();
+        print_row(STEPS[step], times(calculator), times(baseline));
     }
-    print_row("in all", calculator, baseline, |times| times.iter().sum());
-}
-
-fn print_row(
-    name: &str,
-    calculator: &[Times],
-    baseline: &[Times],
-    part: impl Fn(&Times) -> u128 + Copy,
-) {
-    let (ours, theirs) = (median(calculator, part), median(baseline, part));
-    println!("{name:<14}{ours:>12.1}{theirs:>12.1}{:>8.2}", ours / theirs);
-}
-
-/// In microseconds.
-fn median(rounds: &[Times], part: impl Fn(&Times) -> u128) -> f64 {
-    let mut times: Vec<u128> = rounds.iter().map(part).collect();
-    times.sort_unstable();
-    times[times.len() / 2] as f64 / 1000.0
+    let in_all = |rounds: &[Times]| rounds.iter().map(|times| times.iter().sum()).collect();
+    print_row("in all", in_all(calculator), in_all(baseline));
 }

@@ -7,7 +7,11 @@
 
 use std::fmt;
 
+pub mod comparing;
+pub mod making;
 pub mod naive;
+pub mod naive_figures;
+pub mod naive_shares;
 pub mod seeded;
 
 /// Why a call was refused: a number of document 01, "Where each refusal is found", and the place that it reports.
@@ -65,6 +69,187 @@ pub fn minimal_sets(n: usize, table: &[u8], sets: &mut [u16]) -> Result<usize, R
     answer.given()
 }
 
+/// The path counts φ(0) to φ(n) of a table, into `cells`: how many were written.
+pub fn path_counts(n: usize, table: &[u8], cells: &mut [i64]) -> Result<usize, Refusal> {
+    let answer = unsafe {
+        nahokipe_path_counts(
+            n,
+            table.as_ptr(),
+            table.len(),
+            cells.as_mut_ptr(),
+            cells.len(),
+        )
+    };
+    answer.given()
+}
+
+/// The tail T(0) to T(n) of a table, into `cells`: how many were written.
+pub fn tail(n: usize, table: &[u8], cells: &mut [i64]) -> Result<usize, Refusal> {
+    let answer = unsafe {
+        nahokipe_tail(
+            n,
+            table.as_ptr(),
+            table.len(),
+            cells.as_mut_ptr(),
+            cells.len(),
+        )
+    };
+    answer.given()
+}
+
+/// The signature N(1) to N(n) of a table, into `cells`: how many were written.
+pub fn signature(n: usize, table: &[u8], cells: &mut [i64]) -> Result<usize, Refusal> {
+    let answer = unsafe {
+        nahokipe_signature(
+            n,
+            table.as_ptr(),
+            table.len(),
+            cells.as_mut_ptr(),
+            cells.len(),
+        )
+    };
+    answer.given()
+}
+
+/// The domination d(0) to d(n) of a table, into `cells`: how many were written.
+pub fn domination(n: usize, table: &[u8], cells: &mut [i64]) -> Result<usize, Refusal> {
+    let answer = unsafe {
+        nahokipe_domination(
+            n,
+            table.as_ptr(),
+            table.len(),
+            cells.as_mut_ptr(),
+            cells.len(),
+        )
+    };
+    answer.given()
+}
+
+/// The Barlow-Proschan counts of all parts of a table, by position, into `cells`: how many were written.
+pub fn importance(n: usize, table: &[u8], cells: &mut [u64]) -> Result<usize, Refusal> {
+    let answer = unsafe {
+        nahokipe_importance(
+            n,
+            table.as_ptr(),
+            table.len(),
+            cells.as_mut_ptr(),
+            cells.len(),
+        )
+    };
+    answer.given()
+}
+
+/// The path counts, the signature, the domination and the importances of a table at once, with one check of the table. Room is asked
+/// for in this order.
+pub fn figures(
+    n: usize,
+    table: &[u8],
+    counts: &mut [i64],
+    signature: &mut [i64],
+    domination: &mut [i64],
+    importance: &mut [u64],
+) -> Result<(), Refusal> {
+    let answer = unsafe {
+        nahokipe_figures(
+            n,
+            table.as_ptr(),
+            table.len(),
+            counts.as_mut_ptr(),
+            counts.len(),
+            signature.as_mut_ptr(),
+            signature.len(),
+            domination.as_mut_ptr(),
+            domination.len(),
+            importance.as_mut_ptr(),
+            importance.len(),
+        )
+    };
+    answer.given().map(drop)
+}
+
+/// The shares of a group, set by set, into `cells`: how many were written.
+pub fn shares_by_sets(
+    n: usize,
+    table: &[u8],
+    group: usize,
+    cells: &mut [i64],
+) -> Result<usize, Refusal> {
+    let answer = unsafe {
+        nahokipe_shares_by_sets(
+            n,
+            table.as_ptr(),
+            table.len(),
+            group,
+            cells.as_mut_ptr(),
+            cells.len(),
+        )
+    };
+    answer.given()
+}
+
+/// The shares of a group through h(x,z), into `cells`: how many were written.
+pub fn shares_by_reliability(
+    n: usize,
+    table: &[u8],
+    group: usize,
+    cells: &mut [i64],
+) -> Result<usize, Refusal> {
+    let answer = unsafe {
+        nahokipe_shares_by_reliability(
+            n,
+            table.as_ptr(),
+            table.len(),
+            group,
+            cells.as_mut_ptr(),
+            cells.len(),
+        )
+    };
+    answer.given()
+}
+
+/// The coefficients of h(x,z) of a group, that of x^i z^j in cell i (n-m+1) + j, into `cells`: how many were written.
+pub fn reliability(
+    n: usize,
+    table: &[u8],
+    group: usize,
+    cells: &mut [i64],
+) -> Result<usize, Refusal> {
+    let answer = unsafe {
+        nahokipe_reliability(
+            n,
+            table.as_ptr(),
+            table.len(),
+            group,
+            cells.as_mut_ptr(),
+            cells.len(),
+        )
+    };
+    answer.given()
+}
+
+/// The shares of a group set by set into `first` and through h(x,z) into `second`: how many were written into either.
+pub fn shares_by_both_routes(
+    n: usize,
+    table: &[u8],
+    group: usize,
+    first: &mut [i64],
+    second: &mut [i64],
+) -> Result<usize, Refusal> {
+    let answer = unsafe {
+        nahokipe_shares_by_both_routes(
+            n,
+            table.as_ptr(),
+            table.len(),
+            group,
+            first.as_mut_ptr(),
+            first.len(),
+            second.as_mut_ptr(),
+            second.len(),
+        )
+    };
+    answer.given()
+}
+
 /// The answer as it comes through C: number 0 with the length written, or a refusal's number with its place.
 #[repr(C)]
 struct Answer {
@@ -105,5 +290,97 @@ extern "C" {
         table_len: usize,
         sets: *mut u16,
         sets_len: usize,
+    ) -> Answer;
+
+    fn nahokipe_path_counts(
+        n: usize,
+        table: *const u8,
+        table_len: usize,
+        cells: *mut i64,
+        cells_len: usize,
+    ) -> Answer;
+
+    fn nahokipe_tail(
+        n: usize,
+        table: *const u8,
+        table_len: usize,
+        cells: *mut i64,
+        cells_len: usize,
+    ) -> Answer;
+
+    fn nahokipe_signature(
+        n: usize,
+        table: *const u8,
+        table_len: usize,
+        cells: *mut i64,
+        cells_len: usize,
+    ) -> Answer;
+
+    fn nahokipe_domination(
+        n: usize,
+        table: *const u8,
+        table_len: usize,
+        cells: *mut i64,
+        cells_len: usize,
+    ) -> Answer;
+
+    fn nahokipe_importance(
+        n: usize,
+        table: *const u8,
+        table_len: usize,
+        cells: *mut u64,
+        cells_len: usize,
+    ) -> Answer;
+
+    fn nahokipe_figures(
+        n: usize,
+        table: *const u8,
+        table_len: usize,
+        counts: *mut i64,
+        counts_len: usize,
+        signature: *mut i64,
+        signature_len: usize,
+        domination: *mut i64,
+        domination_len: usize,
+        importance: *mut u64,
+        importance_len: usize,
+    ) -> Answer;
+
+    fn nahokipe_shares_by_sets(
+        n: usize,
+        table: *const u8,
+        table_len: usize,
+        group: usize,
+        cells: *mut i64,
+        cells_len: usize,
+    ) -> Answer;
+
+    fn nahokipe_shares_by_reliability(
+        n: usize,
+        table: *const u8,
+        table_len: usize,
+        group: usize,
+        cells: *mut i64,
+        cells_len: usize,
+    ) -> Answer;
+
+    fn nahokipe_reliability(
+        n: usize,
+        table: *const u8,
+        table_len: usize,
+        group: usize,
+        cells: *mut i64,
+        cells_len: usize,
+    ) -> Answer;
+
+    fn nahokipe_shares_by_both_routes(
+        n: usize,
+        table: *const u8,
+        table_len: usize,
+        group: usize,
+        first: *mut i64,
+        first_len: usize,
+        second: *mut i64,
+        second_len: usize,
     ) -> Answer;
 }

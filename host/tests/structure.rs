@@ -1,9 +1,10 @@
 //! Structures: the calculator against the naive implementation, answers, places and every cell of the lent buffers.
 
+use nahokipe_host::comparing::{buffers, front, same};
+use nahokipe_host::making::{flipped, random_list, random_set, random_table, sets_of_size};
 use nahokipe_host::naive::{self, refused, table_length, MOST_SETS};
 use nahokipe_host::seeded::Seeded;
-use nahokipe_host::{list_verdict, minimal_sets, table_of_list, table_verdict, Refusal};
-use std::fmt::Debug;
+use nahokipe_host::{list_verdict, minimal_sets, table_of_list, table_verdict};
 
 // ---- comparing
 
@@ -43,73 +44,6 @@ fn compare_table(n: usize, table: &[u8]) {
     }
 }
 
-/// What a call left: its answer, and the lent buffer afterwards.
-type Left<T> = (Result<usize, Refusal>, Vec<T>);
-
-fn same<T: PartialEq + Debug>(found: Left<T>, expected: Left<T>, about: impl Fn() -> String) {
-    assert_eq!(found.0, expected.0, "{}", about());
-    assert_eq!(found.1.len(), expected.1.len());
-    let other = (0..found.1.len()).find(|&i| found.1[i] != expected.1[i]);
-    if let Some(i) = other {
-        let (found, expected) = (&found.1[i], &expected.1[i]);
-        panic!("cell {i} is {found:?} and not {expected:?}, {}", about());
-    }
-}
-
-/// Buffers that are empty, one shorter than needed, exact, and longer; around `enough` where the call is refused. Each is filled with
-/// one pattern and with its opposite, so that a cell that is written shows in one of them.
-fn buffers<T: Copy>(
-    result: &Result<Vec<T>, Refusal>,
-    enough: usize,
-    patterns: [T; 2],
-) -> Vec<Vec<T>> {
-    let needed = result.as_ref().map_or(enough, Vec::len);
-    let lengths = [0, needed - 1, needed, needed + 1, needed + 9];
-    let filled = |length| patterns.map(|cell| vec![cell; length]);
-    lengths.into_iter().flat_map(filled).collect()
-}
-
-/// The first cells, for a message.
-fn front<T>(cells: &[T]) -> &[T] {
-    &cells[..cells.len().min(24)]
-}
-
-// ---- making lists and tables
-
-/// All sets of `size` parts among n, ascending.
-fn sets_of_size(n: usize, size: u32) -> Vec<u16> {
-    (0..1_u32 << n)
-        .filter(|set| set.count_ones() == size)
-        .map(|set| set as u16)
-        .collect()
-}
-
-/// A set of n parts, not empty: any one, a small one, or a large one.
-fn random_set(seeded: &mut Seeded, n: usize) -> u16 {
-    let full = (1 << n) - 1;
-    let (a, b) = (seeded.between(1, full), seeded.between(1, full));
-    let set = seeded.pick(&[a, a & b, a | b]);
-    set.max(1) as u16
-}
-
-/// A list of n parts, with repeats and nested sets, in any order.
-fn random_list(seeded: &mut Seeded, n: usize) -> Vec<u16> {
-    let most = seeded.pick(&[1, 3, 12, 60, 300]);
-    let length = seeded.between(1, most);
-    let mut list: Vec<u16> = (0..length).map(|_| random_set(seeded, n)).collect();
-    if seeded.between(1, 4) == 1 {
-        list.extend(sets_of_size(n, seeded.between(1, n) as u32));
-    }
-    for _ in 0..seeded.between(0, 3) {
-        let again = seeded.pick(&list);
-        let larger = again | random_set(seeded, n);
-        list.extend([again, larger]);
-    }
-    seeded.shuffle(&mut list);
-    list.truncate(MOST_SETS);
-    list
-}
-
 /// A list with something wrong in it, in one or two places.
 fn damaged_list(seeded: &mut Seeded, n: usize) -> Vec<u16> {
     let mut list = random_list(seeded, n);
@@ -123,19 +57,6 @@ fn damaged_list(seeded: &mut Seeded, n: usize) -> Vec<u16> {
         };
     }
     list
-}
-
-/// A table of n parts that is accepted.
-fn random_table(seeded: &mut Seeded, n: usize) -> Vec<u8> {
-    let list = random_list(seeded, n);
-    naive::table_of(&naive::path_sets_rising(n, &list))
-}
-
-/// A table with the bit of one set turned over.
-fn flipped(table: &[u8], set: usize) -> Vec<u8> {
-    let mut table = table.to_vec();
-    table[set / 8] ^= 1 << (set % 8);
-    table
 }
 
 // ---- tables

@@ -6,6 +6,8 @@ use libc::STDOUT_FILENO;
 fn main() {
     tables();
     lists();
+    figures();
+    shares();
 }
 
 // Verdicts on tables: 01's examples on each edge, and the order of the checks.
@@ -44,6 +46,101 @@ fn lists() {
     list(b"n = 2, {1} {3}", 2, &[1, 4]);
     list(b"n = 2, {1} and the empty set", 2, &[1, 0]);
     list(b"n = 17, {1}", 17, &[1]);
+}
+
+// The figures of the papers' systems.
+fn figures() {
+    say(b"figures\n");
+    figures_of_list(b"n = 1, {1}", 1, &[1]);
+    figures_of_list(b"n = 2, {1} {2} (001, example 1)", 2, &[1, 2]);
+    figures_of_list(b"n = 2, {1,2}", 2, &[3]);
+    figures_of_list(b"n = 2, {1}", 2, &[1]);
+    figures_of_list(
+        b"the bridge (000, examples 1 to 4; 001, example 2; 003, examples 2 and 3)",
+        5,
+        &[9, 18, 21, 14],
+    );
+    figures_of_list(b"003, remark 2, first of 8 parts", 8, &[3, 14, 240]);
+    figures_of_list(b"003, remark 2, second of 8 parts", 8, &[5, 26, 227]);
+    figures_of_list(b"003, remark 4 (a)", 4, &[3, 6, 12]);
+    figures_of_list(b"003, remark 4 (b), first of 6 parts", 6, &[3, 14, 60]);
+    figures_of_list(b"003, remark 4 (b), second of 5 parts", 5, &[5, 26]);
+    figures_of_list(b"003, remark 4 (b), second of 6 parts", 6, &[5, 26]);
+}
+
+fn figures_of_list(name: &[u8], n: usize, masks: &[u16]) {
+    say(name);
+    say(b":\n");
+    let mut bytes = [0u8; 32];
+    let wrote = structure::table_of_list(n, masks, &mut bytes);
+    match wrote {
+        Written::Refused(refusal) => refused(refusal.number, refusal.place),
+        Written::Length(length) => figures_of_front(n, &bytes, length),
+    }
+}
+
+// The figures of the table in front of a buffer.
+fn figures_of_front(n: usize, bytes: &[u8], length: usize) {
+    if length <= bytes.len() {
+        figures_of_table(n, &bytes[..length]);
+    }
+}
+
+fn figures_of_table(n: usize, bytes: &[u8]) {
+    let mut cells = [0i64; 9];
+    let counted = signature::path_counts(n, bytes, &mut cells);
+    vector(b"  path counts", counted, &cells);
+    let tailed = signature::tail(n, bytes, &mut cells);
+    vector(b"  tail", tailed, &cells);
+    let signed = signature::signature(n, bytes, &mut cells);
+    vector(b"  signature", signed, &cells);
+    let dominated = signature::domination(n, bytes, &mut cells);
+    vector(b"  domination", dominated, &cells);
+    let mut counts = [0u64; 8];
+    let weighed = signature::importance(n, bytes, &mut counts);
+    importances(weighed, &counts);
+}
+
+fn vector(name: &[u8], answer: Written, cells: &[i64]) {
+    say(name);
+    match answer {
+        Written::Refused(refusal) => refused_after(refusal.number, refusal.place),
+        Written::Length(count) => show_cells(cells, count),
+    }
+    say(b"\n");
+}
+
+fn importances(answer: Written, counts: &[u64]) {
+    say(b"  importances");
+    match answer {
+        Written::Refused(refusal) => refused_after(refusal.number, refusal.place),
+        Written::Length(count) => show_counts(counts, count),
+    }
+    say(b"\n");
+}
+
+// Shares of groups of the bridge by both routes, and h(x,z) (001, examples 2 to 4).
+fn shares() {
+    say(b"shares of the bridge\n");
+    shares_of_group(b"position 1", 1);
+    shares_of_group(b"position 3", 4);
+    shares_of_group(b"positions 1, 2 and 3", 7);
+    shares_of_group(b"all positions", 31);
+    shares_of_group(b"no position", 0);
+    shares_of_group(b"position 6", 32);
+}
+
+fn shares_of_group(name: &[u8], group: usize) {
+    say(name);
+    say(b":\n");
+    let bridge = [0x00u8, 0xEA, 0xEC, 0xEE];
+    let mut cells = [0i64; 12];
+    let by_sets = subsignature::shares_by_sets(5, &bridge, group, &mut cells);
+    vector(b"  set by set", by_sets, &cells);
+    let through = subsignature::shares_by_reliability(5, &bridge, group, &mut cells);
+    vector(b"  through h", through, &cells);
+    let coefficients = subsignature::reliability(5, &bridge, group, &mut cells);
+    vector(b"  h", coefficients, &cells);
 }
 
 fn table(name: &[u8], n: usize, bytes: &[u8]) {
@@ -90,6 +187,11 @@ fn verdict(answer: Verdict) {
     }
 }
 
+fn refused_after(number: u8, place: usize) {
+    say(b" ");
+    refused(number, place);
+}
+
 fn refused(number: u8, place: usize) {
     say(b"refused ");
     io::print_decimal(STDOUT_FILENO, number as u64);
@@ -113,6 +215,37 @@ fn show_sets(sets: &[u16], count: usize) {
             say(b" ");
             show_set(sets[i]);
         }
+    }
+}
+
+fn show_cells(cells: &[i64], count: usize) {
+    for i in 0..cells.len() {
+        if i < count {
+            say(b" ");
+            show_signed(cells[i]);
+        }
+    }
+}
+
+fn show_counts(counts: &[u64], count: usize) {
+    for i in 0..counts.len() {
+        if i < count {
+            say(b" ");
+            io::print_decimal(STDOUT_FILENO, counts[i]);
+        }
+    }
+}
+
+fn show_signed(value: i64) {
+    let mut spelt = [0u8; 21];
+    let end = text::put_signed(&mut spelt, 0, value);
+    say_front(&spelt, end);
+}
+
+// Says the text in front of a buffer.
+fn say_front(text: &[u8], end: usize) {
+    if end <= text.len() {
+        say(&text[..end]);
     }
 }
 

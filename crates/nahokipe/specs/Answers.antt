@@ -7,6 +7,9 @@ use Rattle.answer.specs.declared.Verdict.{Verdict}
 use Rattle.answer.specs.declared.Verdict.the-variants as verdict
 use Rattle.answer.specs.declared.Written.{Written}
 use Rattle.answer.specs.declared.Written.the-variants as written
+use lib.IntN.{ℤ}
+use Rattle.signature.specs.All.{Buffers, AllOutcome}
+use Rattle.subsignature.specs.Both.{BothOutcome}
 use Rattle.nahokipe.specs.declared.Answer.{Answer}
 
 abbrev pub answer : ℕ → ℕ → Answer
@@ -21,6 +24,17 @@ ofWritten (written.Length n) = answer 0 n
 ofWritten (written.Refused r) = answer (r .number) (r .place)
 
 -- a call hands out the answer of an outcome, and leaves its buffer
-pub record Leaves (o : Outcome ℕ) (handed : Answer) (buffer : List ℕ) : Type 0 where
+pub record Leaves {A : Type 0} (o : Outcome A) (handed : Answer) (buffer : List A) : Type 0 where
   pub answered : handed ≡ ofWritten (o .answer)
   pub left : buffer ≡ o .buffer
+
+-- the same of the call with four buffers
+pub record LeavesAll (o : AllOutcome) (handed : Answer) (buffers : Buffers) : Type 0 where
+  pub answered : handed ≡ ofVerdict (o .answer)
+  pub left : buffers ≡ o .buffers
+
+-- and of the call with two
+pub record LeavesBoth (o : BothOutcome) (handed : Answer) (first second : List ℤ) : Type 0 where
+  pub answered : handed ≡ ofWritten (o .answer)
+  pub left : first ≡ o .first
+  pub left-second : second ≡ o .second

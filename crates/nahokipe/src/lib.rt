@@ -6,7 +6,12 @@ ghost use Rattle.answer.specs.Outcome.{delivered};
 ghost use Rattle.sets.specs.Structures.{listed, minimalSets};
 ghost use Rattle.sets.specs.Tables.{inTable, tableOf};
 ghost use Rattle.structure.specs.Checks.{listRefusal, tableRefusal};
-ghost use Rattle.nahokipe.specs.Answers.{ofVerdict, ofWritten, Leaves};
+ghost use Rattle.signature.specs.Figures.{pathCounts, tails, signatures, dominations, importances};
+ghost use Rattle.signature.specs.All.{buffersOf, allFigures};
+ghost use Rattle.shares.specs.Refusals.{sharesRefusal};
+ghost use Rattle.shares.specs.Shares.{sharesBySets, sharesByReliability, reliabilityCells, groupCounts};
+ghost use Rattle.subsignature.specs.Both.{bothDelivered};
+ghost use Rattle.nahokipe.specs.Answers.{ofVerdict, ofWritten, Leaves, LeavesAll, LeavesBoth};
 
 // What a host is handed: number 0 and the length written, or a refusal's number and place.
 #[repr(C)]
@@ -45,6 +50,114 @@ pub extern "C" fn nahokipe_minimal_sets(n: usize, table: &[u8], sets: &mut [u16]
     ensures { λ r. ⌜ Leaves (delivered (tableRefusal n (now (table .entry))) (minimalSets n (inTable (now (table .entry)))) (now (sets .entry))) r (now (sets .exit)) ⌝ }
 {
     of_written(structure::minimal_sets(n, table, sets))
+}
+
+// The path counts φ(0) to φ(n) of a table.
+#[no_mangle]
+pub extern "C" fn nahokipe_path_counts(n: usize, table: &[u8], cells: &mut [i64]) -> Answer
+    ensures { λ r. ⌜ Leaves (delivered (tableRefusal n (now (table .entry))) (pathCounts n (inTable (now (table .entry)))) (now (cells .entry))) r (now (cells .exit)) ⌝ }
+{
+    of_written(signature::path_counts(n, table, cells))
+}
+
+// The tail T(0) to T(n) of a table.
+#[no_mangle]
+pub extern "C" fn nahokipe_tail(n: usize, table: &[u8], cells: &mut [i64]) -> Answer
+    ensures { λ r. ⌜ Leaves (delivered (tableRefusal n (now (table .entry))) (tails n (inTable (now (table .entry)))) (now (cells .entry))) r (now (cells .exit)) ⌝ }
+{
+    of_written(signature::tail(n, table, cells))
+}
+
+// The signature N(1) to N(n) of a table.
+#[no_mangle]
+pub extern "C" fn nahokipe_signature(n: usize, table: &[u8], cells: &mut [i64]) -> Answer
+    ensures { λ r. ⌜ Leaves (delivered (tableRefusal n (now (table .entry))) (signatures n (inTable (now (table .entry)))) (now (cells .entry))) r (now (cells .exit)) ⌝ }
+{
+    of_written(signature::signature(n, table, cells))
+}
+
+// The domination d(0) to d(n) of a table.
+#[no_mangle]
+pub extern "C" fn nahokipe_domination(n: usize, table: &[u8], cells: &mut [i64]) -> Answer
+    ensures { λ r. ⌜ Leaves (delivered (tableRefusal n (now (table .entry))) (dominations n (inTable (now (table .entry)))) (now (cells .entry))) r (now (cells .exit)) ⌝ }
+{
+    of_written(signature::domination(n, table, cells))
+}
+
+// The Barlow-Proschan counts of all parts, by position.
+#[no_mangle]
+pub extern "C" fn nahokipe_importance(n: usize, table: &[u8], cells: &mut [u64]) -> Answer
+    ensures { λ r. ⌜ Leaves (delivered (tableRefusal n (now (table .entry))) (importances n (inTable (now (table .entry)))) (now (cells .entry))) r (now (cells .exit)) ⌝ }
+{
+    of_written(signature::importance(n, table, cells))
+}
+
+// The path counts, the signature, the domination and the importances of a table at once.
+#[no_mangle]
+pub extern "C" fn nahokipe_figures(
+    n: usize,
+    table: &[u8],
+    counts: &mut [i64],
+    signature: &mut [i64],
+    domination: &mut [i64],
+    importance: &mut [u64],
+) -> Answer
+    ensures { λ r. ⌜ LeavesAll (allFigures n (now (table .entry)) (buffersOf (now (counts .entry)) (now (signature .entry)) (now (domination .entry)) (now (importance .entry)))) r (buffersOf (now (counts .exit)) (now (signature .exit)) (now (domination .exit)) (now (importance .exit))) ⌝ }
+{
+    of_verdict(signature::figures(n, table, counts, signature, domination, importance))
+}
+
+// The shares of a group, set by set.
+#[no_mangle]
+pub extern "C" fn nahokipe_shares_by_sets(
+    n: usize,
+    table: &[u8],
+    group: usize,
+    cells: &mut [i64],
+) -> Answer
+    ensures { λ r. ⌜ Leaves (delivered (sharesRefusal n (now (table .entry)) group) (sharesBySets n (inTable (now (table .entry))) group) (now (cells .entry))) r (now (cells .exit)) ⌝ }
+{
+    of_written(subsignature::shares_by_sets(n, table, group, cells))
+}
+
+// The shares of a group through h(x,z).
+#[no_mangle]
+pub extern "C" fn nahokipe_shares_by_reliability(
+    n: usize,
+    table: &[u8],
+    group: usize,
+    cells: &mut [i64],
+) -> Answer
+    ensures { λ r. ⌜ Leaves (delivered (sharesRefusal n (now (table .entry)) group) (sharesByReliability n (inTable (now (table .entry))) group) (now (cells .entry))) r (now (cells .exit)) ⌝ }
+{
+    of_written(subsignature::shares_by_reliability(n, table, group, cells))
+}
+
+// The coefficients of h(x,z), where x stands for the parts of the group.
+#[no_mangle]
+pub extern "C" fn nahokipe_reliability(
+    n: usize,
+    table: &[u8],
+    group: usize,
+    cells: &mut [i64],
+) -> Answer
+    ensures { λ r. ⌜ Leaves (delivered (sharesRefusal n (now (table .entry)) group) (reliabilityCells n (inTable (now (table .entry))) group) (now (cells .entry))) r (now (cells .exit)) ⌝ }
+{
+    of_written(subsignature::reliability(n, table, group, cells))
+}
+
+// The shares of a group by both routes: the counts of failure orders, twice.
+#[no_mangle]
+pub extern "C" fn nahokipe_shares_by_both_routes(
+    n: usize,
+    table: &[u8],
+    group: usize,
+    first: &mut [i64],
+    second: &mut [i64],
+) -> Answer
+    ensures { λ r. ⌜ LeavesBoth (bothDelivered (sharesRefusal n (now (table .entry)) group) (groupCounts n (inTable (now (table .entry))) group) (now (first .entry)) (now (second .entry))) r (now (first .exit)) (now (second .exit)) ⌝ }
+{
+    of_written(subsignature::shares_by_both_routes(n, table, group, first, second))
 }
 
 fn of_verdict(verdict: Verdict) -> Answer

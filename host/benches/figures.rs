@@ -1,0 +1,85 @@
+//! How long the calculator takes for the path counts, the signature, the domination and the importances of a machine that runs on any 6
+//! of its 16 parts, beside a Rust baseline that counts bits by instruction. Both check the table first. Times are printed and never
+//! tested; that both give the same results is asserted in every round.
+
+mod baseline {
+    pub mod figures;
+    mod table;
+}
+mod timing;
+
+use nahokipe_host::naive_figures::Buffers;
+use nahokipe_host::Refusal;
+use std::hint::black_box;
+use timing::{print_head, print_row, timed};
+
+const PARTS: usize = 16;
+const ROUNDS: usize = 5_000;
+
+/// The call that is timed.
+type Program =
+    fn(usize, &[u8], &mut [i64], &mut [i64], &mut [i64], &mut [u64]) -> Result<(), Refusal>;
+
+const CALCULATOR: Program = nahokipe_host::figures;
+const BASELINE: Program = baseline::figures::figures;
+
+fn main() {
+    let table = six_of_sixteen();
+    let (mut calculator, mut baseline) = (Vec::new(), Vec::new());
+    for number in 0..ROUNDS {
+        // Who goes first changes from round to round.
+        let ((ours, our_time), (theirs, their_time)) = if number % 2 == 0 {
+            let ours = round(CALCULATOR, &table);
+            (ours, round(BASELINE, &table))
+        } else {
+            let theirs = round(BASELINE, &table);
+            (round(CALCULATOR, &table), theirs)
+        };
+        assert!(ours == theirs && is_known(&ours), "results differ");
+        calculator.push(our_time);
+        baseline.push(their_time);
+    }
+    print_head(
+        "all figures of 6 of 16 parts, with the check of the table",
+        ROUNDS,
+    );
+    print_row("figures", calculator, baseline);
+}
+
+/// The table of all sets of 6 or more of 16 parts.
+fn six_of_sixteen() -> Vec<u8> {
+    let mut table = vec![0; 8192];
+    for set in (0..=u16::MAX).filter(|set| set.count_ones() >= 6) {
+        table[set as usize / 8] |= 1 << (set % 8);
+    }
+    table
+}
+
+/// The call once, into buffers that are filled with a pattern.
+fn round(program: Program, table: &[u8]) -> (Buffers, u128) {
+    let mut buffers = Buffers {
+        counts: vec![0x5A5A; PARTS + 1],
+        signature: vec![0x5A5A; PARTS],
+        domination: vec![0x5A5A; PARTS + 1],
+        importance: vec![0x5A5A; PARTS],
+    };
+    let (answer, time) = timed(|| {
+        program(
+            PARTS,
+            black_box(table),
+            &mut buffers.counts,
+            &mut buffers.signature,
+            &mut buffers.domination,
+            &mut buffers.importance,
+        )
+    });
+    assert_eq!(answer, Ok(()));
+    (buffers, time)
+}
+
+/// The eleventh failure stops the machine in all 16! orders, and no part differs from another.
+fn is_known(figures: &Buffers) -> bool {
+    figures.signature[10] == 20_922_789_888_000
+        && figures.domination[11] == -1_100_736
+        && figures.importance == [1_307_674_368_000; PARTS]
+}

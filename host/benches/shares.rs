@@ -1,0 +1,66 @@
+//! How long the calculator takes for the shares of a group of 8 parts by both routes, in a machine that runs on any 6 of its 16 parts,
+//! beside a plain Rust program that goes the same steps. Both check the table first. Times are printed and never tested; that both give
+//! the same results, by either route, is asserted in every round.
+
+mod baseline {
+    pub mod shares;
+    mod table;
+}
+mod timing;
+
+use nahokipe_host::Refusal;
+use std::hint::black_box;
+use timing::{print_head, print_row, timed};
+
+const PARTS: usize = 16;
+const GROUP: usize = 0x5A5A;
+const ROUNDS: usize = 2_000;
+
+/// The call that is timed.
+type Program = fn(usize, &[u8], usize, &mut [i64], &mut [i64]) -> Result<usize, Refusal>;
+
+const CALCULATOR: Program = nahokipe_host::shares_by_both_routes;
+const BASELINE: Program = baseline::shares::shares_by_both_routes;
+
+fn main() {
+    let table = six_of_sixteen();
+    let (mut calculator, mut baseline) = (Vec::new(), Vec::new());
+    for number in 0..ROUNDS {
+        // Who goes first changes from round to round.
+        let ((ours, our_time), (theirs, their_time)) = if number % 2 == 0 {
+            let ours = round(CALCULATOR, &table);
+            (ours, round(BASELINE, &table))
+        } else {
+            let theirs = round(BASELINE, &table);
+            (round(CALCULATOR, &table), theirs)
+        };
+        assert!(ours == theirs && ours[0] == ours[1], "results differ");
+        // Any of the 16 parts may be the one that stops the machine, and the group has half of them.
+        assert_eq!(ours[0].iter().sum::<i64>(), 20_922_789_888_000 / 2);
+        calculator.push(our_time);
+        baseline.push(their_time);
+    }
+    print_head(
+        "shares of 8 of 16 parts by both routes, with the check of the table",
+        ROUNDS,
+    );
+    print_row("shares", calculator, baseline);
+}
+
+/// The table of all sets of 6 or more of 16 parts.
+fn six_of_sixteen() -> Vec<u8> {
+    let mut table = vec![0; 8192];
+    for set in (0..=u16::MAX).filter(|set| set.count_ones() >= 6) {
+        table[set as usize / 8] |= 1 << (set % 8);
+    }
+    table
+}
+
+/// The call once, into buffers that are filled with a pattern.
+fn round(program: Program, table: &[u8]) -> ([Vec<i64>; 2], u128) {
+    let mut shares = [vec![0x5A5A; 8], vec![0x5A5A; 8]];
+    let [first, second] = &mut shares;
+    let (answer, time) = timed(|| program(PARTS, black_box(table), GROUP, first, second));
+    assert_eq!(answer, Ok(8));
+    (shares, time)
+}

@@ -1,7 +1,7 @@
 -- What a host is handed: number 0 where the call is given, with the length written; else the refusal's number, with its place.
 use mathlib.Core.List.{List}
 use mathlib.Core.Path.{_≡_}
-use Prim.Native.Nat.{ℕ}
+use Prim.Native.Nat.{ℕ, _-_}
 use Rattle.answer.specs.Outcome.{Outcome}
 use Rattle.answer.specs.declared.Verdict.{Verdict}
 use Rattle.answer.specs.declared.Verdict.the-variants as verdict
@@ -10,7 +10,12 @@ use Rattle.answer.specs.declared.Written.the-variants as written
 use lib.IntN.{ℤ}
 use Rattle.signature.specs.All.{Buffers, AllOutcome}
 use Rattle.subsignature.specs.Both.{BothOutcome}
+use Rattle.record.specs.declared.Contents.{Contents}
+use Rattle.record.specs.declared.Step.{Step}
+use Rattle.record.specs.declared.Step.the-variants as step
 use Rattle.nahokipe.specs.declared.Answer.{Answer}
+use Rattle.nahokipe.specs.declared.Record.{Record}
+use Rattle.nahokipe.specs.declared.NextSet.{NextSet}
 
 abbrev pub answer : ℕ → ℕ → Answer
 answer number value = record { number = number; value = value }
@@ -38,3 +43,22 @@ pub record LeavesBoth (o : BothOutcome) (handed : Answer) (first second : List �
   pub answered : handed ≡ ofWritten (o .answer)
   pub left : first ≡ o .first
   pub left-second : second ≡ o .second
+
+-- what reading a record hands out: the refusal, or 0; the part list; the sets; the stretch of their bytes as offset and length
+abbrev pub ofContents : Contents → Record
+ofContents contents =
+    record {
+      number = ofVerdict (contents .verdict) .number;
+      value = ofVerdict (contents .verdict) .value;
+      parts = contents .list .count;
+      mark = contents .list .mark;
+      numbers = contents .list .numbers;
+      sets = contents .sets;
+      offset = contents .begin;
+      length = contents .end - contents .begin;
+    }
+
+-- what a step along a record's sets hands out
+abbrev pub ofStep : Step → NextSet
+ofStep step.End = record { given = 0; set = 0; next = 0; left = 0 }
+ofStep (step.Set set cursor) = record { given = 1; set = set; next = cursor .next; left = cursor .left }

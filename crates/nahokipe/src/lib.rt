@@ -1,6 +1,9 @@
 // The static library: every entry point for C, each passing on to the function behind it.
 use answer::Verdict;
 use answer::Written;
+use record::Contents;
+use record::Cursor;
+use record::Step;
 ghost use mathlib.Core.Path.{_≡_};
 ghost use Rattle.answer.specs.Outcome.{delivered};
 ghost use Rattle.sets.specs.Structures.{listed, minimalSets};
@@ -11,13 +14,41 @@ ghost use Rattle.signature.specs.All.{buffersOf, allFigures};
 ghost use Rattle.shares.specs.Refusals.{sharesRefusal};
 ghost use Rattle.shares.specs.Shares.{sharesBySets, sharesByReliability, reliabilityCells, groupCounts};
 ghost use Rattle.subsignature.specs.Both.{bothDelivered};
-ghost use Rattle.nahokipe.specs.Answers.{ofVerdict, ofWritten, Leaves, LeavesAll, LeavesBoth};
+ghost use Rattle.vector.specs.Kinds.{kindOf, kindRefusal};
+ghost use Rattle.vector.specs.Vectors.{vectorRefusal, converted};
+ghost use Rattle.record.specs.Contents.{wholeContents, contentsAt, cursor, stepAt, recordRefusal, designIn};
+ghost use Rattle.changes.specs.Records.{firstRecord};
+ghost use Prim.Native.Nat.{_-_};
+ghost use Rattle.nahokipe.specs.Answers.{ofVerdict, ofWritten, ofContents, ofStep, Leaves, LeavesAll, LeavesBoth};
 
 // What a host is handed: number 0 and the length written, or a refusal's number and place.
 #[repr(C)]
 pub struct Answer {
     pub number: u8,
     pub value: usize,
+}
+
+// What reading a record hands out: number and value as above; of an accepted record its part list, how many sets it has, and which of its
+// bytes carry them.
+#[repr(C)]
+pub struct Record {
+    pub number: u8,
+    pub value: usize,
+    pub parts: usize,
+    pub mark: u64,
+    pub numbers: [u64; 16],
+    pub sets: usize,
+    pub offset: usize,
+    pub length: usize,
+}
+
+// What a step along the sets of a record hands out: 1, the set and where the walk is behind it; or 0 at the end.
+#[repr(C)]
+pub struct NextSet {
+    pub given: u8,
+    pub set: u64,
+    pub next: usize,
+    pub left: usize,
 }
 
 // The verdict on a list of sets.
@@ -160,6 +191,69 @@ pub extern "C" fn nahokipe_shares_by_both_routes(
     of_written(subsignature::shares_by_both_routes(n, table, group, first, second))
 }
 
+// The verdict on a vector, whose kind comes as a number.
+#[no_mangle]
+pub extern "C" fn nahokipe_vector_verdict(kind: u8, n: usize, entries: &[i64]) -> Answer
+    ensures { λ r. ⌜ r ≡ ofVerdict (kindRefusal kind (vectorRefusal (kindOf kind) n (now (entries .entry)))) ⌝ }
+{
+    of_verdict(vector::judge_numbered(kind, n, entries))
+}
+
+// A vector as one of another kind; both kinds come as numbers.
+#[no_mangle]
+pub extern "C" fn nahokipe_convert(
+    kind: u8,
+    n: usize,
+    entries: &[i64],
+    target: u8,
+    cells: &mut [i64],
+) -> Answer
+    ensures { λ r. ⌜ Leaves (delivered (kindRefusal kind (kindRefusal target (vectorRefusal (kindOf kind) n (now (entries .entry))))) (converted (kindOf target) (kindOf kind) n (now (entries .entry))) (now (cells .entry))) r (now (cells .exit)) ⌝ }
+{
+    of_written(vector::convert_numbered(kind, n, entries, target, cells))
+}
+
+// What stands in the record that the bytes are.
+#[no_mangle]
+pub extern "C" fn nahokipe_whole_record(bytes: &[u8]) -> Record
+    ensures { λ r. ⌜ r ≡ ofContents (wholeContents (now (bytes .entry))) ⌝ }
+{
+    of_contents(record::whole_record(bytes))
+}
+
+// What stands in the record at a position; what comes after it is not looked at.
+#[no_mangle]
+pub extern "C" fn nahokipe_record_at(bytes: &[u8], start: usize) -> Record
+    ensures { λ r. ⌜ r ≡ ofContents (contentsAt (now (bytes .entry)) start) ⌝ }
+{
+    of_contents(record::read_record(bytes, start))
+}
+
+// The next set of a record where it stands, on a walk that has so many left.
+#[no_mangle]
+pub extern "C" fn nahokipe_next_set(bytes: &[u8], next: usize, left: usize) -> NextSet
+    ensures { λ r. ⌜ r ≡ ofStep (stepAt (now (bytes .entry)) (cursor next left)) ⌝ }
+{
+    let at = Cursor { next, left };
+    of_step(at.step(bytes))
+}
+
+// The table of a record.
+#[no_mangle]
+pub extern "C" fn nahokipe_table_of_record(bytes: &[u8], table: &mut [u8]) -> Answer
+    ensures { λ r. ⌜ Leaves (delivered (recordRefusal (now (bytes .entry))) (tableOf (designIn (now (bytes .entry)) .parts .count) (listed (designIn (now (bytes .entry)) .sets))) (now (table .entry))) r (now (table .exit)) ⌝ }
+{
+    of_written(record::table_of_record(bytes, table))
+}
+
+// A first record, of a list of sets.
+#[no_mangle]
+pub extern "C" fn nahokipe_first_record(n: usize, list: &[u16], buffer: &mut [u8]) -> Answer
+    ensures { λ r. ⌜ Leaves (firstRecord n (now (list .entry)) (now (buffer .entry))) r (now (buffer .exit)) ⌝ }
+{
+    of_written(changes::first_record(n, list, buffer))
+}
+
 fn of_verdict(verdict: Verdict) -> Answer
     ensures { λ r. ⌜ r ≡ ofVerdict verdict ⌝ }
 {
@@ -186,6 +280,52 @@ fn of_written(written: Written) -> Answer
         Written::Refused(refusal) => Answer {
             number: refusal.number,
             value: refusal.place,
+        },
+    }
+}
+
+fn of_contents(contents: Contents) -> Record
+    ensures { λ r. ⌜ r ≡ ofContents contents ⌝ }
+{
+    let verdict = contents.verdict;
+    let answer = of_verdict(verdict);
+    let list = contents.list;
+    let numbers = list.numbers;
+    let offset = contents.begin;
+    Record {
+        number: answer.number,
+        value: answer.value,
+        parts: list.count,
+        mark: list.mark,
+        numbers,
+        sets: contents.sets,
+        offset,
+        length: between(offset, contents.end),
+    }
+}
+
+// How many bytes stand between two positions.
+fn between(begin: usize, end: usize) -> usize
+    ensures { λ r. ⌜ r ≡ end - begin ⌝ }
+{
+    if end < begin { 0 } else { end - begin }
+}
+
+fn of_step(step: Step) -> NextSet
+    ensures { λ r. ⌜ r ≡ ofStep step ⌝ }
+{
+    match step {
+        Step::End => NextSet {
+            given: 0,
+            set: 0,
+            next: 0,
+            left: 0,
+        },
+        Step::Set { set, cursor } => NextSet {
+            given: 1,
+            set,
+            next: cursor.next,
+            left: cursor.left,
         },
     }
 }

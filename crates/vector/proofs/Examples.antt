@@ -1,4 +1,4 @@
--- 01's examples of vectors, computed. Assumes nothing.
+-- Edges of vectors, computed; 01's own † examples are in the list of `worked`. Assumes nothing.
 use mathlib.Core.Path.{_≡_, refl}
 use mathlib.Core.List.{[], _∷_}
 use lib.IntN.{pos, negsuc, pow, one}
@@ -11,18 +11,6 @@ use Rattle.answer.specs.declared.Verdict.the-variants.{Accepted, Refused}
 use Rattle.signature.specs.Figures.{domination}
 use Rattle.vector.specs.Vectors.{scaledCount, unitOf, wrongCount, falls, countsRefusal, vectorRefusal, figure, converted}
 use Rattle.vector.specs.declared.Kind.the-variants.{PathCounts, Tail, Signature, Domination}
-
-falling : vectorRefusal PathCounts 3 (pos 0 ∷ pos 3 ∷ pos 2 ∷ pos 1 ∷ []) ≡ Refused (at 14 1)
-unfolding factorial choose sumBelowℤ any those scaledCount unitOf wrongCount falls countsRefusal vectorRefusal
-falling = refl
-
-level : vectorRefusal PathCounts 4 (pos 0 ∷ pos 0 ∷ pos 1 ∷ pos 1 ∷ pos 1 ∷ []) ≡ Accepted
-unfolding factorial choose sumBelowℤ any those scaledCount unitOf wrongCount falls countsRefusal vectorRefusal
-level = refl
-
-not-whole : vectorRefusal Tail 5 (pos 120 ∷ pos 120 ∷ pos 100 ∷ pos 24 ∷ pos 0 ∷ pos 0 ∷ []) ≡ Refused (at 13 3)
-unfolding factorial choose sumBelowℤ any those scaledCount unitOf wrongCount falls countsRefusal vectorRefusal
-not-whole = refl
 
 -- with faults at the indexes 1 and 4 the smaller size is reported
 smallest-size : vectorRefusal Tail 5 (pos 120 ∷ pos 119 ∷ pos 96 ∷ pos 24 ∷ pos 1 ∷ pos 0 ∷ []) ≡ Refused (at 13 1)

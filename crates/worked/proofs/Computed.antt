@@ -6,14 +6,15 @@ use lib.IntN.{pow, one}
 use Rattle.numbers.specs.Counts.{factorial, choose}
 use Rattle.numbers.specs.Tables.{tabulate}
 use Rattle.algebra.specs.Sums.{sumBelow, sumBelowℤ}
-use Rattle.sets.specs.Masks.{has, holds}
+use Rattle.sets.specs.Masks.{has, holds, any, those}
 use Rattle.sets.specs.Structures.{listed}
 use Rattle.orders.specs.Formulas.{pathCount, added, taken}
 use Rattle.signature.specs.Figures.{tail, signature, domination, setDomination, importance}
 use Rattle.shares.specs.Polynomials.{derivative, reflected, shifted, coefficient, integral, shareFrom}
 use Rattle.shares.specs.Shares.{shareOf, sharesBySets, reliability, reliabilityCells, inCells, sharesFromCells, sharesByReliability}
+use Rattle.vector.specs.Vectors.{scaledCount, unitOf, wrongCount, falls, countsRefusal, vectorRefusal}
 use Rattle.worked.specs.Examples.{value, examples}
 
 pub examples-hold : map (λ e. value (e .question)) examples ≡ map (λ e. e .answer) examples
-unfolding ones onesIn pow one factorial choose tabulate sumBelow sumBelowℤ has holds listed pathCount tail signature domination importance added taken setDomination derivative reflected shifted coefficient integral shareFrom shareOf sharesBySets reliability reliabilityCells inCells sharesFromCells sharesByReliability
+unfolding ones onesIn pow one factorial choose tabulate sumBelow sumBelowℤ has holds listed pathCount tail signature domination importance added taken setDomination derivative reflected shifted coefficient integral shareFrom shareOf sharesBySets reliability reliabilityCells inCells sharesFromCells sharesByReliability any those scaledCount unitOf wrongCount falls countsRefusal vectorRefusal
 examples-hold = refl

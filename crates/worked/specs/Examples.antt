@@ -1,39 +1,57 @@
--- The examples of 01 that are marked † ("Examples on each edge"): what is asked of a structure, given by its list of sets, and the answer.
+-- The examples of 01 that are marked † ("Examples on each edge"): what is asked of a structure, given by its list of sets, or of a vector,
+-- and the answer.
 use mathlib.Core.List.{List, [], _∷_}
 use Prim.Native.Nat.{ℕ}
 use lib.IntN.{ℤ, pos, negsuc}
+use Rattle.answer.specs.Outcome.{at}
+use Rattle.answer.specs.Refusals.{wrongPathCount, fallingProportion}
+use Rattle.answer.specs.declared.Verdict.{Verdict}
+use Rattle.answer.specs.declared.Verdict.the-variants.{Accepted, Refused}
 use Rattle.sets.specs.Structures.{listed}
 use Rattle.signature.specs.Figures.{importance, pathCounts, tails, signatures, dominations}
 use Rattle.shares.specs.Shares.{sharesBySets, reliabilityCells, sharesByReliability}
+use Rattle.vector.specs.Vectors.{vectorRefusal}
+use Rattle.vector.specs.declared.Kind.{Kind}
+use Rattle.vector.specs.declared.Kind.the-variants.{PathCounts, Tail}
 
 -- a structure of n parts by its list of sets
 pub record Structure : Type 0 where
   pub parts : ℕ
   pub sets : List ℕ
 
--- what is asked of it
+-- what is asked of it, or whether a vector of a kind and n is accepted
 pub data Question : Type 0 where
   pathCountsOf tailOf signatureOf dominationOf : Structure → Question
   importanceOf : Structure → ℕ → Question
   sharesBySetsOf reliabilityOf sharesByReliabilityOf : Structure → ℕ → Question
+  verdictOf : Kind → ℕ → List ℤ → Question
+
+-- figures, or a verdict
+pub data Answer : Type 0 where
+  figures : List ℤ → Answer
+  verdict : Verdict → Answer
 
 -- what the definitions give
-abbrev pub value : Question → List ℤ
-value (pathCountsOf s) = pathCounts (s .parts) (listed (s .sets))
-value (tailOf s) = tails (s .parts) (listed (s .sets))
-value (signatureOf s) = signatures (s .parts) (listed (s .sets))
-value (dominationOf s) = dominations (s .parts) (listed (s .sets))
-value (importanceOf s position) = pos (importance (s .parts) (listed (s .sets)) position) ∷ []
-value (sharesBySetsOf s group) = sharesBySets (s .parts) (listed (s .sets)) group
-value (reliabilityOf s group) = reliabilityCells (s .parts) (listed (s .sets)) group
-value (sharesByReliabilityOf s group) = sharesByReliability (s .parts) (listed (s .sets)) group
+abbrev pub value : Question → Answer
+value (pathCountsOf s) = figures (pathCounts (s .parts) (listed (s .sets)))
+value (tailOf s) = figures (tails (s .parts) (listed (s .sets)))
+value (signatureOf s) = figures (signatures (s .parts) (listed (s .sets)))
+value (dominationOf s) = figures (dominations (s .parts) (listed (s .sets)))
+value (importanceOf s position) = figures (pos (importance (s .parts) (listed (s .sets)) position) ∷ [])
+value (sharesBySetsOf s group) = figures (sharesBySets (s .parts) (listed (s .sets)) group)
+value (reliabilityOf s group) = figures (reliabilityCells (s .parts) (listed (s .sets)) group)
+value (sharesByReliabilityOf s group) = figures (sharesByReliability (s .parts) (listed (s .sets)) group)
+value (verdictOf kind n entries) = verdict (vectorRefusal kind n entries)
 
 pub record Example : Type 0 where
   pub question : Question
-  pub answer : List ℤ
+  pub answer : Answer
 
 abbrev gives : Question → List ℤ → Example
-gives question answer = record { question = question; answer = answer }
+gives question cells = record { question = question; answer = figures cells }
+
+abbrev isJudged : Question → Verdict → Example
+isJudged question answer = record { question = question; answer = verdict answer }
 
 -- {1,4}, {2,3,4}, {2,5}, {1,3,5}
 abbrev pub bridge : Structure
@@ -76,4 +94,7 @@ examples =
     ∷ gives (dominationOf series) (pos 0 ∷ pos 0 ∷ pos 1 ∷ [])
     ∷ gives (signatureOf idleSecond) (pos 1 ∷ pos 1 ∷ [])
     ∷ gives (importanceOf idleSecond 2) (pos 0 ∷ [])
+    ∷ isJudged (verdictOf PathCounts 3 (pos 0 ∷ pos 3 ∷ pos 2 ∷ pos 1 ∷ [])) (Refused (at fallingProportion 1))
+    ∷ isJudged (verdictOf PathCounts 4 (pos 0 ∷ pos 0 ∷ pos 1 ∷ pos 1 ∷ pos 1 ∷ [])) Accepted
+    ∷ isJudged (verdictOf Tail 5 (pos 120 ∷ pos 120 ∷ pos 100 ∷ pos 24 ∷ pos 0 ∷ pos 0 ∷ [])) (Refused (at wrongPathCount 3))
     ∷ []

@@ -1,13 +1,18 @@
 // Runs worked examples of 01 on the calculator and prints what it answers; the file stdout beside this one holds what it must print.
 use answer::Verdict;
 use answer::Written;
+use codec::Field;
+use codec::Reading;
 use libc::STDOUT_FILENO;
+use vector::Kind;
 
 fn main() {
     tables();
     lists();
     figures();
     shares();
+    vectors();
+    numbers();
 }
 
 // Verdicts on tables: 01's examples on each edge, and the order of the checks.
@@ -141,6 +146,79 @@ fn shares_of_group(name: &[u8], group: usize) {
     vector(b"  through h", through, &cells);
     let coefficients = subsignature::reliability(5, &bridge, group, &mut cells);
     vector(b"  h", coefficients, &cells);
+}
+
+// The bridge's vectors into each other (000, examples 2 to 4), and vectors on an edge.
+fn vectors() {
+    say(b"vectors\n");
+    let tail = [120i64, 120, 96, 24, 0, 0];
+    let signature = [0i64, 24, 72, 24, 0];
+    let domination = [0i64, 0, 2, 2, -5, 2];
+    conversion(b"tail to domination", Kind::Tail, &tail, Kind::Domination);
+    conversion(
+        b"signature to domination",
+        Kind::Signature,
+        &signature,
+        Kind::Domination,
+    );
+    conversion(
+        b"domination to tail",
+        Kind::Domination,
+        &domination,
+        Kind::Tail,
+    );
+    conversion(
+        b"domination to signature",
+        Kind::Domination,
+        &domination,
+        Kind::Signature,
+    );
+    conversion(b"tail to path counts", Kind::Tail, &tail, Kind::PathCounts);
+    let short = [120i64, 120, 96, 24, 0];
+    conversion(
+        b"a tail without T(5) to signature",
+        Kind::Tail,
+        &short,
+        Kind::Signature,
+    );
+    let broken = [120i64, 120, 100, 24, 0, 0];
+    conversion(
+        b"tail 120 120 100 24 0 0 to signature",
+        Kind::Tail,
+        &broken,
+        Kind::Signature,
+    );
+}
+
+// A vector of a machine of five parts as one of another kind.
+fn conversion(name: &[u8], kind: Kind, entries: &[i64], target: Kind) {
+    let mut cells = [0i64; 6];
+    let converted = vector::convert(kind, 5, entries, target, &mut cells);
+    vector(name, converted, &cells);
+}
+
+// Numbers in groups of seven bits, on an edge.
+fn numbers() {
+    say(b"numbers\n");
+    number(b"AC 02", &[0xAC, 0x02]);
+    number(b"80 00", &[0x80, 0x00]);
+    number(b"80", &[0x80]);
+    number(b"FF FF FF FF 0F", &[0xFF, 0xFF, 0xFF, 0xFF, 0x0F]);
+    number(b"FF FF FF FF 10", &[0xFF, 0xFF, 0xFF, 0xFF, 0x10]);
+    number(b"FF FF FF FF FF", &[0xFF, 0xFF, 0xFF, 0xFF, 0xFF]);
+}
+
+fn number(name: &[u8], bytes: &[u8]) {
+    say(name);
+    say(b": ");
+    let found = codec::read_number(bytes, 0, Field::Record);
+    match found {
+        Reading::Refused(refusal) => refused(refusal.number, refusal.place),
+        Reading::Number { value, next: _ } => {
+            io::print_decimal(STDOUT_FILENO, value);
+        }
+    }
+    say(b"\n");
 }
 
 fn table(name: &[u8], n: usize, bytes: &[u8]) {

@@ -15,20 +15,38 @@ fn main() {
     numbers();
 }
 
-// Verdicts on tables: 01's examples on each edge, and the order of the checks.
+// Verdicts on tables.
 fn tables() {
     say(b"tables\n");
+    edges();
+    lengths();
+    order_of_checks();
+    largest();
+}
+
+// 01's examples on each edge.
+fn edges() {
     table(b"n = 2, 0A", 2, &[0x0A]);
     table(b"n = 2, 02", 2, &[0x02]);
     table(b"n = 3, 82", 3, &[0x82]);
     table(b"n = 3, C4", 3, &[0xC4]);
+}
+
+// Parts and lengths that no table has.
+fn lengths() {
     table(b"n = 0, no byte", 0, &[]);
     table(b"n = 17, no byte", 17, &[]);
     table(b"n = 3, 80 00", 3, &[0x80, 0x00]);
     table(b"n = 5, 00 00 00", 5, &[0x00, 0x00, 0x00]);
+}
+
+fn order_of_checks() {
     table(b"n = 1, 05", 1, &[0x05]);
     table(b"n = 2, 01", 2, &[0x01]);
     table(b"n = 3, 02", 3, &[0x02]);
+}
+
+fn largest() {
     let mut all_parts = [0u8; 8192];
     all_parts[8191] = 0x80;
     table(b"n = 16, all 16 parts", 16, &all_parts);
@@ -37,16 +55,28 @@ fn tables() {
 // Lists to tables and back to minimal sets.
 fn lists() {
     say(b"lists\n");
+    small_lists();
+    bridges();
+    refused_lists();
+}
+
+fn small_lists() {
     list(b"n = 1, {1}", 1, &[1]);
     list(b"n = 2, {1} {2}", 2, &[1, 2]);
     list(b"n = 2, {1,2}", 2, &[3]);
     list(b"n = 2, {1}", 2, &[1]);
+}
+
+fn bridges() {
     list(b"the bridge", 5, &[9, 18, 21, 14]);
     list(
         b"the bridge, with repeats and nested sets",
         5,
         &[31, 9, 9, 18, 27, 21, 14],
     );
+}
+
+fn refused_lists() {
     list(b"n = 2, no set", 2, &[]);
     list(b"n = 2, {1} {3}", 2, &[1, 4]);
     list(b"n = 2, {1} and the empty set", 2, &[1, 0]);
@@ -148,12 +178,17 @@ fn shares_of_group(name: &[u8], group: usize) {
     vector(b"  h", coefficients, &cells);
 }
 
-// The bridge's vectors into each other (000, examples 2 to 4), and vectors on an edge.
+// The bridge's vectors into each other (000, examples 2 to 4), and vectors that are refused.
 fn vectors() {
     say(b"vectors\n");
+    to_domination();
+    from_domination();
+    refused_vectors();
+}
+
+fn to_domination() {
     let tail = [120i64, 120, 96, 24, 0, 0];
     let signature = [0i64, 24, 72, 24, 0];
-    let domination = [0i64, 0, 2, 2, -5, 2];
     conversion(b"tail to domination", Kind::Tail, &tail, Kind::Domination);
     conversion(
         b"signature to domination",
@@ -161,6 +196,11 @@ fn vectors() {
         &signature,
         Kind::Domination,
     );
+    conversion(b"tail to path counts", Kind::Tail, &tail, Kind::PathCounts);
+}
+
+fn from_domination() {
+    let domination = [0i64, 0, 2, 2, -5, 2];
     conversion(
         b"domination to tail",
         Kind::Domination,
@@ -173,7 +213,9 @@ fn vectors() {
         &domination,
         Kind::Signature,
     );
-    conversion(b"tail to path counts", Kind::Tail, &tail, Kind::PathCounts);
+}
+
+fn refused_vectors() {
     let short = [120i64, 120, 96, 24, 0];
     conversion(
         b"a tail without T(5) to signature",

@@ -40,23 +40,19 @@ pub fn add_part(bytes: &[u8], buffer: &mut [u8]) -> Written
 {
     let opened = open_record(bytes);
     let verdict = opened.verdict;
-    match verdict {
-        Verdict::Refused(refusal) => Written::Refused(refusal),
-        Verdict::Accepted => {
-            let old = opened.list;
-            let changed = old.add();
-            let numbered = changed.answer;
-            match numbered {
-                Numbered::Refused(refusal) => Written::Refused(refusal),
-                Numbered::Number(_) => {
-                    let list = changed.list;
-                    let sets = opened.sets;
-                    let count = opened.count;
-                    write_design(list, &sets[..count], buffer)
-                }
-            }
-        }
+    if let Verdict::Refused(refusal) = verdict {
+        return Written::Refused(refusal);
     }
+    let old = opened.list;
+    let changed = old.add();
+    let numbered = changed.answer;
+    if let Numbered::Refused(refusal) = numbered {
+        return Written::Refused(refusal);
+    }
+    let list = changed.list;
+    let sets = opened.sets;
+    let count = opened.count;
+    write_design(list, &sets[..count], buffer)
 }
 
 // Take out the part at a position: the sets that name it go, higher positions move down by one, part numbers and mark stay.
@@ -65,28 +61,24 @@ pub fn take_out(bytes: &[u8], position: usize, buffer: &mut [u8]) -> Written
 {
     let opened = open_record(bytes);
     let verdict = opened.verdict;
-    match verdict {
-        Verdict::Refused(refusal) => Written::Refused(refusal),
-        Verdict::Accepted => {
-            let old = opened.list;
-            let changed = old.take_out(position);
-            let numbered = changed.answer;
-            match numbered {
-                Numbered::Refused(refusal) => Written::Refused(refusal),
-                Numbered::Number(_) => {
-                    let list = changed.list;
-                    let sets = opened.sets;
-                    let count = opened.count;
-                    let mut kept = [0u16; 12870];
-                    let left = sets_without(&sets[..count], position - 1, &mut kept);
-                    if left == 0 {
-                        return refused(answer::IN_EVERY_SET);
-                    }
-                    write_design(list, &kept[..left], buffer)
-                }
-            }
-        }
+    if let Verdict::Refused(refusal) = verdict {
+        return Written::Refused(refusal);
     }
+    let old = opened.list;
+    let changed = old.take_out(position);
+    let numbered = changed.answer;
+    if let Numbered::Refused(refusal) = numbered {
+        return Written::Refused(refusal);
+    }
+    let list = changed.list;
+    let sets = opened.sets;
+    let count = opened.count;
+    let mut kept = [0u16; 12870];
+    let left = sets_without(&sets[..count], position - 1, &mut kept);
+    if left == 0 {
+        return refused(answer::IN_EVERY_SET);
+    }
+    write_design(list, &kept[..left], buffer)
 }
 
 // Add set: the minimal sets of the old ones and the new one.
@@ -95,28 +87,26 @@ pub fn add_set(bytes: &[u8], set: u16, buffer: &mut [u8]) -> Written
 {
     let opened = open_record(bytes);
     let verdict = opened.verdict;
-    match verdict {
-        Verdict::Refused(refusal) => Written::Refused(refusal),
-        Verdict::Accepted => {
-            let list = opened.list;
-            let n = list.count;
-            if power(n) <= set as u32 {
-                return refused(answer::UNKNOWN_PART);
-            }
-            if set == 0 {
-                return refused(answer::EMPTY_SET);
-            }
-            let mut sets = opened.sets;
-            let count = opened.count;
-            sets[count] = set;
-            let all = count + 1;
-            let mut minimal = [0u16; 12870];
-            let found = minimal_of_sets(n, &sets[..all], &mut minimal);
-            match found {
-                Written::Refused(refusal) => Written::Refused(refusal),
-                Written::Length(left) => write_design(list, &minimal[..left], buffer),
-            }
-        }
+    if let Verdict::Refused(refusal) = verdict {
+        return Written::Refused(refusal);
+    }
+    let list = opened.list;
+    let n = list.count;
+    if power(n) <= set as u32 {
+        return refused(answer::UNKNOWN_PART);
+    }
+    if set == 0 {
+        return refused(answer::EMPTY_SET);
+    }
+    let mut sets = opened.sets;
+    let count = opened.count;
+    sets[count] = set;
+    let all = count + 1;
+    let mut minimal = [0u16; 12870];
+    let found = minimal_of_sets(n, &sets[..all], &mut minimal);
+    match found {
+        Written::Refused(refusal) => Written::Refused(refusal),
+        Written::Length(left) => write_design(list, &minimal[..left], buffer),
     }
 }
 
@@ -186,7 +176,11 @@ fn load_sets(bytes: &[u8], first: Cursor) -> [u16; 12871]
     let mut read = 0;
     while read < count {
         let step = cursor.step(bytes);
-        let Step::Set { set, cursor: behind } = step else {
+        let Step::Set {
+            set,
+            cursor: behind,
+        } = step
+        else {
             return sets;
         };
         sets[read] = set as u16;

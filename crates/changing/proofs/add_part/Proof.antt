@@ -95,14 +95,14 @@ add-part-spec =
     (tie.spec
     open-record-requires
     enum-known-verdict
+    returns
     enum-told
     add-requires
     enum-known-numbered
+    returns-2
     enum-told-2
     array-share-prefix-sets
     slice-aggregate-write-design
     write-design-requires
-    returns
-    returns-2
     same-length
     returns-3)

@@ -95,8 +95,8 @@ power-requires c κs = omega (arith, counted (c .before), read (c .before) .rule
 refused-requires : tie.Need-refused-requires
 refused-requires c κs = search needs
 
-returns : tie.Need-returns
-returns c =
+returns-2 : tie.Need-returns-2
+returns-2 c =
     let power = c .before .before in
     let told = power .before .before in
     let a = told .before .before .before .before .before .args in
@@ -108,8 +108,8 @@ returns c =
 refused-requires-2 : tie.Need-refused-requires-2
 refused-requires-2 c κs = search needs
 
-returns-2 : tie.Need-returns-2
-returns-2 c =
+returns-3 : tie.Need-returns-3
+returns-3 c =
     let power = c .before .before .before in
     let told = power .before .before in
     let a = told .before .before .before .before .before .args in
@@ -167,8 +167,8 @@ write-design-requires c κs =
     let r = read (told-of (sets-before k)) in
     (subst WellFormed (sym (r .list)) (r .rules .parts), omega (arith, ap length (front k), most (sets-before k)))
 
-returns-3 : tie.Need-returns-3
-returns-3 c =
+returns : tie.Need-returns
+returns c =
     let w = c .before .before .before in
     let a = w .before .before .before .args in
     opened-refused (now (a .bytes)) (w .open-record .result) (w .open-record .ensures) _ (c .before .verdict .given .1) (addSet (a .set)) (now (a .buffer))
@@ -199,12 +199,13 @@ add-set-spec =
     (tie.spec
     open-record-requires
     enum-known-verdict
+    returns
     enum-told
     power-requires
     refused-requires
-    returns
-    refused-requires-2
     returns-2
+    refused-requires-2
+    returns-3
     mul-sets
     array-write-sets
     add-all
@@ -217,7 +218,6 @@ add-set-spec =
     array-share-prefix-minimal
     slice-aggregate-write-design
     write-design-requires
-    returns-3
     returns-4
     same-length
     returns-5)

@@ -111,8 +111,8 @@ sets-without-requires c κs =
 refused-requires : tie.Need-refused-requires
 refused-requires c κs = search needs
 
-returns : tie.Need-returns
-returns c =
+returns-3 : tie.Need-returns-3
+returns-3 c =
     let w = c .before .before .before in
     let told = told-of w in
     let r = read (told .before .before .before .before) in
@@ -131,20 +131,19 @@ write-design-requires : tie.Need-write-design-requires
 write-design-requires c κs =
     let w = c .before .before .before .before in
     let told = told-of w in
-    let r = read (told .before .before .before .before) in
-    (
+    let r = read (told .before .before .before .before) in (
       rw (list-changed (told .before .before)) (changed-rules (takeOut (w .before .before .before .before .before .before .before .before .before .before .before .before .before .before .args .position)) (r .d) (r .rules) (made (c .before .before)) .parts),
       omega (arith, ap length (front w), built w .counted, few w),
     )
 
-returns-2 : tie.Need-returns-2
-returns-2 c =
+returns : tie.Need-returns
+returns c =
     let w = c .before .before .before in
     let a = w .before .before .before .args in
     opened-refused (now (a .bytes)) (w .open-record .result) (w .open-record .ensures) _ (c .before .verdict .given .1) (takeOut (a .position)) (now (a .buffer))
 
-returns-3 : tie.Need-returns-3
-returns-3 c =
+returns-2 : tie.Need-returns-2
+returns-2 c =
     let out = c .before .before .before in
     let told = out .before .before in
     let a = told .before .before .before .before .before .args in
@@ -171,9 +170,11 @@ take-out-spec =
     (tie.spec
     open-record-requires
     enum-known-verdict
+    returns
     enum-told
     take-out-requires
     enum-known-numbered
+    returns-2
     enum-told-2
     array-share-prefix-sets
     slice-aggregate-sets-without
@@ -181,11 +182,9 @@ take-out-spec =
     slice-aggregate-sets-without-2
     sets-without-requires
     refused-requires
-    returns
+    returns-3
     array-share-prefix-kept
     slice-aggregate-write-design
     write-design-requires
-    returns-2
-    returns-3
     same-length
     returns-4)

@@ -1,8 +1,6 @@
 pub mod MovedDown
-pub mod Writing
 pub mod Keeping
 pub mod MinimalSets
-pub mod ListSets
 pub mod TakenOut
 pub mod Rules
 pub mod Refusals

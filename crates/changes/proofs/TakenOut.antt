@@ -9,11 +9,11 @@ use borrow.Author.Tests.{not-true}
 use lib.ListN.{length, getD, take, length-map}
 use lib.Seq.{take-suc}
 use Rattle.sets.specs.Masks.{has, RisingFrom, holds}
-use Rattle.sets.proofs.Bools.{not-not}
+use Rattle.sets.proofs.Bools.{not-not, clash, false-of}
 use Rattle.sets.proofs.Ranges.{rising-above}
 use Rattle.record.specs.RecordBytes.{SetRules}
 use Rattle.changes.specs.Changes.{keep, every, lowered, setsWithout}
-use Rattle.changes.proofs.Keeping.{keep-elim, keep-fewer, keep-some}
+use Rattle.changes.proofs.Keeping.{keep-elim, keep-fewer, keep-some, every-elim}
 use Rattle.changes.proofs.MovedDown.{lowered-rises, lowered-within, lowered-some, lowered-holds}
 
 -- each is a set that did not name the part, lowered
@@ -101,3 +101,23 @@ pub without-fewer : (index : ℕ) (sets : List ℕ) → length (setsWithout inde
 unfolding setsWithout
 without-fewer index sets =
     omega (arith, length-map (keep (λ set. not (has set index)) sets) (lowered index), keep-fewer (λ set. not (has set index)) sets)
+
+-- none is left exactly if every set names the part
+pub without-none : (index : ℕ) (sets : List ℕ) → length (setsWithout index sets) ≡ 0 → every (λ set. has set index) sets ≡ true
+unfolding setsWithout
+without-none index sets none = cases (every (λ set. has set index) sets) refl
+  where
+    cases : (p : Bool) → every (λ set. has set index) sets ≡ p → every (λ set. has set index) sets ≡ true
+    cases true e = e
+    cases false e =
+        let left : every (λ set. not (not (has set index))) sets ≡ false = simp not-not e in
+        absurd (omega (arith, length-map (keep (λ set. not (has set index)) sets) (lowered index), keep-some (λ set. not (has set index)) sets left))
+
+pub without-some : (index : ℕ) (sets : List ℕ) → (length (setsWithout index sets) ≡ 0 → ⊥) → every (λ set. has set index) sets ≡ false
+without-some index sets some =
+    false-of (every (λ set. has set index) sets) (λ all.
+    some (empty (setsWithout index sets) (λ a m. let f = without-from index sets a m in clash (every-elim (λ set. has set index) sets all (f .member)) (f .lacks))))
+  where
+    empty : (l : List ℕ) → ((a : ℕ) → List·Memᴰ a l → ⊥) → length l ≡ 0
+    empty [] h = refl
+    empty (x ∷ xs) h = absurd (h x (List·Memᴰ·head refl))

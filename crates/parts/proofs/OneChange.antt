@@ -151,7 +151,7 @@ add-accepted list rules accepted =
     (omega (arith, eqb-false (list .count) mostParts (s .0)), omega (arith, eqb-false (list .mark) topNumber (t .0)))
 
 -- and taken out at a position of two or more
-take-out-accepted : (list : PartList) (position : ℕ) → Rules (list .count) (list .mark) (numbersOf list) → takeOutRefusal list position ≡ Accepted → (1 ≤ position) × (position ≤ list .count) × (2 ≤ list .count)
+pub take-out-accepted : (list : PartList) (position : ℕ) → Rules (list .count) (list .mark) (numbersOf list) → takeOutRefusal list position ≡ Accepted → (1 ≤ position) × (position ≤ list .count) × (2 ≤ list .count)
 take-out-accepted list position rules accepted =
     let s = refuse-none _ _ _ _ accepted in
     let t = refuse-none _ _ _ _ (s .1) in

@@ -1,0 +1,4 @@
+pub mod Writing
+pub mod ListSets
+pub mod Loading
+pub mod Answers

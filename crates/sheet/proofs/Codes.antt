@@ -9,10 +9,24 @@ use lib.Dec.{leb, eqb}
 use lib.IntN.{ℤ, pos, negsuc}
 use borrow.Author.Tests.{leb-true, eqb-true, eqb-false, eq-eqb, ne-eqb}
 use Rattle.sets.proofs.Bools.{and-right, true-or-false}
-use Rattle.vector.specs.Kinds.{kindNumber, isKind, kindOf}
+use Rattle.vector.specs.Kinds.{kindNumber, lengthOf, isKind, kindOf}
 use Rattle.vector.specs.declared.Kind.{Kind}
 use Rattle.vector.specs.declared.Kind.the-variants.{PathCounts, Tail, Signature, Domination}
 use Rattle.sheet.specs.Sheets.{coded, decoded}
+
+-- a kind's number is small
+pub kind-few : (kind : Kind) → kindNumber kind ≤ 4
+kind-few PathCounts = omega arith
+kind-few Tail = omega arith
+kind-few Signature = omega arith
+kind-few Domination = omega arith
+
+-- no vector has more than 17 entries
+pub length-few : (kind : Kind) (n : ℕ) → n ≤ 16 → lengthOf kind n ≤ 17
+length-few PathCounts n h = omega arith
+length-few Tail n h = omega arith
+length-few Signature n h = omega arith
+length-few Domination n h = omega arith
 
 -- a kind's number comes back from the kind
 pub number-back : (number : ℕ) → isKind number ≡ true → kindNumber (kindOf number) ≡ number

@@ -25,28 +25,17 @@ use Rattle.sets.proofs.Bools.{and-both}
 use Rattle.vector.specs.Kinds.{kindNumber, lengthOf, isKind, kindOf}
 use Rattle.vector.specs.Vectors.{countsRefusal, vectorRefusal}
 use Rattle.vector.specs.declared.Kind.{Kind}
-use Rattle.vector.specs.declared.Kind.the-variants.{PathCounts, Tail, Signature, Domination}
 use Rattle.vector.proofs.Acceptance.{AcceptedVector, accepted-vector}
 use Rattle.vector.proofs.KindNumbers.{kind-back, kind-is-one}
+use Rattle.sheet.proofs.Codes.{kind-few}
 use Rattle.sheet.proofs.Bounds.{Fitting, accepted-fitting}
+use Rattle.sheet.specs.Steps.{ended, entered, numbered, kinded}
 use Rattle.sheet.specs.Sheets.{coded, decoded, entryBytes, sheetBytes, Sheet, Given, refuse, afterNumber, afterEntries, judged, sheetOf}
 
 -- ---- the steps of a sheet's reading
 
 module _ (bytes : List ℕ) where
-  abbrev pub ended : Kind → ℕ → List ℤ → ℕ → Sheet
-  ended kind n entries end = refuse (ltb end (length bytes)) bytesLeft end (judged (countsRefusal kind n entries) (Given kind n entries))
-
-  abbrev pub entered : Kind → ℕ → ℕ → Sheet
-  entered kind n start = afterEntries bytes kind (lengthOf kind n) start (ended kind n)
-
-  abbrev pub numbered : Kind → ℕ → ℕ → Sheet
-  numbered kind n start = refuse (not (leb 1 n && leb n 16)) wrongPartCount 0 (entered kind n start)
-
-  abbrev pub kinded : ℕ → ℕ → Sheet
-  kinded number next = refuse (not (isKind number)) wrongKind 0 (afterNumber (numberAt bytes next field.Sheet) (numbered (kindOf number)))
-
-  pub sheet-steps : sheetOf bytes ≡ afterNumber (numberAt bytes 0 field.Sheet) kinded
+  pub sheet-steps : sheetOf bytes ≡ afterNumber (numberAt bytes 0 field.Sheet) (kinded bytes)
   unfolding sheetOf
   sheet-steps = refl
 
@@ -87,7 +76,7 @@ fitting-read : (kind : Kind) (n : ℕ) (entries : List ℤ) → vectorRefusal ki
 unfolding sheetBytes
 fitting-read kind n entries accepted fits =
     sheet-steps bytes
-    ∙ ap (λ (r : Reading). afterNumber r (kinded bytes)) (number-read bytes 0 (kindNumber kind) rest refl (kind-small kind))
+    ∙ ap (λ (r : Reading). afterNumber r (kinded bytes)) (number-read bytes 0 (kindNumber kind) rest refl (le-trans (kind-few kind) (omega arith)))
     ∙ ap (λ (t : Bool). refuse (not t) wrongKind 0 (afterNumber (numberAt bytes first field.Sheet) (numbered bytes (kindOf (kindNumber kind))))) (kind-is-one kind)
     ∙ ap (λ (k : Kind). afterNumber (numberAt bytes first field.Sheet) (numbered bytes k)) (kind-back kind)
     ∙ ap (λ (r : Reading). afterNumber r (numbered bytes kind)) (number-read bytes first n (entryBytes kind entries) behind (le-trans (a .few) (omega arith)))
@@ -115,12 +104,6 @@ fitting-read kind n entries accepted fits =
 
     behind : drop first bytes ≡ rest
     behind = number-next bytes 0 (kindNumber kind) rest refl
-
-    kind-small : (k : Kind) → kindNumber k ≤ top field.Sheet
-    kind-small PathCounts = omega arith
-    kind-small Tail = omega arith
-    kind-small Signature = omega arith
-    kind-small Domination = omega arith
 
     all : length bytes ≡ second + length (entryBytes kind entries)
     all = omega (arith, length-append (bytesOf (kindNumber kind)) rest, length-append (bytesOf n) (entryBytes kind entries))

@@ -24,7 +24,8 @@ use Rattle.vector.specs.Vectors.{countsRefusal, vectorRefusal}
 use Rattle.vector.specs.declared.Kind.{Kind}
 use Rattle.sheet.specs.Sheets.{coded, decoded, entryBytes, sheetBytes, Sheet, Given, Refused, refuse, afterNumber, afterEntries, judged, sheetOf}
 use Rattle.sheet.proofs.Codes.{number-back, coded-decoded}
-use Rattle.sheet.proofs.ReadSheet.{ended, numbered, kinded, sheet-steps}
+use Rattle.sheet.specs.Steps.{ended, numbered, kinded}
+use Rattle.sheet.proofs.ReadSheet.{sheet-steps}
 
 -- ---- what a given sheet has passed
 

@@ -1,1 +1,3 @@
 pub mod Sheets
+pub mod Answers
+pub mod Steps

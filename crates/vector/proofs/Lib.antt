@@ -1,3 +1,4 @@
+pub mod Signs
 pub mod KindNumbers
 pub mod Scaled
 pub mod Acceptance

@@ -1,7 +1,7 @@
 -- The four kinds of vectors, each with its own number and length (01, "Vector sheets").
 use mathlib.Core.Bool.{Bool, not, cond, _&&_}
 use Prim.Native.Nat.{ℕ, _+_}
-use lib.Dec.{leb, eqb}
+use lib.Dec.{leb, ltb, eqb}
 use Rattle.answer.specs.Outcome.{refuse}
 use Rattle.answer.specs.Refusals.{wrongKind}
 use Rattle.answer.specs.declared.Verdict.{Verdict}
@@ -21,6 +21,10 @@ lengthOf PathCounts n = n + 1
 lengthOf Tail n = n + 1
 lengthOf Signature n = n
 lengthOf Domination n = n + 1
+
+-- the number of a vector's entries where n is at most 16, and else 0
+abbrev pub entryCount : Kind → ℕ → ℕ
+entryCount kind n = cond (ltb 16 n) 0 (lengthOf kind n)
 
 -- a number is a kind's
 abbrev pub isKind : ℕ → Bool

@@ -1,3 +1,4 @@
 pub mod Kinds
 pub mod Vectors
+pub mod Held
 pub mod Steps

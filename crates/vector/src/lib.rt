@@ -10,7 +10,7 @@ ghost use lib.ListN.{length, drop};
 ghost use Rattle.numbers.specs.Counts.{factorial};
 ghost use Rattle.answer.specs.Outcome.{outcome, delivered};
 ghost use Rattle.signature.specs.Figures.{tail as tailOf, domination as dominationOf};
-ghost use Rattle.vector.specs.Kinds.{kindNumber, lengthOf, isKind, kindOf, kindRefusal};
+ghost use Rattle.vector.specs.Kinds.{kindNumber, lengthOf, entryCount, isKind, kindOf, kindRefusal};
 ghost use Rattle.vector.specs.Vectors.{leastCount, mostCount, vectorRefusal, figure as figureOf, vectorOf, converted};
 ghost use Rattle.vector.specs.Steps.{countIn, countAt, cellsOf, Few, Found, FoundAll, FirstFall, ExaminedAs, TermsOf};
 
@@ -22,10 +22,12 @@ pub enum Kind {
     Domination,
 }
 
-// A vector of a machine of n parts. Entries after the kind's last one are 0.
+// A vector of a machine of n parts: its entries are the first `length` cells. In every vector that the library makes the spare cells behind
+// them hold 0; in one that is built by hand they may hold anything, and nothing looks at them.
 pub struct Vector {
     pub kind: Kind,
     pub n: usize,
+    pub length: usize,
     pub entries: [i64; 17],
 }
 
@@ -40,6 +42,16 @@ impl Kind {
             Kind::Signature => 3,
             Kind::Domination => 4,
         }
+    }
+
+    // How many entries a vector of the kind has, and 0 where n is over 16.
+    pub fn entries(self, n: usize) -> usize
+        ensures { λ r. ⌜ r ≡ entryCount self n ⌝ }
+    {
+        if 16 < n {
+            return 0;
+        }
+        entries_of(self, n)
     }
 }
 

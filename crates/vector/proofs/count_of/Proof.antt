@@ -1,81 +1,51 @@
 -- `vector::count_of` meets its contract: an entry below 0 is taken from the base as a number, so nothing wraps whatever the entry is.
 -- Assumes nothing.
-use mathlib.Core.Path.{_≡_, refl, sym, ap, _∙_, subst}
-use mathlib.Core.Bool.{Bool, true, false, cond}
-use Prim.Native.Nat.{ℕ, suc, _+_, _-_, _^_, _≤_, _<_, zero-le}
+use mathlib.Core.Path.{_≡_, sym, ap, _∙_}
+use mathlib.Core.Bool.{true, false}
+use Prim.Native.Nat.{ℕ, suc, _+_, _-_, _^_, _≤_, _<_}
 use native.Mathlib.Omega.{arith}
-use lib.Dec.{T}
 use lib.IntN.{ℤ, pos, negsuc, natAbs, _+ℤ_, _-ℤ_}
-use lib.Signed.{mag, ltZ, nonNeg}
+use lib.Signed.{ltZ}
 use mir.Facts.{toZ-ofZ}
 use mir.Syntax.{w64}
-use mir.Val.{Fits, SFits, toZ, ofZ}
-use borrow.Author.Tests.{le-ltb}
-use Rattle.sets.proofs.Bools.{clash}
+use mir.Val.{toZ, ofZ}
 use Rattle.vector.specs.Steps.{countIn}
 use Rattle.vector.proofs.Conversions.{difference-positive}
 use Rattle.vector.proofs.CountIn.{difference-negative, count-negative}
+use Rattle.vector.proofs.Signs.{less-found, less-fits, less-same, less-cast, whole-found, whole-small, whole-cast}
 use borrow.Author.Needs.{needs}
 use Rattle.vector.proofs.count_of.Statement.{statement}
 use Rattle.vector.proofs.count_of.Tie as tie
 
 -- an entry below 0, and one that is not
-negative : (z : ℤ) → ltZ z (pos 0) ≡ true → (m : ℕ) × (z ≡ negsuc m)
-negative (pos a) h = clash h (le-ltb a 0 zero-le)
-negative (negsuc m) h = (m, refl)
-
-positive : (z : ℤ) → ltZ z (pos 0) ≡ false → (m : ℕ) × (z ≡ pos m)
-positive (pos m) h = (m, refl)
-positive (negsuc m) h = clash {p = true} refl h
-
-minus-one : (m : ℕ) → negsuc 0 -ℤ negsuc m ≡ pos m
-minus-one m =
-    let back : suc m - 1 ≡ m = omega arith in
-    ap (λ (t : Bool). cond t (negsuc (1 - suc (suc m))) (pos (suc m - 1))) (le-ltb (suc m) 1 (omega arith)) ∙ ap pos back
-
 module _ (c : tie.Then1) where
-  abbrev entry : ℤ
-  entry = c .before .args .entry
+  abbrev below : ltZ (toZ w64 (ofZ w64 (c .before .args .entry))) (pos 0) ≡ true
+  below = c .if1 .taken
 
-  abbrev read : toZ w64 (ofZ w64 entry) ≡ entry
-  read = toZ-ofZ {w = w64} (c .before .fits .entry)
+  abbrev found : (m : ℕ) × (c .before .args .entry ≡ negsuc m)
+  found = less-found (c .before .args .entry) (c .before .fits .entry) below
 
-  found : (m : ℕ) × (entry ≡ negsuc m)
-  found = negative entry (ap (λ (z : ℤ). ltZ z (pos 0)) (sym read) ∙ c .if1 .taken)
-
-  value : negsuc 0 -ℤ toZ w64 (ofZ w64 entry) ≡ pos (found .0)
-  value = ap (λ (z : ℤ). negsuc 0 -ℤ z) (read ∙ found .1) ∙ minus-one (found .0)
-
-  in-range : SFits w64 (negsuc 0 -ℤ toZ w64 (ofZ w64 entry))
-  in-range =
-      subst (λ (z : ℤ). SFits w64 z) (sym value)
-      (record { sfits = subst (λ (z : ℤ). mag z < 2 ^ 63) (found .1) (c .before .fits .entry .sfits) })
-
-  same : toZ w64 (ofZ w64 (negsuc 0 -ℤ toZ w64 (ofZ w64 entry))) ≡ pos (found .0)
-  same = toZ-ofZ {w = w64} in-range ∙ value
-
-  small : found .0 < 2 ^ 63
-  small = subst (λ (z : ℤ). mag z < 2 ^ 63) (found .1) (c .before .fits .entry .sfits)
+  same : toZ w64 (ofZ w64 (negsuc 0 -ℤ toZ w64 (ofZ w64 (c .before .args .entry)))) ≡ pos (found .0)
+  same = less-same (c .before .args .entry) (c .before .fits .entry) below
 
 module _ (c : tie.Else1) where
-  abbrev kept : toZ w64 (ofZ w64 (c .before .args .entry)) ≡ c .before .args .entry
-  kept = toZ-ofZ {w = w64} (c .before .fits .entry)
+  abbrev above : ltZ (toZ w64 (ofZ w64 (c .before .args .entry))) (pos 0) ≡ false
+  above = c .if1 .left
 
-  whole : (m : ℕ) × (c .before .args .entry ≡ pos m)
-  whole = positive (c .before .args .entry) (ap (λ (z : ℤ). ltZ z (pos 0)) (sym kept) ∙ c .if1 .left)
+  abbrev whole : (m : ℕ) × (c .before .args .entry ≡ pos m)
+  whole = whole-found (c .before .args .entry) (c .before .fits .entry) above
 
   number : natAbs (toZ w64 (ofZ w64 (c .before .args .entry))) ≡ whole .0
-  number = ap natAbs (kept ∙ whole .1)
+  number = ap natAbs (toZ-ofZ {w = w64} (c .before .fits .entry) ∙ whole .1)
 
-  below : whole .0 < 2 ^ 63
-  below = subst (λ (z : ℤ). mag z < 2 ^ 63) (whole .1) (c .before .fits .entry .sfits)
+  small : whole .0 < 2 ^ 63
+  small = whole-small (c .before .args .entry) (c .before .fits .entry) above
 
 sub-less : tie.Need-sub-less
-sub-less c = in-range c
+sub-less c = less-fits (c .before .args .entry) (c .before .fits .entry) (below c)
 
 cast-less : tie.Need-cast-less
-cast-less c =
-    subst (λ (z : ℤ). T (nonNeg z) × Fits w64 (natAbs z)) (sym (same c)) (tt, record { fits = omega (arith, small c) })
+cast-less c = less-cast (c .before .args .entry) (c .before .fits .entry) (below c)
 
 returns : tie.Need-returns
 returns c =
@@ -109,12 +79,11 @@ returns-2 c =
     ∙ ap (λ (z : ℤ). pos (a .base) +ℤ z) (sym (found told .1)))
 
 cast-counted : tie.Need-cast-counted
-cast-counted c =
-    subst (λ (z : ℤ). T (nonNeg z) × Fits w64 (natAbs z)) (sym (kept c ∙ whole c .1)) (tt, record { fits = omega (arith, below c) })
+cast-counted c = whole-cast (c .before .args .entry) (c .before .fits .entry) (above c)
 
 add-counted : tie.Need-add-counted
 add-counted c =
-    record { fits = omega (arith, number c, below c, c .before .pre .0) }
+    record { fits = omega (arith, number c, small c, c .before .pre .0) }
 
 counted-requires-2 : tie.Need-counted-requires-2
 counted-requires-2 c κs = search needs

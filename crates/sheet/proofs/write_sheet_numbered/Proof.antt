@@ -1,0 +1,51 @@
+-- `sheet::write_sheet_numbered` meets its contract: 26 comes first, and else the vector decides.
+-- Assumes nothing.
+use mathlib.Core.Path.{sym, ap, _∙_}
+use denote.Ref.{now}
+use Rattle.answer.specs.Outcome.{delivered}
+use Rattle.answer.specs.declared.Verdict.{Verdict}
+use Rattle.vector.specs.Kinds.{kindOf}
+use Rattle.vector.specs.Vectors.{vectorRefusal}
+use Rattle.vector.specs.declared.Kind.{Kind}
+use Rattle.vector.proofs.KindNumbers.{kind-passed, kind-refused}
+use Rattle.sheet.specs.Sheets.{sheetBytes}
+use borrow.Author.Needs.{needs}
+use Rattle.sheet.proofs.write_sheet_numbered.Statement.{statement}
+use Rattle.sheet.proofs.write_sheet_numbered.Tie as tie
+
+is-kind-requires : tie.Need-is-kind-requires
+is-kind-requires c κs = search needs
+
+kind-of-requires : tie.Need-kind-of-requires
+kind-of-requires c κs = search needs
+
+write-sheet-requires : tie.Need-write-sheet-requires
+write-sheet-requires c κs = search needs
+
+same-length : tie.Need-same-length
+same-length c = search needs
+
+returns : tie.Need-returns
+returns c =
+    let writing = c .before .before in
+    let kinds = writing .before .before in
+    let told = kinds .before in
+    let a = told .before .before .before .args in
+    let entries = now (a .entries) in
+    writing .write-sheet .ensures
+    ∙ ap (λ (kind : Kind). delivered (vectorRefusal kind (a .n) entries) (sheetBytes kind (a .n) entries) (now (a .buffer))) (kinds .kind-of .ensures)
+    ∙ ap (λ (v : Verdict). delivered v (sheetBytes (kindOf (a .kind)) (a .n) entries) (now (a .buffer)))
+    (sym (kind-passed (a .kind) (vectorRefusal (kindOf (a .kind)) (a .n) entries) (sym (told .before .is-kind .ensures) ∙ told .if1 .taken)))
+
+returns-2 : tie.Need-returns-2
+returns-2 c =
+    let told = c .before in
+    let a = told .before .before .args in
+    let entries = now (a .entries) in
+    ap (λ (v : Verdict). delivered v (sheetBytes (kindOf (a .kind)) (a .n) entries) (now (a .buffer)))
+    (sym (kind-refused (a .kind) (vectorRefusal (kindOf (a .kind)) (a .n) entries) (sym (told .is-kind .ensures) ∙ c .if1 .left)))
+
+pub write-sheet-numbered-spec : {M : Type 1} → statement M
+write-sheet-numbered-spec =
+    tie.close
+    (tie.spec is-kind-requires kind-of-requires write-sheet-requires same-length returns returns-2)

@@ -1,7 +1,7 @@
 -- From the cells that the figures' call leaves in four arrays to the text of a structure, and from the text of a record's table to the
 -- report of its design: the figures of the table are those of the listed sets, and these are counts of failure orders.
 -- Assumes nothing.
-use mathlib.Core.Path.{_≡_, refl, sym, ap, ap₂, _∙_, subst, fun-ext}
+use mathlib.Core.Path.{_≡_, sym, ap, ap₂, _∙_, fun-ext}
 use mathlib.Core.Bool.{Bool, true, false, cond, not, _&&_}
 use mathlib.Core.List.{List, _++_, append-assoc}
 use mathlib.Core.Logic.{_⊎_, inl, inr}
@@ -30,7 +30,7 @@ use Rattle.structure.specs.Checks.{tableRefusal}
 use Rattle.structure.proofs.Acceptance.{accepted-table, list-works}
 use Rattle.parts.specs.declared.PartList.{PartList}
 use Rattle.signature.specs.Figures.{signature, domination, importance, signatures, dominations, importances}
-use Rattle.signature.specs.All.{Buffers, buffersOf, roomRefusal, andThen, deliveredAll, AllOutcome, allOutcome, allFigures}
+use Rattle.signature.specs.All.{buffersOf, roomRefusal, andThen, deliveredAll, allFigures}
 use Rattle.signature.proofs.Rooms.{room-enough}
 use Rattle.signature.proofs.Tails.{signature-is-count}
 use Rattle.signature.proofs.Importances.{importance-is-count}
@@ -52,9 +52,6 @@ one-back k h = omega arith
 
 -- what the figures' call leaves of 17 zeros in each array, where the table is accepted
 module _ (n : ℕ) (table : List ℕ) (accepted : tableRefusal n table ≡ Accepted) where
-  zeros : Buffers
-  zeros = buffersOf (replicate 17 (pos 0)) (replicate 17 (pos 0)) (replicate 17 (pos 0)) (replicate 17 0)
-
   few : n ≤ 16
   few = accepted-table n table accepted .few
 

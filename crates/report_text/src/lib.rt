@@ -14,7 +14,7 @@ ghost use Rattle.codec.specs.ByteForm.{leaves, placed};
 ghost use Rattle.parts.specs.PartLists.{mostParts};
 ghost use Rattle.sets.specs.Tables.{inTable};
 ghost use Rattle.structure.specs.Checks.{tableRefusal};
-ghost use Rattle.text.specs.Texts.{ascii, decimal, signed, lines};
+ghost use Rattle.text.specs.Texts.{lines};
 ghost use Rattle.report_text.specs.Reports.{refusedLine};
 ghost use Rattle.report_text.specs.Reporting.{reportOutcome, handedOut, reported};
 ghost use Rattle.report_text.specs.Steps.{numbered, headLine, cellLine, countLine, textBy, tableText};
@@ -141,8 +141,8 @@ fn put_counts(text: &mut [u8], at: usize, list: PartList, counts: &[u64]) -> usi
     let mut next = at;
     for i in 1..n + 1 {
         let figure = put_number(text, next, b"part", number_of(list, i));
-        let end = text::put_decimal(text, figure, count_of(counts, i));
-        next = text::put(text, end, b"\n");
+        let after = text::put_decimal(text, figure, count_of(counts, i));
+        next = text::put(text, after, b"\n");
     }
     next
 }

@@ -1,6 +1,6 @@
 -- `report_text::hand_out` meets its contract: a result that fits is put in front, and the answer is its length.
 -- Assumes nothing.
-use mathlib.Core.Path.{_≡_, refl, sym, ap, _∙_}
+use mathlib.Core.Path.{refl, sym, ap, _∙_}
 use Prim.Native.Nat.{_≤_}
 use borrow.Author.Tests.{leb-true, leb-false}
 use denote.Ref.{now}

@@ -1,6 +1,6 @@
 -- `report_text::hand_out_both` meets its contract: nothing is put where either buffer is short, and else each result in front of its own.
 -- Assumes nothing.
-use mathlib.Core.Path.{_≡_, sym, _∙_}
+use mathlib.Core.Path.{sym, _∙_}
 use borrow.Author.Tests.{leb-true}
 use denote.Ref.{now}
 use Rattle.answer.proofs.Outcomes.{in-front-none}

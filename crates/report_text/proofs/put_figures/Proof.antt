@@ -1,15 +1,13 @@
 -- `report_text::put_figures` meets its contract: the first line and the three blocks of lines are put one after the other.
 -- Assumes nothing.
 use mathlib.Core.Path.{_≡_, ap, _∙_}
-use mathlib.Core.List.{List, _++_, append-assoc}
-use Prim.Native.Nat.{ℕ, _+_, _*_, _≤_}
+use mathlib.Core.List.{_++_, append-assoc}
+use Prim.Native.Nat.{ℕ, _+_, _*_}
 use native.Mathlib.Omega.{arith}
 use denote.Ref.{now}
-use lib.ListN.{length}
-use Rattle.codec.specs.ByteForm.{leaves, placed}
 use Rattle.text.specs.Texts.{ascii, lines}
 use Rattle.report_text.specs.Steps.{headLine, cellLine, countLine, textBy}
-use Rattle.report_text.proofs.Placing.{Wrote, wrote-first, wrote-more, wrote-same, wrote-next, wrote-length}
+use Rattle.report_text.proofs.Placing.{wrote-first, wrote-more, wrote-same, wrote-next, wrote-length}
 use borrow.Author.Needs.{needs}
 use Rattle.report_text.proofs.put_figures.Statement.{statement}
 use Rattle.report_text.proofs.put_figures.Tie as tie

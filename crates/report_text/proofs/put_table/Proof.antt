@@ -1,6 +1,6 @@
 -- `report_text::put_table` meets its contract: the figures of an accepted table fit the local arrays, and their text is put.
 -- Assumes nothing.
-use mathlib.Core.Path.{_≡_, ap, _∙_, subst}
+use mathlib.Core.Path.{ap, _∙_, subst}
 use mathlib.Core.List.{List}
 use Prim.Native.Nat.{ℕ, _≤_}
 use native.Mathlib.Omega.{arith}

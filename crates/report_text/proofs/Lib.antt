@@ -1,1 +1,6 @@
 pub mod Examples
+pub mod Placing
+pub mod Lines
+pub mod Handing
+pub mod Figures
+pub mod Built

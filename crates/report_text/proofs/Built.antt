@@ -1,0 +1,104 @@
+-- What the table of a record in an array of 8,192 zeros tells of the record: its design and its table, or its refusal.
+-- Assumes nothing.
+use mathlib.Core.Path.{_≡_, refl, ap, ap₂, _∙_}
+use mathlib.Core.List.{List, _++_}
+use mathlib.Core.Logic.{⊎-elim}
+use Prim.Native.Nat.{ℕ, _≤_, _<_}
+use native.Mathlib.Omega.{arith}
+use borrow.Author.Tests.{le-leb}
+use lib.ListN.{length, take, drop, replicate, length-replicate}
+use lib.Pow.{pow-mono}
+use lib.Seq.{take-append-seam}
+use Rattle.answer.specs.Outcome.{Outcome, outcome, delivered}
+use Rattle.answer.specs.declared.Refusal.{Refusal}
+use Rattle.answer.specs.declared.Verdict.{Verdict}
+use Rattle.answer.specs.declared.Verdict.the-variants as verdict
+use Rattle.answer.specs.declared.Written.{Written}
+use Rattle.answer.specs.declared.Written.the-variants.{Length, Refused}
+use Rattle.codec.proofs.WriteAfterRead.{Bytes}
+use Rattle.sets.specs.Structures.{listed}
+use Rattle.sets.specs.Tables.{tableOf}
+use Rattle.sets.proofs.Ranges.{below-or-above}
+use Rattle.sets.proofs.Tables.{tableOf-length, tableLength-small, tableLength-large}
+use Rattle.record.specs.declared.Contents.{Contents}
+use Rattle.record.specs.Records.{Read, found, refused, Design, wholeRecord}
+use Rattle.record.specs.RecordBytes.{DesignRules}
+use Rattle.record.specs.Contents.{wholeContents, recordRefusal, designOr, designIn}
+use Rattle.record.proofs.Whole.{design-read, refused-contents}
+
+-- the table of a design
+abbrev pub designTable : Design → List ℕ
+designTable d = tableOf (d .parts .count) (listed (d .sets))
+
+-- it takes at most 8,192 bytes
+table-most : (d : Design) → d .parts .count ≤ 16 → length (designTable d) ≤ 8192
+table-most d few =
+    let n : ℕ = d .parts .count in
+    let long = tableOf-length n (listed (d .sets)) in
+    ⊎-elim
+    (λ (small : n < 3). omega (arith, long, tableLength-small n small))
+    (λ (large : 3 ≤ n). omega (arith, long, tableLength-large n large, pow-mono few))
+    (below-or-above n 3)
+
+pub record Built (bytes own : List ℕ) (size : ℕ) : Type 0 where
+  pub design : Design
+  pub end : ℕ
+  pub read : wholeRecord bytes ≡ found design end
+  pub rules : DesignRules design
+  pub parts : wholeContents bytes .list ≡ design .parts
+  pub sets : wholeContents bytes .sets ≡ length (design .sets)
+  pub counted : size ≡ length (designTable design)
+  pub most : size ≤ 8192
+  pub front : take size own ≡ designTable design
+
+module _ (bytes : List ℕ) (small : Bytes bytes) (w : Written) (own : List ℕ) (wrote : outcome w own ≡ delivered (recordRefusal bytes) (designTable (designIn bytes)) (replicate 8192 0)) where
+  no-table : (why : Refusal) → wholeRecord bytes ≡ refused why → w ≡ Refused why
+  no-table why here =
+      ap (λ (o : Outcome ℕ). o .answer) (wrote ∙ ap (λ (v : Verdict). delivered v (designTable (designIn bytes)) (replicate 8192 0)) (ap (λ (k : Contents). k .verdict) (refused-contents bytes why here)))
+
+  whole-table : (d : Design) (end : ℕ) → wholeRecord bytes ≡ found d end
+      → outcome w own ≡ outcome (Length (length (designTable d))) (designTable d ++ drop (length (designTable d)) (replicate 8192 0))
+  unfolding designIn
+  whole-table d end here =
+      let r = design-read bytes small d end here in
+      let fits : length (designTable d) ≤ length (replicate {A = ℕ} 8192 0) = omega (arith, table-most d (r .rules .parts .rules .few), length-replicate {A = ℕ} 8192 0) in
+      let all : delivered verdict.Accepted (designTable d) (replicate 8192 0) ≡ outcome (Length (length (designTable d))) (designTable d ++ drop (length (designTable d)) (replicate 8192 0)) =
+      simp (le-leb (length (designTable d)) (length (replicate {A = ℕ} 8192 0)) fits) in
+      wrote ∙ ap₂ (λ (v : Verdict) (e : Design). delivered v (designTable e) (replicate 8192 0)) (ap (λ (k : Contents). k .verdict) (r .contents)) (ap designOr here) ∙ all
+
+  pub built-given : (size : ℕ) → w ≡ Length size → Built bytes own size
+  built-given size e = cases (wholeRecord bytes) refl
+    where
+      cases : (read : Read Design) → wholeRecord bytes ≡ read → Built bytes own size
+      cases (refused why) here =
+          let other : w ≡ Refused why = no-table why here in
+          let z : _≡_ {A = ℕ} 0 1 = cc in
+          absurd (omega arith)
+      cases (found d end) here =
+          let r = design-read bytes small d end here in
+          let all = whole-table d end here in
+          let answered : w ≡ Length (length (designTable d)) = ap (λ (o : Outcome ℕ). o .answer) all in
+          let counted : size ≡ length (designTable d) = cc in
+          record {
+            design = d;
+            end = end;
+            read = here;
+            rules = r .rules;
+            parts = ap (λ (k : Contents). k .list) (r .contents);
+            sets = ap (λ (k : Contents). k .sets) (r .contents);
+            counted = counted;
+            most = omega (arith, table-most d (r .rules .parts .rules .few));
+            front = ap₂ (λ (k : ℕ) (o : Outcome ℕ). take k (o .buffer)) counted all ∙ take-append-seam (designTable d) (drop (length (designTable d)) (replicate 8192 0));
+          }
+
+  pub built-refused : (why : Refusal) → w ≡ Refused why → wholeRecord bytes ≡ refused why
+  built-refused why e = cases (wholeRecord bytes) refl
+    where
+      cases : (read : Read Design) → wholeRecord bytes ≡ read → wholeRecord bytes ≡ refused why
+      cases (refused other) here =
+          let same : w ≡ Refused other = no-table other here in
+          here ∙ ap refused (cc)
+      cases (found d end) here =
+          let answered : w ≡ Length (length (designTable d)) = ap (λ (o : Outcome ℕ). o .answer) (whole-table d end here) in
+          let z : _≡_ {A = ℕ} 0 1 = cc in
+          absurd (omega arith)

@@ -1,0 +1,145 @@
+-- From the cells that the figures' call leaves in four arrays to the text of a structure, and from the text of a record's table to the
+-- report of its design: the figures of the table are those of the listed sets, and these are counts of failure orders.
+-- Assumes nothing.
+use mathlib.Core.Path.{_≡_, sym, ap, ap₂, _∙_, fun-ext}
+use mathlib.Core.Bool.{Bool, true, false, cond, not, _&&_}
+use mathlib.Core.List.{List, _++_, append-assoc}
+use mathlib.Core.Logic.{_⊎_, inl, inr}
+use Prim.Native.Nat.{ℕ, suc, _+_, _-_, _*_, _^_, _≤_, _<_}
+use native.Mathlib.Omega.{arith}
+use lib.Dec.{eqb}
+use lib.IntN.{ℤ, pos}
+use lib.ListN.{length, getD, take, drop, replicate, List·getD-append}
+use lib.Seq.{getD-take, getD-drop}
+use Rattle.numbers.specs.Counts.{factorial}
+use Rattle.numbers.specs.Tables.{tabulate}
+use Rattle.numbers.proofs.Tables.{tabulate-length, tabulate-at}
+use Rattle.algebra.specs.Sums.{indicator}
+use Rattle.algebra.proofs.Sums.{sumBelow-same}
+use Rattle.sets.specs.Masks.{has, size}
+use Rattle.sets.specs.Structures.{Semicoherent, listed}
+use Rattle.sets.specs.Tables.{inTable, tableOf}
+use Rattle.sets.proofs.Bools.{true-or-false}
+use Rattle.sets.proofs.Masks.{add-below}
+use Rattle.sets.proofs.Structures.{semicoherent-same}
+use Rattle.orders.specs.Counting.{count}
+use Rattle.orders.specs.Formulas.{pathCount}
+use Rattle.answer.specs.declared.Verdict.{Verdict}
+use Rattle.answer.specs.declared.Verdict.the-variants.{Accepted}
+use Rattle.structure.specs.Checks.{tableRefusal}
+use Rattle.structure.proofs.Acceptance.{accepted-table, list-works}
+use Rattle.parts.specs.declared.PartList.{PartList}
+use Rattle.signature.specs.Figures.{signature, domination, importance, signatures, dominations, importances}
+use Rattle.signature.specs.All.{buffersOf, roomRefusal, andThen, deliveredAll, allFigures}
+use Rattle.signature.proofs.Rooms.{room-enough}
+use Rattle.signature.proofs.Tails.{signature-is-count}
+use Rattle.signature.proofs.Importances.{importance-is-count}
+use Rattle.record.specs.Records.{Design}
+use Rattle.record.specs.RecordBytes.{DesignRules}
+use Rattle.record.proofs.MinimalSets.{design-table}
+use Rattle.text.specs.Texts.{ascii, decimal, signed, lines}
+use Rattle.report_text.specs.Reports.{firstLine, orderLine, domLine, partLine, reportOf}
+use Rattle.report_text.specs.Steps.{numbered, lineOf, headLine, cellLine, countLine, textBy, tableText}
+use Rattle.report_text.proofs.Lines.{lines-same}
+
+-- ---- the cells of a vector in front of an array
+
+front-cell : {A : Type 0} (n : ℕ) (f : ℕ → A) (rest : List A) (i : ℕ) (d : A) → i < n → getD (tabulate n f ++ rest) i d ≡ f i
+front-cell n f rest i d h = List·getD-append (tabulate n f) rest d i (omega (arith, tabulate-length n f)) ∙ tabulate-at n f i d h
+
+one-back : (k : ℕ) → 1 ≤ k → suc (k - 1) ≡ k
+one-back k h = omega arith
+
+-- what the figures' call leaves of 17 zeros in each array, where the table is accepted
+module _ (n : ℕ) (table : List ℕ) (accepted : tableRefusal n table ≡ Accepted) where
+  few : n ≤ 16
+  few = accepted-table n table accepted .few
+
+  pub all-figures : allFigures n table (buffersOf (replicate 17 (pos 0)) (replicate 17 (pos 0)) (replicate 17 (pos 0)) (replicate 17 0))
+      ≡ deliveredAll Accepted n (inTable table) (buffersOf (replicate 17 (pos 0)) (replicate 17 (pos 0)) (replicate 17 (pos 0)) (replicate 17 0))
+  unfolding allFigures
+  all-figures =
+      ap (λ (v : Verdict). deliveredAll (andThen v (roomRefusal n 17 17 17 17)) n (inTable table) (buffersOf (replicate 17 (pos 0)) (replicate 17 (pos 0)) (replicate 17 (pos 0)) (replicate 17 0))) accepted
+      ∙ ap (λ (v : Verdict). deliveredAll v n (inTable table) (buffersOf (replicate 17 (pos 0)) (replicate 17 (pos 0)) (replicate 17 (pos 0)) (replicate 17 0)))
+      (sym (room-enough n 17 17 17 17 (omega (arith, few)) (omega (arith, few)) (omega (arith, few)) (omega (arith, few))))
+
+-- the text by these cells is the text of the structure
+module _ (list : PartList) (sets : ℕ) (works : ℕ → Bool) (few : list .count ≤ 16) where
+  pub figures-text : (orders dominated : List ℤ) (parts : List ℕ) (r1 r2 : List ℤ) (r3 : List ℕ) → orders ≡ signatures (list .count) works ++ r1
+      → dominated ≡ dominations (list .count) works ++ r2 → parts ≡ importances (list .count) works ++ r3
+      → textBy list sets orders (take 16 (drop 1 dominated)) parts ≡ tableText list sets works
+  unfolding textBy tableText cellLine countLine
+  figures-text orders dominated parts r1 r2 r3 e1 e2 e3 =
+      let n : ℕ = list .count in
+      let φ : ℕ → ℕ = pathCount n works in
+      let one : lines (λ k. lineOf (ascii "order") k (signed (getD orders (k - 1) (pos 0)))) n ≡ lines (λ k. lineOf (ascii "order") k (signed (signature n φ k))) n =
+      lines-same _ _ n (λ k low high. ap (λ (z : ℤ). lineOf (ascii "order") k (signed z))
+      (ap (λ (cells : List ℤ). getD cells (k - 1) (pos 0)) e1 ∙ front-cell n (λ i. signature n φ (suc i)) r1 (k - 1) (pos 0) (omega arith) ∙ ap (signature n φ) (one-back k low))) in
+      let two : lines (λ k. lineOf (ascii "dom") k (signed (getD (take 16 (drop 1 dominated)) (k - 1) (pos 0)))) n ≡ lines (λ k. lineOf (ascii "dom") k (signed (domination n φ k))) n =
+      lines-same _ _ n (λ k low high. ap (λ (z : ℤ). lineOf (ascii "dom") k (signed z))
+      (getD-take 16 (drop 1 dominated) (k - 1) (pos 0) (omega arith) ∙ getD-drop 1 dominated (k - 1) (pos 0)
+      ∙ ap₂ (λ (cells : List ℤ) (i : ℕ). getD cells i (pos 0)) e2 (omega arith) ∙ front-cell (n + 1) (domination n φ) r2 k (pos 0) (omega arith))) in
+      let three : lines (λ i. lineOf (ascii "part") (getD (list .numbers) (i - 1) 0) (decimal (getD parts (i - 1) 0))) n
+      ≡ lines (λ i. lineOf (ascii "part") (getD (list .numbers) (i - 1) 0) (decimal (importance n works i))) n =
+      lines-same _ _ n (λ i low high. ap (λ (x : ℕ). lineOf (ascii "part") (getD (list .numbers) (i - 1) 0) (decimal x))
+      (ap (λ (cells : List ℕ). getD cells (i - 1) 0) e3 ∙ front-cell n (λ j. importance n works (suc j)) r3 (i - 1) 0 (omega arith) ∙ ap (importance n works) (one-back i low))) in
+      ap₂ (λ (x y : List ℕ). headLine n sets (list .mark) ++ (x ++ y)) one (ap₂ (λ (x y : List ℕ). x ++ y) two three)
+
+-- ---- structures that agree on the sets of n parts have the same figures
+
+module _ (n : ℕ) (f g : ℕ → Bool) (same : (a : ℕ) → a < 2 ^ n → f a ≡ g a) where
+  pub pathCount-same : (j : ℕ) → pathCount n f j ≡ pathCount n g j
+  unfolding pathCount
+  pathCount-same j = sumBelow-same _ _ (2 ^ n) (λ a h. ap (λ (b : Bool). cond (b && eqb (size a) j) 1 0) (same a h))
+
+  pub importance-same : (i : ℕ) → 1 ≤ i → i ≤ n → importance n f i ≡ importance n g i
+  unfolding importance
+  importance-same i low high = sumBelow-same _ _ (2 ^ n) (λ a h. step a h (true-or-false (has a (i - 1))))
+    where
+      step : (a : ℕ) → a < 2 ^ n → (has a (i - 1) ≡ true) ⊎ (has a (i - 1) ≡ false)
+          → cond (not (has a (i - 1))) (factorial (size a) * factorial (n - size a - 1) * (indicator (f (a + 2 ^ (i - 1))) - indicator (f a))) 0
+          ≡ cond (not (has a (i - 1))) (factorial (size a) * factorial (n - size a - 1) * (indicator (g (a + 2 ^ (i - 1))) - indicator (g a))) 0
+      step a h (inl here) = rw here
+      step a h (inr lacks) =
+          ap₂ (λ (p q : Bool). cond (not (has a (i - 1))) (factorial (size a) * factorial (n - size a - 1) * (indicator p - indicator q)) 0)
+          (same (a + 2 ^ (i - 1)) (add-below n a (i - 1) h (omega arith) lacks)) (same a h)
+
+-- ---- the report of a design
+
+line-figure : (word : List ℕ) (number : ℕ) (figure : List ℕ) → lineOf word number figure ≡ word ++ (ascii " " ++ (decimal number ++ (ascii " " ++ (figure ++ ascii "\n"))))
+unfolding numbered
+line-figure word number figure = simp append-assoc
+
+module _ (d : Design) (rules : DesignRules d) where
+  abbrev n : ℕ
+  n = d .parts .count
+
+  abbrev table : List ℕ
+  table = tableOf n (listed (d .sets))
+
+  works-same : (a : ℕ) → a < 2 ^ n → inTable table a ≡ listed (d .sets) a
+  works-same = list-works n (d .sets)
+
+  coherent : Semicoherent n (listed (d .sets))
+  coherent = semicoherent-same n (inTable table) (listed (d .sets)) works-same (accepted-table n table (design-table d rules) .semicoherent)
+
+  counts-same : pathCount n (inTable table) ≡ pathCount n (listed (d .sets))
+  counts-same = fun-ext (pathCount-same n (inTable table) (listed (d .sets)) works-same)
+
+  pub design-text : tableText (d .parts) (length (d .sets)) (inTable table) ≡ reportOf d
+  unfolding tableText reportOf firstLine headLine orderLine domLine partLine signed
+  design-text =
+      let works : ℕ → Bool = listed (d .sets) in
+      let one = lines-same (λ k. lineOf (ascii "order") k (signed (signature n (pathCount n (inTable table)) k))) (orderLine d) n (λ k low high.
+      line-figure (ascii "order") k (signed (signature n (pathCount n (inTable table)) k))
+      ∙ ap (λ (z : ℤ). ascii "order" ++ (ascii " " ++ (decimal k ++ (ascii " " ++ (signed z ++ ascii "\n")))))
+      (ap (λ (φ : ℕ → ℕ). signature n φ k) counts-same ∙ signature-is-count n works coherent k low high)) in
+      let two = lines-same (λ k. lineOf (ascii "dom") k (signed (domination n (pathCount n (inTable table)) k))) (domLine d) n (λ k low high.
+      line-figure (ascii "dom") k (signed (domination n (pathCount n (inTable table)) k))
+      ∙ ap (λ (φ : ℕ → ℕ). ascii "dom" ++ (ascii " " ++ (decimal k ++ (ascii " " ++ (signed (domination n φ k) ++ ascii "\n"))))) counts-same) in
+      let three = lines-same (λ i. lineOf (ascii "part") (getD (d .parts .numbers) (i - 1) 0) (decimal (importance n (inTable table) i))) (partLine d) n (λ i low high.
+      line-figure (ascii "part") (getD (d .parts .numbers) (i - 1) 0) (decimal (importance n (inTable table) i))
+      ∙ ap₂ (λ (number figure : ℕ). ascii "part" ++ (ascii " " ++ (decimal number ++ (ascii " " ++ (decimal figure ++ ascii "\n")))))
+      (sym (getD-take n (d .parts .numbers) (i - 1) 0 (omega arith)))
+      (importance-same n (inTable table) works works-same i low high ∙ importance-is-count n works coherent i low high)) in
+      ap₂ (λ (x y : List ℕ). firstLine d ++ (x ++ y)) one (ap₂ (λ (x y : List ℕ). x ++ y) two three)

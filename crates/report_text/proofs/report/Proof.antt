@@ -1,0 +1,142 @@
+-- `report_text::report` meets its contract: the table of an accepted record and the text of its figures are made in local arrays, and then handed
+-- out.
+-- Assumes nothing.
+use mathlib.Core.Path.{_≡_, sym, ap, ap₂, _∙_}
+use mathlib.Core.List.{List}
+use Prim.Native.Nat.{ℕ}
+use native.Mathlib.Omega.{arith}
+use denote.Ref.{now}
+use lib.ListN.{length, take, replicate}
+use lib.Seq.{length-take-le}
+use Rattle.parts.specs.declared.PartList.{PartList}
+use Rattle.sets.specs.Tables.{inTable}
+use Rattle.structure.specs.Checks.{tableRefusal}
+use Rattle.record.specs.declared.Contents.{Contents}
+use Rattle.record.specs.Records.{Read, Design}
+use Rattle.record.proofs.MinimalSets.{design-table}
+use Rattle.report_text.specs.Reports.{reportOf}
+use Rattle.report_text.specs.Reporting.{handedOut, reportedRead, reported}
+use Rattle.report_text.specs.Steps.{tableText}
+use Rattle.report_text.proofs.Placing.{Wrote, wrote-first, wrote-same}
+use Rattle.report_text.proofs.Lines.{wrote-front, wrote-inside}
+use Rattle.report_text.proofs.Figures.{design-text}
+use Rattle.report_text.proofs.Built.{designTable, Built, built-given, built-refused}
+use borrow.Author.Needs.{needs}
+use Rattle.report_text.proofs.report.Statement.{statement}
+use Rattle.report_text.proofs.report.Tie as tie
+
+-- what the table's call was
+built : (c : tie.After-known-told2)
+    → Built (now (c .before .before .before .before .before .before .before .before .before .args .bytes)) (c .before .before .before .before .table-of-record .last .1 .0) (c .before .built2 .given .0 .0)
+built c =
+    let call = c .before .before .before .before in
+    let known = call .before .before .before .before in
+    built-given (now (known .before .args .bytes)) (λ i. omega (arith, known .shared-slice-known .given i)) _ _ (call .table-of-record .ensures) (c .before .built2 .given .0 .0) (c .before .built2 .given .1)
+
+slice-aggregate-table-of-record : tie.Need-slice-aggregate-table-of-record
+slice-aggregate-table-of-record c = search needs
+
+table-of-record-requires : tie.Need-table-of-record-requires
+table-of-record-requires c κs = search needs
+
+enum-known-built : tie.Need-enum-known-built
+enum-known-built c = search needs
+
+enum-known-built-2 : tie.Need-enum-known-built-2
+enum-known-built-2 c = search needs
+
+whole-record-requires : tie.Need-whole-record-requires
+whole-record-requires c κs = search needs
+
+slice-aggregate-put-table : tie.Need-slice-aggregate-put-table
+slice-aggregate-put-table c = search needs
+
+array-share-prefix-own-table : tie.Need-array-share-prefix-own-table
+array-share-prefix-own-table c = omega (arith, built (c .before .before .before) .most)
+
+slice-aggregate-put-table-2 : tie.Need-slice-aggregate-put-table-2
+slice-aggregate-put-table-2 c = built (c .before .before .before .before) .counted ∙ ap length (sym (built (c .before .before .before .before) .front))
+
+put-table-requires : tie.Need-put-table-requires
+put-table-requires c κs =
+    let told = c .before .before .before .before in
+    let b = built told in
+    (ap₂ (λ (list : PartList) (table : List ℕ). tableRefusal (list .count) table) (ap (λ (k : Contents). k .list) (c .before .before .before .whole-record .ensures) ∙ b .parts) (b .front) ∙ design-table (b .design) (b .rules), omega arith)
+
+-- the text in front of 4,096 zeros
+text : (c : tie.After-put-table)
+    → Wrote (replicate 4096 0) 0 (reportOf (built (c .before .before .before .before .before) .design)) 4096 (c .put-table .last .0) (c .put-table .result)
+text c =
+    let told = c .before .before .before .before .before in
+    let b = built told in
+    let contents = c .before .before .before .before .whole-record in
+    let same : tableText (contents .result .list) (contents .result .sets) (inTable (take (told .before .built2 .given .0 .0) (told .before .before .before .before .table-of-record .last .1 .0))) ≡ reportOf (b .design) =
+    ap₂ (λ (k : Contents) (table : List ℕ). tableText (k .list) (k .sets) (inTable table)) (contents .ensures) (b .front)
+    ∙ ap₂ (λ (list : PartList) (sets : ℕ). tableText list sets (inTable (designTable (b .design)))) (b .parts) (b .sets)
+    ∙ design-text (b .design) (b .rules) in
+    wrote-same (wrote-first (replicate 4096 0) 0 _ 4096 _ _ (c .put-table .ensures .1) (omega arith) (c .put-table .ensures .0)) _ same
+
+array-share-prefix-own-table-2 : tie.Need-array-share-prefix-own-table-2
+array-share-prefix-own-table-2 c = omega (arith, built (c .before .before .before .before .before .before) .most)
+
+slice-aggregate-hand-out-both : tie.Need-slice-aggregate-hand-out-both
+slice-aggregate-hand-out-both c = built (c .before .before .before .before .before .before .before) .counted ∙ ap length (sym (built (c .before .before .before .before .before .before .before) .front))
+
+array-share-prefix-own-text : tie.Need-array-share-prefix-own-text
+array-share-prefix-own-text c = wrote-inside (text (c .before .before))
+
+slice-aggregate-hand-out-both-2 : tie.Need-slice-aggregate-hand-out-both-2
+slice-aggregate-hand-out-both-2 c = sym (length-take-le _ _ (wrote-inside (text (c .before .before .before))))
+
+hand-out-both-requires : tie.Need-hand-out-both-requires
+hand-out-both-requires c κs = search needs
+
+returns : tie.Need-returns
+unfolding reported
+returns c =
+    let call = c .before .before .before .before in
+    let known = call .before .before .before .before in
+    let a = known .before .args in
+    ap (λ (read : Read Design). reportedRead read (now (a .table)) (now (a .text)))
+    (sym (built-refused (now (a .bytes)) (λ i. omega (arith, known .shared-slice-known .given i)) _ _ (call .table-of-record .ensures) _ (c .before .built .given .1)))
+
+same-length : tie.Need-same-length
+same-length c = search needs
+
+same-length-2 : tie.Need-same-length-2
+same-length-2 c = search needs
+
+returns-2 : tie.Need-returns-2
+unfolding reported
+returns-2 c =
+    let handed = c .before .before .before .before in
+    let made = handed .before .before .before .before .before .before in
+    let told = made .before .before .before .before .before in
+    let b = built told in
+    let a = told .before .before .before .before .before .before .before .before .before .args in
+    handed .hand-out-both .ensures
+    ∙ ap₂ (λ (table text : List ℕ). handedOut table text (now (a .table)) (now (a .text))) (b .front) (wrote-front (text made))
+    ∙ ap (λ (read : Read Design). reportedRead read (now (a .table)) (now (a .text))) (sym (b .read))
+
+pub report-spec : {M : Type 1} → statement M
+report-spec =
+    tie.close
+    (tie.spec
+    slice-aggregate-table-of-record
+    table-of-record-requires
+    enum-known-built
+    enum-known-built-2
+    whole-record-requires
+    slice-aggregate-put-table
+    array-share-prefix-own-table
+    slice-aggregate-put-table-2
+    put-table-requires
+    array-share-prefix-own-table-2
+    slice-aggregate-hand-out-both
+    array-share-prefix-own-text
+    slice-aggregate-hand-out-both-2
+    hand-out-both-requires
+    returns
+    same-length
+    same-length-2
+    returns-2)

@@ -1,7 +1,8 @@
 //! Lists, tables and records for the tests to try.
 
 use crate::naive::{self, MOST_SETS};
-use crate::naive_records::{record_bytes, Plain, TOP_NUMBER};
+use crate::naive_bytes::numbers_bytes;
+use crate::naive_records::{record_bytes, record_numbers, Plain, TOP_NUMBER};
 use crate::seeded::Seeded;
 
 /// All sets of `size` parts among n, ascending.
@@ -98,4 +99,24 @@ pub fn largest_record() -> Vec<u8> {
         numbers: (TOP_NUMBER - 15..=TOP_NUMBER).collect(),
         sets: sets_of_size(16, 8),
     })
+}
+
+/// A record of n parts with one of its numbers changed, taken away, given twice or exchanged with the next; most are refused.
+pub fn damaged_record(seeded: &mut Seeded, n: usize) -> Vec<u8> {
+    let mut numbers = record_numbers(&random_plain(seeded, n));
+    let index = seeded.between(0, numbers.len() - 2);
+    let number = numbers[index];
+    match seeded.between(0, 4) {
+        0 => numbers.swap(index, index + 1),
+        1 => drop(numbers.remove(index)),
+        2 => numbers.insert(index, number),
+        _ => {
+            let any = seeded.number() as u128;
+            let top = TOP_NUMBER as u128;
+            let beside = [number + 1, number.saturating_sub(1), 0, number << 1];
+            let far = [top, top + 1, 1 << n, any % 65_536, any];
+            numbers[index] = seeded.pick(&[beside.as_slice(), &far].concat());
+        }
+    }
+    numbers_bytes(numbers)
 }

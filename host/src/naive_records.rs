@@ -151,19 +151,20 @@ impl Earlier {
     pub fn push(&mut self, set: u16) {
         self.sets.push(set);
         if let Some(holding) = &mut self.holding {
-            let others: Vec<usize> = (0..self.n).filter(|&i| !has(set as usize, i)).collect();
-            for choice in 0..1 << others.len() {
-                let more: usize = chosen(&others, choice);
-                holding[set as usize + more] = true;
-            }
+            mark_holding(self.n, set as usize, holding);
         }
     }
 }
 
-/// The set of those parts whose index is in the choice.
-fn chosen(parts: &[usize], choice: usize) -> usize {
-    let picked = (0..parts.len()).filter(|&i| has(choice, i));
-    picked.map(|i| 1 << parts[i]).sum()
+/// Marks every set that holds this one: itself with each choice of the other parts, from all of them down to none.
+fn mark_holding(n: usize, set: usize, holding: &mut [bool]) {
+    let others = (1 << n) - 1 - set;
+    let mut choice = others;
+    while choice > 0 {
+        holding[set + choice] = true;
+        choice = (choice - 1) & others;
+    }
+    holding[set] = true;
 }
 
 /// The set at a position of a walk, the position behind it and how many are left there; none where no set is left or none can be read.
@@ -177,8 +178,8 @@ pub fn step_at(bytes: &[u8], next: usize, left: usize) -> Option<(u64, usize, us
 
 // ---- writing
 
-/// The bytes of a record, whatever it is worth.
-pub fn record_bytes(plain: &Plain) -> Vec<u8> {
+/// The numbers of a record, one behind the other, whatever it is worth.
+pub fn record_numbers(plain: &Plain) -> Vec<u128> {
     let Plain {
         mark,
         numbers,
@@ -188,7 +189,16 @@ pub fn record_bytes(plain: &Plain) -> Vec<u8> {
     let numbers = numbers.iter().map(|&number| number as u128);
     let count = [sets.len() as u128];
     let sets = sets.iter().map(|&set| set as u128);
-    numbers_bytes(head.into_iter().chain(numbers).chain(count).chain(sets))
+    head.into_iter()
+        .chain(numbers)
+        .chain(count)
+        .chain(sets)
+        .collect()
+}
+
+/// The bytes of a record.
+pub fn record_bytes(plain: &Plain) -> Vec<u8> {
+    numbers_bytes(record_numbers(plain))
 }
 
 /// The table of a record, or the record's refusal.

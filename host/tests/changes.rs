@@ -220,7 +220,7 @@ fn two_lines_from_one_record() {
 fn changes_of_random_records() {
     let mut seeded = Seeded::new(161);
     for n in 1..=16 {
-        for _ in 0..5 {
+        for _ in 0..3 {
             let bytes = random_record(&mut seeded, n);
             compare(&bytes, Change::AddPart).ok();
             for position in (0..=n + 2).chain([32, 1 << 32, usize::MAX]) {

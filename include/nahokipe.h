@@ -1,5 +1,5 @@
 /*
- * Nahokipe: structures of machines of up to 16 parts, and their figures.
+ * Nahokipe: structures of machines of up to 16 parts, their figures, and the records and sheets that keep them.
  *
  * A set of parts is a 16-bit mask: the part at position i, 1 to n, is bit i - 1. A structure says on which sets the machine runs, its
  * path sets. A list gives 1 to 12,870 sets, and a set is a path set exactly if it holds a listed one. A table has a bit for each of the
@@ -35,11 +35,28 @@ extern "C" {
  *    9  the full set is no path set
  *   10  a path set with one part more is none; the mask of the smallest such path set
  *   11  the buffer is shorter than needed; the length needed, in cells
+ *   12  the vector's length is not n, for the kinds 1, 2 and 4 not n + 1
+ *   13  a path count that the vector stands for is not whole, is not 0 to C(n,j), or is not 0 for size 0 or 1 for size n; the smallest
+ *       such size j
+ *   14  the path sets' proportion of all sets falls from size j to j + 1; the smallest such j
  *   15  the group is empty
  *   16  the group has bit n or above
+ *   17  the position is not 1 to n
+ *   18  every set names the part
+ *   19  the record has 16 parts
+ *   20  the record's mark is 2^32 - 1
+ *   21  the bytes end before a number does; the length of the input
+ *   22  a number is not written in its shortest form, or is over its top value; its first byte's position, from 0
+ *   23  a part number is 0, not above the one before it, or above the mark; its first byte's position
+ *   24  a set is not above the one before it, or holds an earlier one; its first byte's position
+ *   25  bytes are left behind the last number; the first one's position
+ *   26  the kind is not 1 to 4
  *
- * The first that holds in the order of checks is reported. That order is this list's, but that 4 and 5 go entry by entry, and 11 is
- * asked last.
+ * A record's own n, count and sets are refused with 1 to 5 as well, and then the place is the position of the number's first byte.
+ *
+ * The first that holds in the order of checks is reported. That order is the one in which the functions below name their refusals, but
+ * that 4 and 5 go entry by entry, and that a record's numbers are judged one after the other, each as it is read: 21, 22, and then 1 for
+ * n, 23 for a part number, 2 and 3 for the count, 4, 5 and 24 for a set.
  */
 typedef struct nahokipe_answer {
     uint8_t number;
@@ -113,6 +130,120 @@ nahokipe_answer nahokipe_shares_by_both_routes(size_t n, const uint8_t *table, s
  * and the others z: that of x^i z^j in cell i (n - m + 1) + j.
  */
 nahokipe_answer nahokipe_reliability(size_t n, const uint8_t *table, size_t table_len, size_t group, int64_t *cells, size_t cells_len);
+
+/*
+ * Vectors. A vector of n parts is of one of four kinds: 1 path counts, 2 tail, 3 signature, 4 domination. A signature has n entries, the
+ * others n + 1. It is accepted if the path counts that it stands for are whole, lie in 0 to C(n,j), are 0 for no parts and 1 for all, and
+ * their proportion of all sets never falls from one size to the next.
+ */
+
+/* Whether a vector is accepted. Writes nothing. Refused: 26, 1, 12, 13, 14. */
+nahokipe_answer nahokipe_vector_verdict(uint8_t kind, size_t n, const int64_t *entries, size_t entries_len);
+
+/*
+ * Writes the vector of the target kind that stands for the same path counts: n cells for a signature, else n + 1.
+ * Refused: 26 for either kind, 1, 12, 13, 14, 11.
+ */
+nahokipe_answer nahokipe_convert(uint8_t kind, size_t n, const int64_t *entries, size_t entries_len, uint8_t target, int64_t *cells,
+                                 size_t cells_len);
+
+/*
+ * A sheet is a vector in bytes: its kind, n and its entries, each as a number in groups of seven bits, the lowest first, one group a byte,
+ * bit 7 set on all but the last. An entry v of a domination is written as 2v, or -2v - 1 where it is negative. Numbers reach 2^63 - 1.
+ */
+
+/* Writes the sheet of a vector: 155 bytes are enough for every vector. Refused: 26, 1, 12, 13, 14, 11. */
+nahokipe_answer nahokipe_write_sheet(uint8_t kind, size_t n, const int64_t *entries, size_t entries_len, uint8_t *sheet,
+                                     size_t sheet_len);
+
+/* What reading a sheet answers: number and value as in nahokipe_answer, and the vector's kind and n, which are 1 and 0 if it is refused. */
+typedef struct nahokipe_sheet {
+    uint8_t number;
+    size_t value;
+    uint8_t kind;
+    size_t n;
+} nahokipe_sheet;
+
+/* Writes the entries of the vector in a sheet: 17 cells are enough. Refused: 21 and 22 number by number, 26, 1, 25, 13, 14, 11. */
+nahokipe_sheet nahokipe_read_sheet(const uint8_t *sheet, size_t sheet_len, int64_t *cells, size_t cells_len);
+
+/*
+ * Design records: n; the mark, which is the highest part number ever issued; the n part numbers, rising; the count of minimal sets; the
+ * minimal sets, rising. All are numbers in groups of seven bits, as in a sheet, and reach 2^32 - 1. 35,695 bytes are enough for every
+ * record.
+ */
+
+/*
+ * What reading a record answers: number and value as in nahokipe_answer, with value 0 if it is accepted; how many parts it has, the mark,
+ * the part numbers by position, cells behind them 0; how many minimal sets it has, and the stretch of the record's bytes that carries
+ * them, from the first set's first byte to the last set's last. Of a refused record all is 0 beside number and value.
+ */
+typedef struct nahokipe_record {
+    uint8_t number;
+    size_t value;
+    size_t parts;
+    uint64_t mark;
+    uint64_t numbers[16];
+    size_t sets;
+    size_t offset;
+    size_t length;
+} nahokipe_record;
+
+/* Reads the record that the bytes are. Refused: 21, 22, 1 to 5, 23, 24 number by number, 25. */
+nahokipe_record nahokipe_whole_record(const uint8_t *bytes, size_t bytes_len);
+
+/*
+ * Reads the record that stands at a position of the bytes, and does not look at what comes after it. Positions are counted from the
+ * first byte that is lent. Refused: 21, 22, 1 to 5, 23, 24 number by number.
+ */
+nahokipe_record nahokipe_record_at(const uint8_t *bytes, size_t bytes_len, size_t start);
+
+/* A step of a walk along the sets: given 1, a set, and where the walk goes on, with how many sets left; at the end all is 0. */
+typedef struct nahokipe_step {
+    uint8_t given;
+    uint64_t set;
+    size_t next;
+    size_t left;
+} nahokipe_step;
+
+/*
+ * The next set of a record, read where it stands. A walk begins with the offset and the sets of nahokipe_whole_record as next and left,
+ * and goes on with those of the last step. It ends where no set is left, or where no number can be read.
+ */
+nahokipe_step nahokipe_next_set(const uint8_t *bytes, size_t bytes_len, size_t next, size_t left);
+
+/* Writes the table of a record, as nahokipe_table_of_list does. Refused: as nahokipe_whole_record, 11. */
+nahokipe_answer nahokipe_table_of_record(const uint8_t *bytes, size_t bytes_len, uint8_t *table, size_t table_len);
+
+/* Writes a first record of a list: part numbers 1 to n, mark n, the minimal sets. Refused: 1 to 5, 11. */
+nahokipe_answer nahokipe_first_record(size_t n, const uint16_t *list, size_t list_len, uint8_t *buffer, size_t buffer_len);
+
+/*
+ * Changes of a record: each reads the whole record, is refused as nahokipe_whole_record is, then as it says itself, then with 11, and
+ * writes the new record.
+ */
+
+/* One part more at position n + 1, in no set. Its number is the mark and one, and so is the new mark. Refused: 19, 20. */
+nahokipe_answer nahokipe_add_part(const uint8_t *bytes, size_t bytes_len, uint8_t *buffer, size_t buffer_len);
+
+/*
+ * The part at a position is held failed: sets that name it go, higher positions move down by one, part numbers and mark stay.
+ * Refused: 17, 18.
+ */
+nahokipe_answer nahokipe_take_out(const uint8_t *bytes, size_t bytes_len, size_t position, uint8_t *buffer, size_t buffer_len);
+
+/* One path set more: the minimal sets of the old ones and the new one. Refused: 4, 5, with the place 0. */
+nahokipe_answer nahokipe_add_set(const uint8_t *bytes, size_t bytes_len, uint16_t set, uint8_t *buffer, size_t buffer_len);
+
+/*
+ * Writes the report on a record, and the record's table into the first buffer; value is the text's length in bytes, of which 1,172 are
+ * enough. The text gives parts, sets and mark, then the signature by `order`, the domination by `dom` and the importances by `part` and
+ * part number, each line ended by a line feed. Refused: as nahokipe_whole_record, 11 for the table and then for the text.
+ */
+nahokipe_answer nahokipe_report(const uint8_t *bytes, size_t bytes_len, uint8_t *table, size_t table_len, uint8_t *text, size_t text_len);
+
+/* Writes the line `refused NUMBER PLACE` with its line feed: 33 bytes are enough. Refused: 11. */
+nahokipe_answer nahokipe_refused_line(uint8_t number, size_t place, uint8_t *text, size_t text_len);
 
 #ifdef __cplusplus
 }

@@ -10,9 +10,23 @@ use std::fmt;
 pub mod comparing;
 pub mod making;
 pub mod naive;
+pub mod naive_bytes;
 pub mod naive_figures;
+pub mod naive_records;
+pub mod naive_report;
 pub mod naive_shares;
+pub mod naive_vectors;
+pub mod records;
+pub mod report;
 pub mod seeded;
+pub mod vectors;
+
+pub use records::{
+    add_part, add_set, first_record, next_set, record_at, stretch, table_of_record, take_out, walk,
+    whole_record,
+};
+pub use report::{refused_line, report};
+pub use vectors::{convert, read_sheet, vector_verdict, write_sheet};
 
 /// Why a call was refused: a number of document 01, "Where each refusal is found", and the place that it reports.
 #[derive(Clone, Copy, Debug, PartialEq, Eq)]

@@ -93,13 +93,12 @@ pub fn factorial(n: usize) -> i128 {
     (1..=n as i128).product()
 }
 
-/// The number of sets of k of n parts: those without the last part and those with it.
+/// The number of sets of k of n parts: each is the front of k! × (n-k)! orders.
 pub fn binomial(n: usize, k: usize) -> i128 {
-    match (n, k) {
-        (_, 0) => 1,
-        (0, _) => 0,
-        _ => binomial(n - 1, k) + binomial(n - 1, k - 1),
+    if k > n {
+        return 0;
     }
+    factorial(n) / (factorial(k) * factorial(n - k))
 }
 
 /// φ(j), j = 0..n: the number of path sets of size j.

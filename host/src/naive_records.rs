@@ -1,0 +1,321 @@
+//! Design records and their changes a second time, from document 01's words alone: a reader that follows the table of refusals number by
+//! number, and changes of a design whose sets are named by part numbers, so that no mask is ever moved.
+//!
+//! Nothing here is shared with the calculator; the tests compare the two.
+
+use crate::naive::{self, has, holds, refused, MOST_SETS};
+use crate::naive_bytes::{number_at, numbers_bytes, Field};
+use crate::Refusal;
+use std::collections::BTreeSet;
+
+/// The highest part number that can be issued.
+pub const TOP_NUMBER: u64 = (1 << 32) - 1;
+
+// ---- reading
+
+/// A record as it stands: its sets are masks by position.
+#[derive(Clone, Debug, PartialEq, Eq)]
+pub struct Plain {
+    pub mark: u64,
+    pub numbers: Vec<u64>,
+    pub sets: Vec<u16>,
+}
+
+/// What reading gives: the record, where its sets begin, and where they end.
+#[derive(Clone, Debug, PartialEq, Eq)]
+pub struct Reading {
+    pub plain: Plain,
+    pub begin: usize,
+    pub end: usize,
+}
+
+/// Reads numbers one after the other, each with the position of its first byte.
+struct Reader<'a> {
+    bytes: &'a [u8],
+    next: usize,
+}
+
+impl Reader<'_> {
+    fn number(&mut self) -> Result<(u128, usize), Refusal> {
+        let first = self.next;
+        let (number, after) = number_at(self.bytes, first, Field::Record)?;
+        self.next = after;
+        Ok((number, first))
+    }
+}
+
+/// The record at a position; what comes after it is not looked at.
+pub fn record_at(bytes: &[u8], start: usize) -> Result<Reading, Refusal> {
+    let mut reader = Reader { bytes, next: start };
+    let (n, first) = reader.number()?;
+    if !(1..=16).contains(&n) {
+        return refused(1, first);
+    }
+    let n = n as usize;
+    let mark = reader.number()?.0 as u64;
+    let numbers = read_numbers(&mut reader, n, mark)?;
+    let (count, first) = reader.number()?;
+    if count == 0 {
+        return refused(2, first);
+    }
+    if count > MOST_SETS as u128 {
+        return refused(3, first);
+    }
+    let begin = reader.next;
+    let sets = read_sets(&mut reader, n, count as usize)?;
+    Ok(Reading {
+        plain: Plain {
+            mark,
+            numbers,
+            sets,
+        },
+        begin,
+        end: reader.next,
+    })
+}
+
+/// The record that the bytes are: 25 last.
+pub fn whole_record(bytes: &[u8]) -> Result<Reading, Refusal> {
+    let reading = record_at(bytes, 0)?;
+    if reading.end < bytes.len() {
+        return refused(25, reading.end);
+    }
+    Ok(reading)
+}
+
+/// Part numbers: strictly rising, 1 or more, none above the mark.
+fn read_numbers(reader: &mut Reader, n: usize, mark: u64) -> Result<Vec<u64>, Refusal> {
+    let mut numbers: Vec<u64> = Vec::new();
+    for _ in 0..n {
+        let (number, first) = reader.number()?;
+        let number = number as u64;
+        let rises = numbers.iter().all(|&earlier| earlier < number);
+        if number < 1 || number > mark || !rises {
+            return refused(23, first);
+        }
+        numbers.push(number);
+    }
+    Ok(numbers)
+}
+
+/// The sets: 4, 5 and 24 as each is read.
+fn read_sets(reader: &mut Reader, n: usize, count: usize) -> Result<Vec<u16>, Refusal> {
+    let mut earlier = Earlier::new(n, count);
+    for _ in 0..count {
+        let (set, first) = reader.number()?;
+        if set >= 1 << n {
+            return refused(4, first);
+        }
+        if set == 0 {
+            return refused(5, first);
+        }
+        let set = set as u16;
+        if earlier.are_not_below(set) || earlier.are_held_by(set) {
+            return refused(24, first);
+        }
+        earlier.push(set);
+    }
+    Ok(earlier.sets)
+}
+
+/// The sets that were read, and for long records whether each mask holds one of them.
+pub struct Earlier {
+    n: usize,
+    sets: Vec<u16>,
+    holding: Option<Vec<bool>>,
+}
+
+impl Earlier {
+    pub fn new(n: usize, count: usize) -> Earlier {
+        Earlier {
+            n,
+            sets: Vec::new(),
+            holding: (count > 64).then(|| vec![false; 1 << n]),
+        }
+    }
+
+    fn are_not_below(&self, set: u16) -> bool {
+        self.sets.last().is_some_and(|&last| last >= set)
+    }
+
+    pub fn are_held_by(&self, set: u16) -> bool {
+        match &self.holding {
+            Some(holding) => holding[set as usize],
+            None => self
+                .sets
+                .iter()
+                .any(|&earlier| holds(set as usize, earlier as usize)),
+        }
+    }
+
+    pub fn push(&mut self, set: u16) {
+        self.sets.push(set);
+        if let Some(holding) = &mut self.holding {
+            mark_holding(self.n, set as usize, holding);
+        }
+    }
+}
+
+/// Marks every set that holds this one: itself with each choice of the other parts, from all of them down to none.
+fn mark_holding(n: usize, set: usize, holding: &mut [bool]) {
+    let others = (1 << n) - 1 - set;
+    let mut choice = others;
+    while choice > 0 {
+        holding[set + choice] = true;
+        choice = (choice - 1) & others;
+    }
+    holding[set] = true;
+}
+
+/// The set at a position of a walk, the position behind it and how many are left there; none where no set is left or none can be read.
+pub fn step_at(bytes: &[u8], next: usize, left: usize) -> Option<(u64, usize, usize)> {
+    if left == 0 {
+        return None;
+    }
+    let (set, after) = number_at(bytes, next, Field::Record).ok()?;
+    Some((set as u64, after, left - 1))
+}
+
+// ---- writing
+
+/// The numbers of a record, one behind the other, whatever it is worth.
+pub fn record_numbers(plain: &Plain) -> Vec<u128> {
+    let Plain {
+        mark,
+        numbers,
+        sets,
+    } = plain;
+    let head = [numbers.len() as u128, *mark as u128];
+    let numbers = numbers.iter().map(|&number| number as u128);
+    let count = [sets.len() as u128];
+    let sets = sets.iter().map(|&set| set as u128);
+    head.into_iter()
+        .chain(numbers)
+        .chain(count)
+        .chain(sets)
+        .collect()
+}
+
+/// The bytes of a record.
+pub fn record_bytes(plain: &Plain) -> Vec<u8> {
+    numbers_bytes(record_numbers(plain))
+}
+
+/// The table of a record, or the record's refusal.
+pub fn table_of_record(bytes: &[u8]) -> Result<Vec<u8>, Refusal> {
+    let plain = whole_record(bytes)?.plain;
+    naive::table_of_list(plain.numbers.len(), &plain.sets)
+}
+
+/// A first record: part numbers 1 to n, mark n, the minimal sets of the list; or the list's refusal.
+pub fn first_record(n: usize, list: &[u16]) -> Result<Vec<u8>, Refusal> {
+    let table = naive::table_of_list(n, list)?;
+    Ok(record_bytes(&Plain {
+        mark: n as u64,
+        numbers: (1..=n as u64).collect(),
+        sets: naive::minimal_sets(n, &table)?,
+    }))
+}
+
+// ---- changing
+
+/// A design: its minimal sets are sets of part numbers.
+#[derive(Clone, Debug, PartialEq, Eq)]
+pub struct Design {
+    pub mark: u64,
+    pub numbers: Vec<u64>,
+    pub sets: BTreeSet<BTreeSet<u64>>,
+}
+
+impl Design {
+    pub fn of(plain: &Plain) -> Design {
+        let named = |&set: &u16| named(&plain.numbers, set);
+        Design {
+            mark: plain.mark,
+            numbers: plain.numbers.clone(),
+            sets: plain.sets.iter().map(named).collect(),
+        }
+    }
+
+    pub fn plain(&self) -> Plain {
+        let mut sets: Vec<u16> = self.sets.iter().map(|set| self.mask(set)).collect();
+        sets.sort_unstable();
+        Plain {
+            mark: self.mark,
+            numbers: self.numbers.clone(),
+            sets,
+        }
+    }
+
+    fn mask(&self, set: &BTreeSet<u64>) -> u16 {
+        let places = (0..self.numbers.len()).filter(|&i| set.contains(&self.numbers[i]));
+        places.map(|i| 1 << i).sum()
+    }
+
+    /// Position n+1, part number mark+1, in no set; the mark rises by one.
+    pub fn add_part(mut self) -> Result<Design, Refusal> {
+        if self.numbers.len() == 16 {
+            return refused(19, 0);
+        }
+        if self.mark == TOP_NUMBER {
+            return refused(20, 0);
+        }
+        self.mark += 1;
+        self.numbers.push(self.mark);
+        Ok(self)
+    }
+
+    /// The part is held failed: sets naming it go.
+    pub fn take_out(mut self, position: usize) -> Result<Design, Refusal> {
+        if !(1..=self.numbers.len()).contains(&position) {
+            return refused(17, 0);
+        }
+        let number = self.numbers.remove(position - 1);
+        self.sets.retain(|set| !set.contains(&number));
+        if self.sets.is_empty() {
+            return refused(18, 0);
+        }
+        Ok(self)
+    }
+
+    /// The minimal sets of the old ones and the new one. No old one holds another, so the new one alone is compared.
+    pub fn add_set(mut self, set: u16) -> Result<Design, Refusal> {
+        if (self.numbers.len()..16).any(|i| has(set as usize, i)) {
+            return refused(4, 0);
+        }
+        if set == 0 {
+            return refused(5, 0);
+        }
+        let set = named(&self.numbers, set);
+        if !self.sets.iter().any(|old| old.is_subset(&set)) {
+            self.sets.retain(|old| !set.is_subset(old));
+            self.sets.insert(set);
+        }
+        Ok(self)
+    }
+}
+
+/// The part numbers of a set.
+pub fn named(numbers: &[u64], set: u16) -> BTreeSet<u64> {
+    let places = (0..numbers.len()).filter(|&i| has(set as usize, i));
+    places.map(|i| numbers[i]).collect()
+}
+
+/// A change of a record.
+#[derive(Clone, Copy, Debug, PartialEq, Eq)]
+pub enum Change {
+    AddPart,
+    TakeOut(usize),
+    AddSet(u16),
+}
+
+/// The new record, or the first refusal: the whole record is checked, and then the change.
+pub fn changed(bytes: &[u8], change: Change) -> Result<Vec<u8>, Refusal> {
+    let design = Design::of(&whole_record(bytes)?.plain);
+    let design = match change {
+        Change::AddPart => design.add_part(),
+        Change::TakeOut(position) => design.take_out(position),
+        Change::AddSet(set) => design.add_set(set),
+    };
+    Ok(record_bytes(&design?.plain()))
+}

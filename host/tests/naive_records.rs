@@ -1,0 +1,199 @@
+//! The naive records, changes and reports against document 01's examples and against each other: what the other tests compare with must
+//! be right.
+
+use nahokipe_host::making::{largest_record, random_record, sets_of_size};
+use nahokipe_host::naive::{holds, refused};
+use nahokipe_host::naive_records::*;
+use nahokipe_host::naive_report::{printed, refused_line};
+use nahokipe_host::seeded::Seeded;
+use nahokipe_host::Refusal;
+
+const BRIDGE: [u8; 12] = [5, 5, 1, 2, 3, 4, 5, 4, 0x09, 0x0E, 0x12, 0x15];
+
+/// The mark 2^32-1.
+const TOP: [u8; 9] = [0x01, 0xFF, 0xFF, 0xFF, 0xFF, 0x0F, 0x01, 0x01, 0x01];
+
+#[test]
+fn the_bridge_is_read() {
+    let plain = Plain {
+        mark: 5,
+        numbers: vec![1, 2, 3, 4, 5],
+        sets: vec![0x09, 0x0E, 0x12, 0x15],
+    };
+    assert_eq!(record_bytes(&plain), BRIDGE);
+    let (begin, end) = (8, 12);
+    assert_eq!(whole_record(&BRIDGE), Ok(Reading { plain, begin, end }));
+    let table = table_of_record(&BRIDGE);
+    assert_eq!(table, Ok(vec![0x00, 0xEA, 0xEC, 0xEE]));
+    let first = first_record(5, &[0x15, 0x0E, 0x1F, 0x12, 0x09, 0x15]);
+    assert_eq!(first.as_deref(), Ok(&BRIDGE[..]));
+}
+
+#[test]
+fn accepted_records() {
+    let accepted: [&[u8]; 4] = [
+        &[1, 5, 5, 1, 1],
+        &[1, 9, 3, 1, 1],
+        &TOP,
+        &[2, 2, 1, 2, 1, 1],
+    ];
+    for bytes in accepted {
+        assert!(whole_record(bytes).is_ok(), "{bytes:02X?}");
+    }
+}
+
+#[test]
+fn refused_records() {
+    let cases: [(&[u8], u8, usize); 41] = [
+        (&[3, 3, 1, 2, 3, 3, 1, 3], 24, 7),
+        (&[3, 3, 1, 2, 3, 3, 1, 3, 0x80, 0], 24, 7),
+        (&[2, 5, 3, 3], 23, 3),
+        (&[2, 2, 1, 2, 2, 1, 0], 5, 6),
+        (&[2, 2, 1, 2, 2, 2, 5], 4, 6),
+        (&[0x11], 1, 0),
+        (&[0, 0xFF, 0xFF, 0xFF, 0xFF, 0xFF], 1, 0),
+        (&[0x91], 21, 1),
+        (&[0x80, 0], 22, 0),
+        (&[0xFF, 0xFF, 0xFF, 0xFF, 0x0F], 1, 0),
+        (&[0x80, 0x80, 0x80, 0x80, 0x10], 22, 0),
+        (&[1, 1, 1, 1, 0x80, 0x80, 0x80, 0x80, 0x08], 4, 4),
+        (&[1, 1, 1, 1, 0x80, 0x80, 0x80, 0x80, 0x10], 22, 4),
+        (&[1, 0xFF, 0xFF, 0xFF, 0xFF], 21, 5),
+        (&[1, 0xFF, 0xFF, 0xFF, 0xFF, 0xFF], 22, 1),
+        (&[1, 0xFF, 0xFF, 0xFF, 0xFF, 0x8F], 22, 1),
+        (&[1, 0xFF, 0xFF, 0xFF, 0xFF, 0x8F, 1], 22, 1),
+        (&[1, 0x80, 0x80, 0x80, 0x80, 0], 22, 1),
+        (&[1, 0xFF, 0xFF, 0xFF, 0xFF, 0x10, 1, 1, 1], 22, 1),
+        (&[1, 1, 1, 1, 0x80], 21, 5),
+        (&[3, 3, 1, 2, 3, 3, 1, 2, 5], 24, 8),
+        (&[2, 2, 1, 2, 2, 1, 1], 24, 6),
+        (&[2, 2, 1, 2, 2, 2, 1], 24, 6),
+        (&[1, 0, 1, 1, 1], 23, 2),
+        (&[2, 5, 1, 6, 1, 3], 23, 3),
+        (&[1, 5, 0, 1, 1], 23, 2),
+        (&[2, 5, 3, 2, 1, 3], 23, 3),
+        (&[1, 1, 1, 0], 2, 3),
+        (&[1, 1, 1, 0xC7, 0x64], 3, 3),
+        (&[1, 1, 1, 0xC6, 0x64], 21, 5),
+        (&[2, 2, 1, 2, 2, 1], 21, 6),
+        (&[2, 2, 1, 2, 1, 1, 2], 25, 6),
+        (&[1, 1, 1, 1, 0x81, 0x80, 0x04], 4, 4),
+        (&[1, 1, 1, 1, 1, 0], 25, 5),
+        (&[], 21, 0),
+        (&[1], 21, 1),
+        (&[1, 1], 21, 2),
+        (&[1, 1, 1], 21, 3),
+        (&[1, 1, 1, 1], 21, 4),
+        (&[1, 1, 1, 1, 0], 5, 4),
+        (&[1, 1, 2, 1, 0], 23, 2),
+    ];
+    for (bytes, number, place) in cases {
+        assert_eq!(whole_record(bytes), refused(number, place), "{bytes:02X?}");
+    }
+}
+
+#[test]
+fn examples_of_changes() {
+    let take_out = |position| Change::TakeOut(position);
+    let cases: [(&[u8], Change, Result<&[u8], (u8, usize)>); 19] = [
+        (&[1, 1, 1, 1, 1], take_out(1), Err((18, 0))),
+        (&[3, 3, 1, 2, 3, 2, 3, 5], take_out(1), Err((18, 0))),
+        (&[2, 2, 1, 2, 1, 1], take_out(2), Ok(&[1, 2, 1, 1, 1])),
+        (&BRIDGE, take_out(5), Ok(&[4, 5, 1, 2, 3, 4, 2, 9, 14])),
+        (&BRIDGE, take_out(3), Ok(&[4, 5, 1, 2, 4, 5, 2, 5, 10])),
+        (
+            &[4, 5, 1, 2, 3, 4, 2, 9, 14],
+            Change::AddPart,
+            Ok(&[5, 6, 1, 2, 3, 4, 6, 2, 9, 14]),
+        ),
+        (&[1, 9, 3, 1, 1], Change::AddPart, Ok(&[2, 10, 3, 10, 1, 1])),
+        (&TOP, Change::AddPart, Err((20, 0))),
+        (&[1, 1, 1, 1, 1], take_out(0), Err((17, 0))),
+        (&[1, 1, 1, 1, 1], take_out(2), Err((17, 0))),
+        (&[1, 1, 1, 1, 1], take_out(usize::MAX), Err((17, 0))),
+        (&BRIDGE, Change::AddSet(9), Ok(&BRIDGE)),
+        (&BRIDGE, Change::AddSet(31), Ok(&BRIDGE)),
+        (
+            &BRIDGE,
+            Change::AddSet(1),
+            Ok(&[5, 5, 1, 2, 3, 4, 5, 3, 1, 14, 18]),
+        ),
+        (&[1, 1, 1, 1, 1], Change::AddSet(0), Err((5, 0))),
+        (&[1, 1, 1, 1, 1], Change::AddSet(2), Err((4, 0))),
+        (&[1, 1, 1, 1, 1, 0], take_out(9), Err((25, 5))),
+        (&[1, 1, 1, 1, 1, 0], Change::AddSet(0), Err((25, 5))),
+        (&[1, 1, 1, 1, 1, 0], Change::AddPart, Err((25, 5))),
+    ];
+    for (bytes, change, expected) in cases {
+        let expected = expected
+            .map(<[u8]>::to_vec)
+            .map_err(|(number, place)| Refusal { number, place });
+        assert_eq!(changed(bytes, change), expected, "{bytes:02X?}, {change:?}");
+    }
+}
+
+/// Both ways to know whether a set holds an earlier one.
+#[test]
+fn a_long_record_is_judged_as_a_short_one() {
+    let mut seeded = Seeded::new(110);
+    for n in 1..=8 {
+        for _ in 0..20 {
+            let (mut short, mut long) = (Earlier::new(n, 1), Earlier::new(n, 1_000));
+            for _ in 0..seeded.between(0, 9) {
+                let set = seeded.between(1, (1 << n) - 1) as u16;
+                short.push(set);
+                long.push(set);
+            }
+            for set in 1..1_u32 << n {
+                let set = set as u16;
+                assert_eq!(short.are_held_by(set), long.are_held_by(set), "{n}, {set}");
+            }
+        }
+    }
+}
+
+/// What is read is written again byte for byte, and no set holds another.
+#[test]
+fn records_come_back() {
+    let mut seeded = Seeded::new(111);
+    for n in 1..=16 {
+        for _ in 0..8 {
+            let bytes = random_record(&mut seeded, n);
+            let plain = whole_record(&bytes).expect("an accepted record").plain;
+            assert!(record_bytes(&plain) == bytes);
+            assert_eq!(Design::of(&plain).plain(), plain);
+            let few = &plain.sets[..plain.sets.len().min(60)];
+            for (i, &a) in few.iter().enumerate() {
+                let earlier = few[..i].iter().any(|&b| holds(a as usize, b as usize));
+                assert!(!earlier, "{few:?}");
+            }
+        }
+    }
+}
+
+#[test]
+fn the_largest_record() {
+    let bytes = largest_record();
+    assert_eq!(bytes.len(), 35_695);
+    let plain = whole_record(&bytes).expect("an accepted record").plain;
+    assert_eq!(plain.sets, sets_of_size(16, 8));
+    let less = changed(&bytes, Change::AddSet(0x7F)).expect("an accepted change");
+    let plain = whole_record(&less).expect("an accepted record").plain;
+    assert_eq!(plain.sets.len(), 12_862);
+}
+
+/// The report of document 01.
+#[test]
+fn the_bridges_report() {
+    let expected = "parts 5 sets 4 mark 5\n\
+        order 1 0\norder 2 24\norder 3 72\norder 4 24\norder 5 0\n\
+        dom 1 0\ndom 2 2\ndom 3 2\ndom 4 -5\ndom 5 2\n\
+        part 1 28\npart 2 28\npart 3 8\npart 4 28\npart 5 28\n";
+    assert_eq!(printed(&BRIDGE), expected);
+    assert_eq!(printed(&[1, 1, 1, 0xC7, 0x64]), "refused 3 3\n");
+    let line = refused_line(Refusal {
+        number: 255,
+        place: usize::MAX,
+    });
+    assert_eq!(line, "refused 255 18446744073709551615\n");
+}

@@ -15,7 +15,12 @@ use Rattle.record.specs.declared.Step.{Step}
 use Rattle.record.specs.declared.Step.the-variants as step
 use Rattle.nahokipe.specs.declared.Answer.{Answer}
 use Rattle.nahokipe.specs.declared.Record.{Record}
+use Rattle.vector.specs.Kinds.{kindNumber}
+use Rattle.sheet.specs.declared.Received.{Received}
+use Rattle.sheet.specs.Answers.{ReceivedOutcome}
+use Rattle.report_text.specs.Reporting.{ReportOutcome}
 use Rattle.nahokipe.specs.declared.NextSet.{NextSet}
+use Rattle.nahokipe.specs.declared.Sheet.{Sheet}
 
 abbrev pub answer : ℕ → ℕ → Answer
 answer number value = record { number = number; value = value }
@@ -62,3 +67,23 @@ ofContents contents =
 abbrev pub ofStep : Step → NextSet
 ofStep step.End = record { given = 0; set = 0; next = 0; left = 0 }
 ofStep (step.Set set cursor) = record { given = 1; set = set; next = cursor .next; left = cursor .left }
+
+-- what reading a sheet hands out: the refusal, or 0 and how many entries were written; the kind's number and n
+abbrev pub ofReceived : Received → Sheet
+ofReceived received =
+    record {
+      number = ofWritten (received .answer) .number;
+      value = ofWritten (received .answer) .value;
+      kind = kindNumber (received .kind);
+      n = received .n;
+    }
+
+pub record LeavesSheet (o : ReceivedOutcome) (handed : Sheet) (cells : List ℤ) : Type 0 where
+  pub answered : handed ≡ ofReceived (o .answer)
+  pub left : cells ≡ o .cells
+
+-- what making a report hands out, and leaves in its two buffers
+pub record LeavesReport (o : ReportOutcome) (handed : Answer) (table text : List ℕ) : Type 0 where
+  pub answered : handed ≡ ofWritten (o .answer)
+  pub left-table : table ≡ o .table
+  pub left-text : text ≡ o .text

@@ -4,6 +4,7 @@ use answer::Written;
 use record::Contents;
 use record::Cursor;
 use record::Step;
+use sheet::Received;
 ghost use mathlib.Core.Path.{_≡_};
 ghost use Rattle.answer.specs.Outcome.{delivered};
 ghost use Rattle.sets.specs.Structures.{listed, minimalSets};
@@ -17,9 +18,15 @@ ghost use Rattle.subsignature.specs.Both.{bothDelivered};
 ghost use Rattle.vector.specs.Kinds.{kindOf, kindRefusal};
 ghost use Rattle.vector.specs.Vectors.{vectorRefusal, converted};
 ghost use Rattle.record.specs.Contents.{wholeContents, contentsAt, cursor, stepAt, recordRefusal, designIn};
-ghost use Rattle.changes.specs.Records.{firstRecord};
+ghost use Rattle.answer.specs.Outcome.{at};
+ghost use Rattle.changes.specs.Changes.{addPart, takeOut, addSet};
+ghost use Rattle.changes.specs.Records.{firstRecord, changedRecord};
+ghost use Rattle.sheet.specs.Sheets.{sheetBytes, sheetOf};
+ghost use Rattle.sheet.specs.Answers.{received};
+ghost use Rattle.report_text.specs.Reports.{refusedLine};
+ghost use Rattle.report_text.specs.Reporting.{reported};
 ghost use Prim.Native.Nat.{_-_};
-ghost use Rattle.nahokipe.specs.Answers.{ofVerdict, ofWritten, ofContents, ofStep, Leaves, LeavesAll, LeavesBoth};
+ghost use Rattle.nahokipe.specs.Answers.{ofVerdict, ofWritten, ofContents, ofStep, ofReceived, Leaves, LeavesAll, LeavesBoth, LeavesSheet, LeavesReport};
 
 // What a host is handed: number 0 and the length written, or a refusal's number and place.
 #[repr(C)]
@@ -49,6 +56,15 @@ pub struct NextSet {
     pub set: u64,
     pub next: usize,
     pub left: usize,
+}
+
+// What reading a sheet hands out: number and value as above, and the kind's number and n; 1 and 0 of a refused sheet.
+#[repr(C)]
+pub struct Sheet {
+    pub number: u8,
+    pub value: usize,
+    pub kind: u8,
+    pub n: usize,
 }
 
 // The verdict on a list of sets.
@@ -213,6 +229,27 @@ pub extern "C" fn nahokipe_convert(
     of_written(vector::convert_numbered(kind, n, entries, target, cells))
 }
 
+// The sheet of a vector, whose kind comes as a number.
+#[no_mangle]
+pub extern "C" fn nahokipe_write_sheet(
+    kind: u8,
+    n: usize,
+    entries: &[i64],
+    buffer: &mut [u8],
+) -> Answer
+    ensures { λ r. ⌜ Leaves (delivered (kindRefusal kind (vectorRefusal (kindOf kind) n (now (entries .entry)))) (sheetBytes (kindOf kind) n (now (entries .entry))) (now (buffer .entry))) r (now (buffer .exit)) ⌝ }
+{
+    of_written(sheet::write_sheet_numbered(kind, n, entries, buffer))
+}
+
+// The entries of a sheet.
+#[no_mangle]
+pub extern "C" fn nahokipe_read_sheet(bytes: &[u8], cells: &mut [i64]) -> Sheet
+    ensures { λ r. ⌜ LeavesSheet (received (sheetOf (now (bytes .entry))) (now (cells .entry))) r (now (cells .exit)) ⌝ }
+{
+    of_received(sheet::read_sheet(bytes, cells))
+}
+
 // What stands in the record that the bytes are.
 #[no_mangle]
 pub extern "C" fn nahokipe_whole_record(bytes: &[u8]) -> Record
@@ -251,7 +288,47 @@ pub extern "C" fn nahokipe_table_of_record(bytes: &[u8], table: &mut [u8]) -> An
 pub extern "C" fn nahokipe_first_record(n: usize, list: &[u16], buffer: &mut [u8]) -> Answer
     ensures { λ r. ⌜ Leaves (firstRecord n (now (list .entry)) (now (buffer .entry))) r (now (buffer .exit)) ⌝ }
 {
-    of_written(changes::first_record(n, list, buffer))
+    of_written(changing::first_record(n, list, buffer))
+}
+
+// A record with one part more.
+#[no_mangle]
+pub extern "C" fn nahokipe_add_part(bytes: &[u8], buffer: &mut [u8]) -> Answer
+    ensures { λ r. ⌜ Leaves (changedRecord addPart (now (bytes .entry)) (now (buffer .entry))) r (now (buffer .exit)) ⌝ }
+{
+    of_written(changing::add_part(bytes, buffer))
+}
+
+// A record without the part at a position.
+#[no_mangle]
+pub extern "C" fn nahokipe_take_out(bytes: &[u8], position: usize, buffer: &mut [u8]) -> Answer
+    ensures { λ r. ⌜ Leaves (changedRecord (takeOut position) (now (bytes .entry)) (now (buffer .entry))) r (now (buffer .exit)) ⌝ }
+{
+    of_written(changing::take_out(bytes, position, buffer))
+}
+
+// A record with one path set more.
+#[no_mangle]
+pub extern "C" fn nahokipe_add_set(bytes: &[u8], set: u16, buffer: &mut [u8]) -> Answer
+    ensures { λ r. ⌜ Leaves (changedRecord (addSet set) (now (bytes .entry)) (now (buffer .entry))) r (now (buffer .exit)) ⌝ }
+{
+    of_written(changing::add_set(bytes, set, buffer))
+}
+
+// The report of a record, and the record's table.
+#[no_mangle]
+pub extern "C" fn nahokipe_report(bytes: &[u8], table: &mut [u8], text: &mut [u8]) -> Answer
+    ensures { λ r. ⌜ LeavesReport (reported (now (bytes .entry)) (now (table .entry)) (now (text .entry))) r (now (table .exit)) (now (text .exit)) ⌝ }
+{
+    of_written(report_text::report(bytes, table, text))
+}
+
+// The one line of a refusal.
+#[no_mangle]
+pub extern "C" fn nahokipe_refused_line(number: u8, place: usize, text: &mut [u8]) -> Answer
+    ensures { λ r. ⌜ Leaves (delivered Verdict.Accepted (refusedLine (at number place)) (now (text .entry))) r (now (text .exit)) ⌝ }
+{
+    of_written(report_text::refused_line(number, place, text))
 }
 
 fn of_verdict(verdict: Verdict) -> Answer
@@ -327,5 +404,19 @@ fn of_step(step: Step) -> NextSet
             next: cursor.next,
             left: cursor.left,
         },
+    }
+}
+
+fn of_received(received: Received) -> Sheet
+    ensures { λ r. ⌜ r ≡ ofReceived received ⌝ }
+{
+    let written = received.answer;
+    let answer = of_written(written);
+    let kind = received.kind;
+    Sheet {
+        number: answer.number,
+        value: answer.value,
+        kind: kind.number(),
+        n: received.n,
     }
 }

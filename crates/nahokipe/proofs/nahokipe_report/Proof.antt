@@ -1,0 +1,33 @@
+-- `nahokipe::nahokipe_report` meets its contract: it hands out the answer of the function behind it and leaves its two buffers.
+-- Assumes nothing.
+use mathlib.Core.Path.{ap, _∙_}
+use Rattle.report_text.specs.Reporting.{ReportOutcome}
+use Rattle.nahokipe.specs.Answers.{ofWritten}
+use borrow.Author.Needs.{needs}
+use Rattle.nahokipe.proofs.nahokipe_report.Statement.{statement}
+use Rattle.nahokipe.proofs.nahokipe_report.Tie as tie
+
+report-requires : tie.Need-report-requires
+report-requires c κs = search needs
+
+of-written-requires : tie.Need-of-written-requires
+of-written-requires c κs = search needs
+
+same-length : tie.Need-same-length
+same-length c = search needs
+
+same-length-2 : tie.Need-same-length-2
+same-length-2 c = search needs
+
+returns : tie.Need-returns
+returns c =
+    let done = c .before .before .before .before .before .report .ensures in
+    record {
+      answered = c .of-written .ensures ∙ ap (λ (o : ReportOutcome). ofWritten (o .answer)) done;
+      left-table = ap (λ (o : ReportOutcome). o .table) done;
+      left-text = ap (λ (o : ReportOutcome). o .text) done;
+    }
+
+pub nahokipe-report-spec : {M : Type 1} → statement M
+nahokipe-report-spec =
+    tie.close (tie.spec report-requires of-written-requires same-length same-length-2 returns)

@@ -26,7 +26,6 @@ use Rattle.record.proofs.Found.{Stands, behind}
 use Rattle.record.proofs.RoundTrip.{whole-found}
 use Rattle.record.proofs.Whole.{design-read}
 use Rattle.reader.specs.Places.{foundBy, setAt, metFrom}
-use Rattle.reader.specs.declared.Found.{Found}
 use Rattle.reader.specs.declared.Found.the-variants.{Set, End}
 
 -- ---- at any place of any bytes

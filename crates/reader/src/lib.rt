@@ -4,19 +4,20 @@ use record::Step;
 ghost use mathlib.Core.Path.{_≡_};
 ghost use Rattle.reader.specs.Places.{setAt};
 
-// A place in a record where the host keeps it.
+// A place in a record where the host keeps it. Whether the record is accepted is not asked here: in one that is, what a reader finds from the
+// first set on are its sets.
 pub struct Reader<'a> {
     pub bytes: &'a [u8],
     pub offset: usize,
 }
 
-// What stands at a place: a set, with the place where the next one starts, or no set.
+// What stands at a place: a set, with the place where the next one starts; or no set, as behind the last.
 pub enum Found {
     Set { set: u64, next: usize },
     End,
 }
 
-// The set at a place, on which the walk by a cursor has one step to go.
+// The set at a place: one step of a cursor.
 pub fn set_at(bytes: &[u8], offset: usize) -> Found
     ensures { λ r. ⌜ r ≡ setAt (now (bytes .entry)) offset ⌝ }
 {
@@ -58,7 +59,7 @@ pub fn moved<'a>(reader: Reader<'a>, offset: usize) -> Reader<'a>
     }
 }
 
-// What a new reader finds, for callers that hold no reader.
+// What a reader at that place finds, for whoever holds none.
 pub fn read_set(bytes: &[u8], offset: usize) -> Found
     ensures { λ r. ⌜ r ≡ setAt (now (bytes .entry)) offset ⌝ }
 {

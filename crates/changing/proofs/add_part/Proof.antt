@@ -1,14 +1,11 @@
 -- `changing::add_part` meets its contract: the part list answers for the change, and the sets stay as they were read.
 -- Assumes nothing.
 use mathlib.Core.Path.{_≡_, sym, ap, _∙_}
-use mathlib.Core.List.{List}
-use Prim.Native.Nat.{ℕ, _≤_}
 use native.Mathlib.Omega.{arith}
 use denote.Ref.{now}
 use lib.ListN.{length}
 use Rattle.answer.specs.declared.Verdict.the-variants.{Accepted}
 use Rattle.parts.specs.declared.Changed.{Changed}
-use Rattle.parts.specs.declared.PartList.{PartList}
 use Rattle.parts.specs.Changes.{added}
 use Rattle.changes.specs.Changes.{addPart, changeRefusal}
 use Rattle.changes.proofs.Rules.{changed-rules}

@@ -1,6 +1,6 @@
--- From a list of sets to its minimal sets by way of its table, whose length is at most 8,192 bytes; and the numbers of the first parts.
+-- From some sets, marked in words, to their minimal sets, however many they are; and the numbers of the first parts.
 -- Assumes nothing.
-use mathlib.Core.Path.{_≡_, refl, sym, ap, ap₂, _∙_}
+use mathlib.Core.Path.{_≡_, refl, sym, ap, _∙_}
 use mathlib.Core.Bool.{Bool, true, false, cond, _||_}
 use mathlib.Core.List.{List, [], _∷_, _++_, List·Memᴰ}
 use mathlib.Core.Logic.{⊎-elim}
@@ -9,7 +9,6 @@ use native.Mathlib.Nat.{not-suc-le-zero, le-of-suc-le-suc, min-eq-left}
 use native.Mathlib.Omega.{arith}
 use borrow.Author.Tests.{le-leb}
 use lib.ListN.{length, take, drop}
-use lib.Pow.{pow-mono}
 use Rattle.answer.specs.Refusals.{shortBuffer}
 use Rattle.answer.specs.Outcome.{at, outcome, delivered}
 use Rattle.answer.specs.declared.Refusal.{Refusal}
@@ -25,9 +24,7 @@ use Rattle.sets.specs.Tables.{inTable, tableOf}
 use Rattle.sets.proofs.Lists.{listed-semicoherent}
 use Rattle.sets.proofs.Ranges.{below-or-above, those-same}
 use Rattle.sets.proofs.Structures.{minimalSets-same}
-use Rattle.sets.proofs.Tables.{tableOf-length, tableLength-small, tableLength-large}
-use Rattle.structure.specs.Checks.{listRefusal, tableRefusal}
-use Rattle.structure.proofs.Acceptance.{accepted-list, accepted-table, table-beyond, tableOf-accepted, list-table, list-works}
+use Rattle.structure.proofs.Acceptance.{accepted-table, table-beyond, tableOf-accepted, list-works}
 use Rattle.structure.proofs.Spread.{spread-listed, spread-beyond}
 use Rattle.structure.proofs.Walks.{trimmed-same, spread-same, minimal-walk}
 use Rattle.words.specs.Words.{inWords, wordsOf, among}
@@ -35,24 +32,7 @@ use Rattle.words.specs.Steps.{spread, trimmed}
 use Rattle.words.proofs.Words.{inWords-wordsOf}
 use Rattle.changing.specs.Steps.{SomeSets}
 
--- the table of at most 16 parts takes at most 8,192 bytes
-pub table-fits : (n : ℕ) (list : List ℕ) → listRefusal n list ≡ Accepted → length (tableOf n (listed list)) ≤ 8192
-table-fits n list accepted =
-    let few : n ≤ 16 = accepted-list n list accepted .few in
-    let long = tableOf-length n (listed list) in
-    ⊎-elim
-    (λ (small : n < 3). omega (arith, long, tableLength-small n small))
-    (λ (large : 3 ≤ n). omega (arith, long, tableLength-large n large, pow-mono few))
-    (below-or-above n 3)
-
--- the minimal sets of a list are those of its table
-pub list-sets : (n : ℕ) (list buffer : List ℕ) → listRefusal n list ≡ Accepted
-    → delivered (tableRefusal n (tableOf n (listed list))) (minimalSets n (inTable (tableOf n (listed list)))) buffer ≡ delivered (listRefusal n list) (minimalSets n (listed list)) buffer
-list-sets n list buffer accepted =
-    ap₂ (λ (v : Verdict) (sets : List ℕ). delivered v sets buffer) (list-table n list accepted ∙ sym accepted)
-    (minimalSets-same n (inTable (tableOf n (listed list))) (listed list) (list-works n list))
-
--- the minimal sets of a list as the words give them, however long the list is
+-- the marked sets, carried over the parts and trimmed, are the minimal sets
 pub sets-walk : (n : ℕ) (sets : List ℕ) → SomeSets n sets
     → those (inWords (wordsOf (trimmed (min n 16) (inWords (wordsOf (spread (min n 16) (inWords (wordsOf (among sets))))))))) 65536 ≡ minimalSets n (listed sets)
 sets-walk n sets some =

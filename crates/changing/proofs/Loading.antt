@@ -3,12 +3,11 @@
 -- Assumes nothing.
 use mathlib.Core.Path.{_≡_, refl, sym, ap, ap₂, _∙_, subst}
 use mathlib.Core.List.{List, [], _∷_, _++_, append-assoc, append-nil, List·Memᴰ, List·Memᴰ·head, List·Memᴰ·not-nil, Memᴰ·append-right}
-use Prim.Native.Nat.{ℕ, zero, suc, _+_, _-_, _^_, _≤_, _<_}
+use Prim.Native.Nat.{ℕ, suc, _+_, _-_, _≤_, _<_}
 use native.Mathlib.Nat.{sub-zero, lt-of-lt-of-le}
 use native.Mathlib.Omega.{arith}
-use lib.ListN.{length, set, replicate, length-replicate}
+use lib.ListN.{set, replicate, length-replicate}
 use lib.Pow.{pow-mono}
-use Rattle.answer.specs.declared.Refusal.{Refusal}
 use Rattle.answer.proofs.Outcomes.{InFront, in-front-none, in-front-one}
 use Rattle.codec.proofs.WriteAfterRead.{Bytes}
 use Rattle.orders.specs.Antichains.{mostSets}
@@ -17,9 +16,8 @@ use Rattle.record.specs.declared.Cursor.{Cursor}
 use Rattle.record.specs.declared.Step.{Step}
 use Rattle.record.specs.declared.Step.the-variants.{Set, End}
 use Rattle.record.specs.Records.{Read, found, refused, Design, wholeRecord}
-use Rattle.record.specs.Contents.{nothing, wholeContents, cursor, stepAt, metIn}
+use Rattle.record.specs.Contents.{wholeContents, cursor, stepAt, metIn}
 use Rattle.record.proofs.Whole.{refused-contents, design-read, walk-meets}
-use Rattle.changing.specs.declared.Opened.{Opened}
 use Rattle.changing.specs.Steps.{setCells, openedOf}
 
 -- ---- a walk along the sets

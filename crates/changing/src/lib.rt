@@ -190,17 +190,6 @@ fn load_sets(bytes: &[u8], first: Cursor) -> [u16; 12871]
     sets
 }
 
-// The minimal sets of some sets, ascending, into a local array. These may be one more than a list or a record has.
-fn minimal_of_sets(n: usize, sets: &[u16], minimal: &mut [u16]) -> Written
-    requires { ⌜ SomeSets n (now sets) ⌝ }
-    ensures { λ r. ⌜ outcome r (now (minimal .exit)) ≡ delivered Verdict.Accepted (minimalSets n (listed (now (sets .entry)))) (now (minimal .entry)) ⌝ }
-{
-    let marks = words::marked(sets);
-    let reached = words::carried(&marks, n);
-    let least = words::trimmed(&reached, n);
-    words::list(&least, minimal)
-}
-
 // The sets that do not name the part at an index, with higher positions moved down by one, into a local array, and how many they are.
 fn sets_without(sets: &[u16], index: usize, kept: &mut [u16]) -> usize
     requires { ⌜ index ≤ 16 ⌝ }
@@ -238,12 +227,22 @@ fn power(index: usize) -> u32
 fn minimal_of_list(n: usize, list: &[u16], sets: &mut [u16]) -> Written
     ensures { λ r. ⌜ outcome r (now (sets .exit)) ≡ delivered (listRefusal n (now (list .entry))) (minimalSets n (listed (now (list .entry)))) (now (sets .entry)) ⌝ }
 {
-    let mut table = [0u8; 8192];
-    let built = structure::table_of_list(n, list, &mut table);
-    match built {
-        Written::Refused(refusal) => Written::Refused(refusal),
-        Written::Length(size) => structure::minimal_sets(n, &table[..size], sets),
+    let verdict = structure::list_verdict(n, list);
+    match verdict {
+        Verdict::Refused(refusal) => Written::Refused(refusal),
+        Verdict::Accepted => minimal_of_sets(n, list, sets),
     }
+}
+
+// The minimal sets of some sets, ascending, into a local array. These may be one more than a list or a record has.
+fn minimal_of_sets(n: usize, sets: &[u16], minimal: &mut [u16]) -> Written
+    requires { ⌜ SomeSets n (now sets) ⌝ }
+    ensures { λ r. ⌜ outcome r (now (minimal .exit)) ≡ delivered Verdict.Accepted (minimalSets n (listed (now (sets .entry)))) (now (minimal .entry)) ⌝ }
+{
+    let marks = words::marked(sets);
+    let reached = words::carried(&marks, n);
+    let least = words::trimmed(&reached, n);
+    words::list(&least, minimal)
 }
 
 // Writes the record of this part list and these minimal sets into a lent buffer, or says how many bytes it needs.

@@ -1,14 +1,12 @@
 -- `changing::add_part` meets its contract: the part list answers for the change, and the sets stay as they were read.
 -- Assumes nothing.
-use mathlib.Core.Path.{_≡_, sym, ap, _∙_}
-use mathlib.Core.List.{List}
-use Prim.Native.Nat.{ℕ, _≤_}
+use mathlib.Core.Path.{_≡_, sym, ap, _∙_, subst}
 use native.Mathlib.Omega.{arith}
 use denote.Ref.{now}
 use lib.ListN.{length}
 use Rattle.answer.specs.declared.Verdict.the-variants.{Accepted}
 use Rattle.parts.specs.declared.Changed.{Changed}
-use Rattle.parts.specs.declared.PartList.{PartList}
+use Rattle.parts.specs.PartLists.{WellFormed}
 use Rattle.parts.specs.Changes.{added}
 use Rattle.changes.specs.Changes.{addPart, changeRefusal}
 use Rattle.changes.proofs.Rules.{changed-rules}
@@ -61,7 +59,7 @@ write-design-requires : tie.Need-write-design-requires
 write-design-requires c κs =
     let told = c .before .before .before .before in
     let r = read (told .before .before .before .before) in
-    (rw (list-changed (told .before .before)) (changed-rules addPart (r .d) (r .rules) (made told) .parts), omega (arith, ap length (sets-front r), sets-counted r, sets-few r))
+    (subst WellFormed (sym (ap (λ (x : Changed). x .list) (list-changed (told .before .before)))) (changed-rules addPart (r .d) (r .rules) (made told) .parts), omega (arith, ap length (sets-front r), sets-counted r, sets-few r))
 
 returns : tie.Need-returns
 returns c =

@@ -1,6 +1,6 @@
 -- `changing::load_sets` meets its contract. The loop's invariant: it walks along the sets (`SetWalk`). The measure is the sets left.
 -- Assumes nothing.
-use mathlib.Core.Path.{_≡_, sym, _∙_}
+use mathlib.Core.Path.{sym, _∙_}
 use Prim.Native.Nat.{_-_, _<_}
 use native.Mathlib.Omega.{arith}
 use denote.Ref.{now}

@@ -1,6 +1,6 @@
 -- `changing::minimal_of_sets` meets its contract: the marked sets, carried over the parts and trimmed, are the minimal sets.
 -- Assumes nothing.
-use mathlib.Core.Path.{_≡_, ap, _∙_}
+use mathlib.Core.Path.{ap, _∙_}
 use mathlib.Core.List.{List}
 use Prim.Native.Nat.{ℕ, min}
 use denote.Ref.{now}

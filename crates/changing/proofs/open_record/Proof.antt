@@ -1,13 +1,12 @@
 -- `changing::open_record` meets its contract: the walk from the first set meets the sets of the design that was read, and none where the record
 -- is refused.
 -- Assumes nothing.
-use mathlib.Core.Path.{_≡_, ap, _∙_}
+use mathlib.Core.Path.{ap, _∙_}
 use mathlib.Core.List.{List}
 use Prim.Native.Nat.{ℕ}
 use native.Mathlib.Omega.{arith}
 use denote.Ref.{now}
 use Rattle.record.specs.declared.Contents.{Contents}
-use Rattle.changing.specs.declared.Opened.{Opened}
 use Rattle.changing.proofs.Loading.{Loaded, metOf, contents-loaded}
 use borrow.Author.Needs.{needs}
 use Rattle.changing.proofs.open_record.Statement.{statement}

@@ -1,6 +1,6 @@
 -- `changing::take_out` meets its contract: the part list answers for the position, and 18 is said where no set is left without the part.
 -- Assumes nothing.
-use mathlib.Core.Path.{_≡_, sym, ap, _∙_}
+use mathlib.Core.Path.{_≡_, sym, ap, _∙_, subst}
 use mathlib.Core.List.{List}
 use Prim.Native.Nat.{ℕ, _-_, _≤_}
 use native.Mathlib.Omega.{arith}
@@ -14,6 +14,7 @@ use Rattle.answer.specs.declared.Written.the-variants.{Length}
 use Rattle.parts.specs.declared.Changed.{Changed}
 use Rattle.parts.specs.declared.PartList.{PartList}
 use Rattle.parts.specs.declared.Numbered.the-variants.{Number}
+use Rattle.parts.specs.PartLists.{WellFormed}
 use Rattle.parts.specs.Changes.{takenOut}
 use Rattle.changes.specs.Changes.{takeOut, setsWithout, changeRefusal}
 use Rattle.changes.proofs.Rules.{changed-rules}
@@ -66,7 +67,7 @@ made c =
     let w = c .before .before in
     let told = told-of w in
     let r = read (told .before .before .before .before) in
-    out-some (r .d) (r .rules) (w .before .before .before .before .before .before .before .before .before .before .before .before .before .before .args .position) _ (number-given told) (λ none. c .if1 .left (built w .counted ∙ none))
+    out-some (r .d) (r .rules) (w .before .before .before .before .before .before .before .before .before .before .before .before .before .before .args .position) _ (number-given told) (λ none. omega (arith, c .if1 .left, built w .counted))
 
 open-record-requires : tie.Need-open-record-requires
 open-record-requires c κs = search needs
@@ -119,7 +120,7 @@ returns-3 c =
     let a = w .before .before .before .before .before .before .before .before .before .before .before .before .before .before .args in
     ap (λ (x : Written). outcome x (now (a .buffer))) (c .refused .ensures)
     ∙ change-refused r (takeOut (a .position)) (at inEverySet 0)
-    (out-none (r .d) (r .rules) (a .position) _ (number-given told) (sym (built w .counted) ∙ c .before .if1 .taken)) (now (a .buffer))
+    (out-none (r .d) (r .rules) (a .position) _ (number-given told) (omega (arith, c .before .if1 .taken, built w .counted))) (now (a .buffer))
 
 array-share-prefix-kept : tie.Need-array-share-prefix-kept
 array-share-prefix-kept c = omega (arith, few (c .before .before))
@@ -132,7 +133,7 @@ write-design-requires c κs =
     let w = c .before .before .before .before in
     let told = told-of w in
     let r = read (told .before .before .before .before) in (
-      rw (list-changed (told .before .before)) (changed-rules (takeOut (w .before .before .before .before .before .before .before .before .before .before .before .before .before .before .args .position)) (r .d) (r .rules) (made (c .before .before)) .parts),
+      subst WellFormed (sym (ap (λ (x : Changed). x .list) (list-changed (told .before .before)))) (changed-rules (takeOut (w .before .before .before .before .before .before .before .before .before .before .before .before .before .before .args .position)) (r .d) (r .rules) (made (c .before .before)) .parts),
       omega (arith, ap length (front w), built w .counted, few w),
     )
 

@@ -168,10 +168,10 @@ fn read_parts(bytes: &[u8], kind: Kind, start: usize) -> SheetRead
             if value < 1 {
                 return refused_sheet(answer::WRONG_PART_COUNT, 0);
             }
-            if 16 < value {
-                return refused_sheet(answer::WRONG_PART_COUNT, 0);
+            if value <= 16 {
+                return read_entries(bytes, kind, value as usize, next);
             }
-            read_entries(bytes, kind, value as usize, next)
+            refused_sheet(answer::WRONG_PART_COUNT, 0)
         }
     }
 }

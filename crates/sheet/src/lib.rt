@@ -16,7 +16,7 @@ ghost use Rattle.answer.specs.Outcome.{at, refuse, outcome, delivered};
 ghost use Rattle.answer.specs.Refusals.{bytesLeft};
 ghost use Rattle.codec.specs.Fields.{top};
 ghost use Rattle.codec.specs.Reading.{numberAt};
-ghost use Rattle.vector.specs.Held.{entryCells, entriesOf};
+ghost use Rattle.vector.specs.Held.{entryCells, entriesOf, heldRefusal};
 ghost use Rattle.vector.specs.Kinds.{lengthOf, kindOf, kindRefusal};
 ghost use Rattle.vector.specs.Vectors.{vectorRefusal, countsRefusal};
 ghost use Rattle.sheet.specs.Answers.{sheetRead, receivedOutcome, received};
@@ -68,6 +68,22 @@ pub fn write_sheet_numbered(kind: u8, n: usize, entries: &[i64], buffer: &mut [u
         number: answer::WRONG_KIND,
         place: 0,
     })
+}
+
+// The sheet of a vector in a struct, into a lent buffer.
+pub fn sheet_of_vector(vector: Vector, buffer: &mut [u8]) -> Written
+    ensures { λ r. ⌜ outcome r (now (buffer .exit)) ≡ delivered (heldRefusal vector) (sheetBytes (vector .kind) (vector .n) (entriesOf vector)) (now (buffer .entry)) ⌝ }
+{
+    let verdict = vector.judge();
+    match verdict {
+        Verdict::Refused(refusal) => Written::Refused(refusal),
+        Verdict::Accepted => {
+            let kind = vector.kind;
+            let length = vector.length;
+            let entries = vector.entries;
+            write_sheet(kind, vector.n, &entries[..length], buffer)
+        }
+    }
 }
 
 // The vector of a sheet.
@@ -152,10 +168,10 @@ fn read_parts(bytes: &[u8], kind: Kind, start: usize) -> SheetRead
             if value < 1 {
                 return refused_sheet(answer::WRONG_PART_COUNT, 0);
             }
-            if 16 < value {
-                return refused_sheet(answer::WRONG_PART_COUNT, 0);
+            if value <= 16 {
+                return read_entries(bytes, kind, value as usize, next);
             }
-            read_entries(bytes, kind, value as usize, next)
+            refused_sheet(answer::WRONG_PART_COUNT, 0)
         }
     }
 }

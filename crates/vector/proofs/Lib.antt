@@ -7,4 +7,5 @@ pub mod Fits
 pub mod CountIn
 pub mod CountAt
 pub mod Refusals
+pub mod Held
 pub mod Examples

@@ -8,9 +8,11 @@ use lib.ListN.{length, take, replicate}
 use Rattle.answer.specs.Outcome.{refuse}
 use Rattle.answer.specs.Refusals.{wrongVectorLength}
 use Rattle.answer.specs.declared.Verdict.{Verdict}
+use Rattle.answer.specs.declared.Verdict.the-variants.{Accepted, Refused}
 use Rattle.structure.specs.Checks.{partsRefusal}
 use Rattle.vector.specs.Kinds.{lengthOf}
-use Rattle.vector.specs.Vectors.{countsRefusal}
+use Rattle.vector.specs.Vectors.{countsRefusal, converted}
+use Rattle.vector.specs.declared.Converted.{Converted}
 use Rattle.vector.specs.declared.Kind.{Kind}
 use Rattle.vector.specs.declared.Kind.the-variants.{PathCounts}
 use Rattle.vector.specs.declared.Vector.{Vector}
@@ -41,3 +43,13 @@ heldRefusal vector =
     partsRefusal (vector .n)
     (refuse (not (eqb (vector .length) (lengthOf (vector .kind) (vector .n)))) wrongVectorLength 0
     (countsRefusal (vector .kind) (vector .n) (entriesOf vector)))
+
+-- a vector, or why there is none
+abbrev pub given : Verdict → Vector → Converted
+given (Refused r) vector = record { vector = noVector; verdict = Refused r }
+given Accepted vector = record { vector = vector; verdict = Accepted }
+
+-- the vector as one of another kind
+abbrev pub heldConverted : Vector → Kind → Converted
+heldConverted vector target =
+    given (heldRefusal vector) (vectorHolding target (vector .n) (converted target (vector .kind) (vector .n) (entriesOf vector)))

@@ -1,8 +1,9 @@
 -- What the private functions do: a reader of the promises may pass this file over.
-use mathlib.Core.Bool.{Bool, true, false}
+use mathlib.Core.Bool.{Bool, true, false, cond}
 use mathlib.Core.List.{List}
 use mathlib.Core.Path.{_≡_}
 use Prim.Native.Nat.{ℕ, suc, _-_, _/_, _^_, _≤_, _<_}
+use lib.Dec.{ltb}
 use lib.IntN.{ℤ, pos, natAbs, _-ℤ_, _*ℤ_}
 use lib.ListN.{getD}
 use Rattle.numbers.specs.Counts.{choose}
@@ -10,10 +11,15 @@ use Rattle.algebra.specs.Sums.{sumBelowℤ}
 use Rattle.signature.specs.Figures.{sign}
 use Rattle.answer.specs.declared.Verdict.{Verdict}
 use Rattle.answer.specs.declared.Verdict.the-variants.{Accepted}
+use Rattle.vector.specs.Held.{mostEntries}
 use Rattle.vector.specs.Vectors.{scaledCount, unitOf, countsOf, leastCount, mostCount, isCount, wrongCount, falls, vectorRefusal}
 use Rattle.vector.specs.declared.Count.{Count}
 use Rattle.vector.specs.declared.Count.the-variants.{Of, Wrong}
 use Rattle.vector.specs.declared.Kind.{Kind}
+
+-- the cells that are looked at of a vector of that length: none where there are not so many
+abbrev pub lentCells : ℕ → ℕ
+lentCells count = cond (ltb mostEntries count) 0 count
 
 -- ---- one count
 

@@ -11,8 +11,9 @@ ghost use Rattle.numbers.specs.Counts.{factorial};
 ghost use Rattle.answer.specs.Outcome.{outcome, delivered};
 ghost use Rattle.signature.specs.Figures.{tail as tailOf, domination as dominationOf};
 ghost use Rattle.vector.specs.Kinds.{kindNumber, lengthOf, entryCount, isKind, kindOf, kindRefusal};
+ghost use Rattle.vector.specs.Held.{heldRefusal, heldConverted};
 ghost use Rattle.vector.specs.Vectors.{leastCount, mostCount, vectorRefusal, figure as figureOf, vectorOf, converted};
-ghost use Rattle.vector.specs.Steps.{countIn, countAt, cellsOf, Few, Found, FoundAll, FirstFall, ExaminedAs, TermsOf};
+ghost use Rattle.vector.specs.Steps.{lentCells, countIn, countAt, cellsOf, Few, Found, FoundAll, FirstFall, ExaminedAs, TermsOf};
 
 // What a vector's entries are.
 pub enum Kind {
@@ -29,6 +30,12 @@ pub struct Vector {
     pub n: usize,
     pub length: usize,
     pub entries: [i64; 17],
+}
+
+// What converting a vector answers: the vector, or why there is none, and then a vector of no entries.
+pub struct Converted {
+    pub vector: Vector,
+    pub verdict: Verdict,
 }
 
 impl Kind {
@@ -52,6 +59,49 @@ impl Kind {
             return 0;
         }
         entries_of(self, n)
+    }
+}
+
+impl Vector {
+    // Whether the vector is accepted.
+    pub fn judge(self) -> Verdict
+        ensures { λ r. ⌜ r ≡ heldRefusal self ⌝ }
+    {
+        let kind = self.kind;
+        let entries = self.entries;
+        let count = lent(self.length);
+        judge(kind, self.n, &entries[..count])
+    }
+
+    // The vector as one of another kind.
+    pub fn convert(self, target: Kind) -> Converted
+        ensures { λ r. ⌜ r ≡ heldConverted self target ⌝ }
+    {
+        let kind = self.kind;
+        let entries = self.entries;
+        let count = lent(self.length);
+        let mut cells = [0i64; 17];
+        let written = convert(kind, self.n, &entries[..count], target, &mut cells);
+        match written {
+            Written::Refused(refusal) => Converted {
+                vector: Vector {
+                    kind: Kind::PathCounts,
+                    n: 0,
+                    length: 0,
+                    entries: [0i64; 17],
+                },
+                verdict: Verdict::Refused(refusal),
+            },
+            Written::Length(length) => Converted {
+                vector: Vector {
+                    kind: target,
+                    n: self.n,
+                    length,
+                    entries: cells,
+                },
+                verdict: Verdict::Accepted,
+            },
+        }
     }
 }
 
@@ -169,6 +219,17 @@ struct Examined {
 struct Terms {
     added: u64,
     taken: u64,
+}
+
+// How many cells of a vector are looked at: as many as it has entries, and none where it claims more than there are cells, since that length is
+// wrong for every kind.
+fn lent(length: usize) -> usize
+    ensures { λ r. ⌜ r ≡ lentCells length ⌝ }
+{
+    if 17 < length {
+        return 0;
+    }
+    length
 }
 
 // The verdict on a vector, with its path counts.

@@ -62,19 +62,21 @@ returns c =
     c .refused-sheet2 .ensures
     ∙ sym (ap sheetRead (reached told ∙ outside told (ap (λ (t : Bool). not (t && leb v 16)) (lt-leb 1 v (c .before .if1 .taken)))))
 
-refused-sheet-requires-3 : tie.Need-refused-sheet-requires-3
-refused-sheet-requires-3 c κs = search needs
+read-entries-requires : tie.Need-read-entries-requires
+read-entries-requires c κs = search needs
 
 returns-2 : tie.Need-returns-2
 returns-2 c =
     let told = c .before .before .before .before in
+    let a = told .before .before .before .before .args in
     let v : ℕ = told .number2 .given .0 .0 in
-    c .refused-sheet3 .ensures
-    ∙ sym (ap sheetRead (reached told ∙ outside told
-    (ap₂ (λ (s t : Bool). not (s && t)) (le-leb 1 v (c .before .before .if1 .left)) (lt-leb v 16 (c .before .if2 .taken)))))
+    let next : ℕ = told .number2 .given .0 .1 .0 in
+    c .read-entries .ensures
+    ∙ sym (ap sheetRead (reached told ∙ ap (λ (t : Bool). refuse t wrongPartCount 0 (entered (now (a .bytes)) (a .kind) v next))
+    (ap₂ (λ (s t : Bool). not (s && t)) (le-leb 1 v (c .before .before .if1 .left)) (le-leb v 16 (c .before .if2 .taken)))))
 
-read-entries-requires : tie.Need-read-entries-requires
-read-entries-requires c κs = search needs
+refused-sheet-requires-3 : tie.Need-refused-sheet-requires-3
+refused-sheet-requires-3 c κs = search needs
 
 returns-3 : tie.Need-returns-3
 returns-3 c =
@@ -87,12 +89,10 @@ returns-3 c =
 returns-4 : tie.Need-returns-4
 returns-4 c =
     let told = c .before .before .before .before in
-    let a = told .before .before .before .before .args in
     let v : ℕ = told .number2 .given .0 .0 in
-    let next : ℕ = told .number2 .given .0 .1 .0 in
-    c .read-entries .ensures
-    ∙ sym (ap sheetRead (reached told ∙ ap (λ (t : Bool). refuse t wrongPartCount 0 (entered (now (a .bytes)) (a .kind) v next))
-    (ap₂ (λ (s t : Bool). not (s && t)) (le-leb 1 v (c .before .before .if1 .left)) (le-leb v 16 (c .before .if2 .left)))))
+    c .refused-sheet3 .ensures
+    ∙ sym (ap sheetRead (reached told ∙ outside told
+    (ap₂ (λ (s t : Bool). not (s && t)) (le-leb 1 v (c .before .before .if1 .left)) (lt-leb v 16 (c .before .if2 .left)))))
 
 pub read-parts-spec : {M : Type 1} → statement M
 read-parts-spec =
@@ -104,8 +104,8 @@ read-parts-spec =
     enum-known-number-2
     refused-sheet-requires-2
     returns
-    refused-sheet-requires-3
-    returns-2
     read-entries-requires
+    returns-2
+    refused-sheet-requires-3
     returns-3
     returns-4)

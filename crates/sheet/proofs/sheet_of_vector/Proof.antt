@@ -1,0 +1,82 @@
+-- `sheet::sheet_of_vector` meets its contract: a vector that is refused has no sheet, and an accepted one has all its entries in its cells.
+-- Assumes nothing.
+use mathlib.Core.Path.{_≡_, sym, ap, _∙_}
+use Prim.Native.Nat.{_≤_}
+use native.Mathlib.Omega.{arith}
+use denote.Ref.{now}
+use lib.ListN.{length}
+use lib.Seq.{length-take-le}
+use Rattle.answer.specs.Outcome.{delivered}
+use Rattle.answer.specs.declared.Verdict.{Verdict}
+use Rattle.answer.specs.declared.Verdict.the-variants.{Accepted}
+use Rattle.vector.specs.Held.{mostEntries, entriesOf, heldRefusal}
+use Rattle.vector.proofs.Held.{cells-all, accepted-few, held-same}
+use Rattle.sheet.specs.Sheets.{sheetBytes}
+use borrow.Author.Needs.{needs}
+use Rattle.sheet.proofs.sheet_of_vector.Statement.{statement}
+use Rattle.sheet.proofs.sheet_of_vector.Tie as tie
+
+-- an accepted vector has all its entries in its cells
+all : (c : tie.Start) → length (c .args .vector .entries) ≡ mostEntries
+all c = cells-all (c .args .vector) _ (c .good .0)
+
+accepted : (c : tie.After-enum-told) → heldRefusal (c .before .before .before .before .args .vector) ≡ Accepted
+accepted c = sym (c .before .before .judge .ensures) ∙ c .enum-told .given .1
+
+inside : (c : tie.After-enum-told) → c .before .before .before .before .args .vector .length ≤ length (c .before .before .before .before .args .vector .entries)
+inside c =
+    let start = c .before .before .before .before in
+    omega (arith, all start, accepted-few (start .args .vector) (accepted c))
+
+judge-requires : tie.Need-judge-requires
+judge-requires c κs = search needs
+
+enum-known-verdict : tie.Need-enum-known-verdict
+enum-known-verdict c = search needs
+
+enum-told : tie.Need-enum-told
+enum-told c = search needs
+
+array-share-prefix-entries : tie.Need-array-share-prefix-entries
+array-share-prefix-entries c = inside (c .before)
+
+slice-aggregate-write-sheet : tie.Need-slice-aggregate-write-sheet
+slice-aggregate-write-sheet c =
+    let vector = c .before .before .before .before .before .before .args .vector in
+    sym (length-take-le (vector .length) (vector .entries) (inside (c .before .before)))
+
+write-sheet-requires : tie.Need-write-sheet-requires
+write-sheet-requires c κs = search needs
+
+returns : tie.Need-returns
+returns c =
+    let judged = c .before .before .before in
+    let a = judged .before .before .args in
+    ap (λ (v : Verdict). delivered v (sheetBytes (a .vector .kind) (a .vector .n) (entriesOf (a .vector))) (now (a .buffer)))
+    (sym (c .before .verdict .given .1) ∙ judged .judge .ensures)
+
+same-length : tie.Need-same-length
+same-length c = search needs
+
+returns-2 : tie.Need-returns-2
+returns-2 c =
+    let told = c .before .before .before .before .before .before in
+    let start = told .before .before .before .before in
+    let a = start .args in
+    c .before .before .write-sheet .ensures
+    ∙ ap (λ (v : Verdict). delivered v (sheetBytes (a .vector .kind) (a .vector .n) (entriesOf (a .vector))) (now (a .buffer)))
+    (held-same (a .vector) (all start) (accepted told))
+
+pub sheet-of-vector-spec : {M : Type 1} → statement M
+sheet-of-vector-spec =
+    tie.close
+    (tie.spec
+    judge-requires
+    enum-known-verdict
+    enum-told
+    array-share-prefix-entries
+    slice-aggregate-write-sheet
+    write-sheet-requires
+    returns
+    same-length
+    returns-2)

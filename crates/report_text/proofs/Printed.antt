@@ -40,16 +40,28 @@ pub printed-first : (bytes : List ℕ) → Bytes bytes → 40000 ≤ length byte
 unfolding printed
 printed-first bytes small long = ap printedFor (whole-first bytes small long)
 
--- a result that fits is delivered
-pub front-given : (result buffer : List ℕ) (o : Outcome ℕ) → o ≡ delivered Accepted result buffer → length result ≤ length buffer
-    → (o .answer ≡ Length (length result)) × (take (length result) (o .buffer) ≡ result) × (length result ≤ length (o .buffer))
-front-given result buffer o e fits =
-    let all : o ≡ outcome (Length (length result)) (result ++ drop (length result) buffer) =
-    e ∙ sym (in-front-delivered buffer result (result ++ drop (length result) buffer) (length result) (record { ends = refl; stands = refl }) fits) in (
-      ap (λ (x : Outcome ℕ). x .answer) all,
-      ap (λ (x : Outcome ℕ). take (length result) (x .buffer)) all ∙ take-append-seam result (drop (length result) buffer),
-      omega (arith, ap (λ (x : Outcome ℕ). length (x .buffer)) all, length-append result (drop (length result) buffer)),
-    )
+-- the line of a refusal, in a buffer that is long enough
+module _ (why : Refusal) (buffer : List ℕ) (fits : length (refusedLine why) ≤ length buffer) (o : Outcome ℕ) (said : o ≡ delivered Accepted (refusedLine why) buffer) where
+  all-said : o ≡ outcome (Length (length (refusedLine why))) (refusedLine why ++ drop (length (refusedLine why)) buffer)
+  all-said =
+      said ∙ sym (in-front-delivered buffer (refusedLine why) (refusedLine why ++ drop (length (refusedLine why)) buffer) (length (refusedLine why)) (record { ends = refl; stands = refl }) fits)
+
+  answered : o .answer ≡ Length (length (refusedLine why))
+  answered = ap (λ (x : Outcome ℕ). x .answer) all-said
+
+  pub line-given : (end : ℕ) → o .answer ≡ Length end → (end ≤ length (o .buffer)) × (take end (o .buffer) ≡ refusedLine why)
+  line-given end e =
+      let here : o .answer ≡ Length (length (refusedLine why)) = answered in
+      let counted : end ≡ length (refusedLine why) = cc in (
+        omega (arith, ap (λ (x : Outcome ℕ). length (x .buffer)) all-said, length-append (refusedLine why) (drop (length (refusedLine why)) buffer)),
+        ap₂ (λ (k : ℕ) (x : Outcome ℕ). take k (x .buffer)) counted all-said ∙ take-append-seam (refusedLine why) (drop (length (refusedLine why)) buffer),
+      )
+
+  pub line-said : (other : Refusal) → o .answer ≡ Refused other → ⊥
+  line-said other e =
+      let here : o .answer ≡ Length (length (refusedLine why)) = answered in
+      let z : _≡_ {A = ℕ} 0 1 = cc in
+      omega arith
 
 module _ (bytes table text : List ℕ) (small : Bytes bytes) (wide : 8192 ≤ length table) (long : 4096 ≤ length text) (short : length (reportOf (designIn bytes)) ≤ 4096)
     (o : ReportOutcome) (made : o ≡ reported bytes table text) where

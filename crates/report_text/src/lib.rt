@@ -39,9 +39,10 @@ pub fn report(bytes: &[u8], table: &mut [u8], text: &mut [u8]) -> Written
     }
 }
 
-// The one line of a refusal, into a lent buffer.
+// The one line of a refusal, into a lent buffer. No such line is longer than 64 bytes.
 pub fn refused_line(number: u8, place: usize, text: &mut [u8]) -> Written
     ensures { λ r. ⌜ outcome r (now (text .exit)) ≡ delivered Verdict.Accepted (refusedLine (at number place)) (now (text .entry)) ⌝ }
+    ensures { λ _. ⌜ length (refusedLine (at number place)) ≤ 64 ⌝ }
 {
     let mut line = [0u8; 64];
     let worded = text::put(&mut line, 0, b"refused ");

@@ -31,7 +31,7 @@ abbrev pub designTable : Design → List ℕ
 designTable d = tableOf (d .parts .count) (listed (d .sets))
 
 -- it takes at most 8,192 bytes
-table-most : (d : Design) → d .parts .count ≤ 16 → length (designTable d) ≤ 8192
+pub table-most : (d : Design) → d .parts .count ≤ 16 → length (designTable d) ≤ 8192
 table-most d few =
     let n : ℕ = d .parts .count in
     let long = tableOf-length n (listed (d .sets)) in

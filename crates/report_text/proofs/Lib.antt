@@ -4,3 +4,4 @@ pub mod Lines
 pub mod Handing
 pub mod Figures
 pub mod Built
+pub mod Printed

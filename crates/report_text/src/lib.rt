@@ -12,16 +12,18 @@ ghost use Rattle.answer.specs.Outcome.{at, outcome, delivered};
 ghost use Rattle.answer.specs.Refusals.{shortBuffer};
 ghost use Rattle.codec.specs.ByteForm.{leaves, placed};
 ghost use Rattle.parts.specs.PartLists.{mostParts};
+ghost use Rattle.record.specs.Contents.{designIn};
 ghost use Rattle.sets.specs.Tables.{inTable};
 ghost use Rattle.structure.specs.Checks.{tableRefusal};
 ghost use Rattle.text.specs.Texts.{lines};
-ghost use Rattle.report_text.specs.Reports.{refusedLine};
+ghost use Rattle.report_text.specs.Reports.{reportOf, refusedLine};
 ghost use Rattle.report_text.specs.Reporting.{reportOutcome, handedOut, reported};
 ghost use Rattle.report_text.specs.Steps.{numbered, headLine, cellLine, countLine, textBy, tableText};
 
-// The report of a record and the record's table, into two lent buffers.
+// The report of a record and the record's table, into two lent buffers. No report is longer than 4,096 bytes.
 pub fn report(bytes: &[u8], table: &mut [u8], text: &mut [u8]) -> Written
     ensures { λ r. ⌜ reportOutcome r (now (table .exit)) (now (text .exit)) ≡ reported (now (bytes .entry)) (now (table .entry)) (now (text .entry)) ⌝ }
+    ensures { λ _. ⌜ length (reportOf (designIn (now (bytes .entry)))) ≤ 4096 ⌝ }
 {
     let mut own_table = [0u8; 8192];
     let mut own_text = [0u8; 4096];
@@ -37,9 +39,10 @@ pub fn report(bytes: &[u8], table: &mut [u8], text: &mut [u8]) -> Written
     }
 }
 
-// The one line of a refusal, into a lent buffer.
+// The one line of a refusal, into a lent buffer. No such line is longer than 64 bytes.
 pub fn refused_line(number: u8, place: usize, text: &mut [u8]) -> Written
     ensures { λ r. ⌜ outcome r (now (text .exit)) ≡ delivered Verdict.Accepted (refusedLine (at number place)) (now (text .entry)) ⌝ }
+    ensures { λ _. ⌜ length (refusedLine (at number place)) ≤ 64 ⌝ }
 {
     let mut line = [0u8; 64];
     let worded = text::put(&mut line, 0, b"refused ");

@@ -82,7 +82,7 @@ returns : tie.Need-returns
 returns c =
     let made = c .before .before .before .before .before .before in
     let a = made .before .before .before .before .before .before .before .before .before .before .before .before .before .before .before .before .before .before .args in
-    c .before .before .hand-out .ensures ∙ ap (λ (text : List ℕ). delivered Accepted text (now (a .text))) (wrote-front (line made))
+    (c .before .before .hand-out .ensures ∙ ap (λ (text : List ℕ). delivered Accepted text (now (a .text))) (wrote-front (line made)), omega (arith, line made .short))
 
 pub refused-line-spec : {M : Type 1} → statement M
 refused-line-spec =

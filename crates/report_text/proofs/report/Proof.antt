@@ -1,9 +1,9 @@
 -- `report_text::report` meets its contract: the table of an accepted record and the text of its figures are made in local arrays, and then handed
 -- out.
 -- Assumes nothing.
-use mathlib.Core.Path.{_≡_, sym, ap, ap₂, _∙_}
+use mathlib.Core.Path.{_≡_, sym, ap, ap₂, _∙_, subst}
 use mathlib.Core.List.{List}
-use Prim.Native.Nat.{ℕ}
+use Prim.Native.Nat.{ℕ, _≤_}
 use native.Mathlib.Omega.{arith}
 use denote.Ref.{now}
 use lib.ListN.{length, take, replicate}
@@ -22,6 +22,7 @@ use Rattle.report_text.proofs.Lines.{wrote-front, wrote-inside}
 use Rattle.report_text.proofs.Figures.{design-text}
 use Rattle.report_text.proofs.Built.{designTable, Built, built-given, built-refused}
 use borrow.Author.Needs.{needs}
+use Rattle.report_text.proofs.Printed.{design-in, no-report}
 use Rattle.report_text.proofs.report.Statement.{statement}
 use Rattle.report_text.proofs.report.Tie as tie
 
@@ -97,8 +98,8 @@ returns c =
     let call = c .before .before .before .before in
     let known = call .before .before .before .before in
     let a = known .before .args in
-    ap (λ (read : Read Design). reportedRead read (now (a .table)) (now (a .text)))
-    (sym (built-refused (now (a .bytes)) (λ i. omega (arith, known .shared-slice-known .given i)) _ _ (call .table-of-record .ensures) _ (c .before .built .given .1)))
+    let refusal = built-refused (now (a .bytes)) (λ i. omega (arith, known .shared-slice-known .given i)) _ _ (call .table-of-record .ensures) _ (c .before .built .given .1) in
+    (ap (λ (read : Read Design). reportedRead read (now (a .table)) (now (a .text))) (sym refusal), no-report (now (a .bytes)) _ refusal)
 
 same-length : tie.Need-same-length
 same-length c = search needs
@@ -113,10 +114,12 @@ returns-2 c =
     let made = handed .before .before .before .before .before .before in
     let told = made .before .before .before .before .before in
     let b = built told in
-    let a = told .before .before .before .before .before .before .before .before .before .args in
-    handed .hand-out-both .ensures
-    ∙ ap₂ (λ (table text : List ℕ). handedOut table text (now (a .table)) (now (a .text))) (b .front) (wrote-front (text made))
-    ∙ ap (λ (read : Read Design). reportedRead read (now (a .table)) (now (a .text))) (sym (b .read))
+    let a = told .before .before .before .before .before .before .before .before .before .args in (
+      handed .hand-out-both .ensures
+          ∙ ap₂ (λ (table text : List ℕ). handedOut table text (now (a .table)) (now (a .text))) (b .front) (wrote-front (text made))
+          ∙ ap (λ (read : Read Design). reportedRead read (now (a .table)) (now (a .text))) (sym (b .read)),
+      subst (λ (d : Design). length (reportOf d) ≤ 4096) (sym (design-in (now (a .bytes)) (b .design) (b .end) (b .read))) (text made .short),
+    )
 
 pub report-spec : {M : Type 1} → statement M
 report-spec =

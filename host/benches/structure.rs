@@ -2,6 +2,7 @@
 //! 64-bit word at a time. Times are printed and never tested; that both give the same results is asserted in every round.
 
 mod baseline {
+    mod closing;
     pub mod structure;
     mod table;
 }

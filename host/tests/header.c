@@ -5,6 +5,7 @@
 #include <string.h>
 
 static const uint8_t bridge[4] = {0x00, 0xEA, 0xEC, 0xEE};
+static const uint8_t record[12] = {0x05, 0x05, 0x01, 0x02, 0x03, 0x04, 0x05, 0x04, 0x09, 0x0E, 0x12, 0x15};
 static const uint8_t broken[1] = {0xC4};
 static int failures = 0;
 
@@ -121,6 +122,172 @@ static void test_shares(void)
     expect_bytes("shares, refused", a, shares, sizeof a);
 }
 
+static void test_vectors(void)
+{
+    static const int64_t falling[4] = {0, 3, 2, 1};
+    int64_t cells[7] = {99, 99, 99, 99, 99, 99, 99};
+
+    expect("vector_verdict", nahokipe_vector_verdict(2, 5, tail, 6), 0, 0);
+    expect("vector_verdict, falling", nahokipe_vector_verdict(1, 3, falling, 4), 14, 1);
+    expect("vector_verdict, no kind", nahokipe_vector_verdict(5, 3, falling, 4), 26, 0);
+    expect("convert", nahokipe_convert(2, 5, tail, 6, 4, cells, 7), 0, 6);
+    expect_bytes("convert", cells, domination, sizeof cells);
+    expect("convert, short buffer", nahokipe_convert(2, 5, tail, 6, 3, cells, 4), 11, 5);
+    expect("convert, no kind", nahokipe_convert(2, 5, tail, 6, 0, cells, 7), 26, 0);
+    expect_bytes("convert, refused", cells, domination, sizeof cells);
+}
+
+static void expect_sheet(const char *call, nahokipe_sheet sheet, unsigned number, size_t value, unsigned kind, size_t n)
+{
+    nahokipe_answer answer;
+
+    answer.number = sheet.number;
+    answer.value = sheet.value;
+    expect(call, answer, number, value);
+    if (sheet.kind == kind && sheet.n == n)
+        return;
+    printf("%s: kind %u of %zu parts, and not %u of %zu\n", call, (unsigned)sheet.kind, sheet.n, kind, n);
+    failures++;
+}
+
+static void test_sheets(void)
+{
+    static const uint8_t written[9] = {0x02, 0x05, 0x78, 0x78, 0x60, 0x18, 0x00, 0x00, 0xA5};
+    uint8_t sheet[9] = {0xA5, 0xA5, 0xA5, 0xA5, 0xA5, 0xA5, 0xA5, 0xA5, 0xA5};
+    int64_t cells[7] = {99, 99, 99, 99, 99, 99, 99};
+
+    expect("write_sheet", nahokipe_write_sheet(2, 5, tail, 6, sheet, 9), 0, 8);
+    expect_bytes("write_sheet", sheet, written, sizeof sheet);
+    expect("write_sheet, short buffer", nahokipe_write_sheet(3, 5, signature, 5, sheet, 6), 11, 7);
+    expect_bytes("write_sheet, short buffer", sheet, written, sizeof sheet);
+    expect_sheet("read_sheet", nahokipe_read_sheet(sheet, 8, cells, 7), 0, 6, 2, 5);
+    expect_bytes("read_sheet", cells, tail, sizeof cells);
+    expect_sheet("read_sheet, bytes left", nahokipe_read_sheet(sheet, 9, cells, 7), 25, 8, 1, 0);
+    expect_bytes("read_sheet, bytes left", cells, tail, sizeof cells);
+}
+
+/* All of the bridge's record, which stands at an offset, or nothing beside a refusal. */
+static void expect_record(const char *call, nahokipe_record found, size_t offset)
+{
+    size_t i;
+    int same = found.number == 0 && found.value == 0 && found.parts == 5 && found.mark == 5 && found.sets == 4;
+
+    same = same && found.offset == offset && found.length == 4;
+    for (i = 0; i < 16; i++)
+        same = same && found.numbers[i] == (i < 5 ? i + 1 : 0);
+    if (same)
+        return;
+    printf("%s: the record is not as it should be\n", call);
+    failures++;
+}
+
+static void expect_refused_record(const char *call, nahokipe_record found, unsigned number, size_t value)
+{
+    size_t i;
+    int nothing = found.parts == 0 && found.mark == 0 && found.sets == 0 && found.offset == 0 && found.length == 0;
+    nahokipe_answer answer;
+
+    answer.number = found.number;
+    answer.value = found.value;
+    expect(call, answer, number, value);
+    for (i = 0; i < 16; i++)
+        nothing = nothing && found.numbers[i] == 0;
+    if (nothing)
+        return;
+    printf("%s: something beside the refusal\n", call);
+    failures++;
+}
+
+/* The walk along the record's sets, and a step behind its end. */
+static void test_walk(void)
+{
+    static const uint64_t sets[4] = {0x09, 0x0E, 0x12, 0x15};
+    nahokipe_record whole = nahokipe_whole_record(record, 12);
+    size_t next = whole.offset, left = whole.sets, i;
+    nahokipe_step step;
+
+    for (i = 0; i < 4; i++) {
+        step = nahokipe_next_set(record, 12, next, left);
+        if (step.given != 1 || step.set != sets[i] || step.next != 9 + i || step.left != 3 - i) {
+            printf("next_set: step %zu is not as it should be\n", i);
+            failures++;
+        }
+        next = step.next;
+        left = step.left;
+    }
+    step = nahokipe_next_set(record, 12, next, left);
+    if (step.given != 0 || step.set != 0 || step.next != 0 || step.left != 0) {
+        printf("next_set: the walk does not end\n");
+        failures++;
+    }
+}
+
+static void test_records(void)
+{
+    static const uint16_t list[5] = {0x15, 0x12, 0x1F, 0x0E, 0x09};
+    uint8_t among[14] = {0xFF, 0x05, 0x05, 0x01, 0x02, 0x03, 0x04, 0x05, 0x04, 0x09, 0x0E, 0x12, 0x15, 0xFF};
+    uint8_t table[4] = {0xA5, 0xA5, 0xA5, 0xA5};
+    uint8_t first[12] = {0};
+
+    expect_record("whole_record", nahokipe_whole_record(record, 12), 8);
+    expect_refused_record("whole_record, cut off", nahokipe_whole_record(record, 11), 21, 11);
+    expect_record("record_at", nahokipe_record_at(among, 14, 1), 9);
+    expect_refused_record("record_at, another start", nahokipe_record_at(among, 14, 3), 23, 5);
+    test_walk();
+    expect("table_of_record", nahokipe_table_of_record(record, 12, table, 4), 0, 4);
+    expect("table_of_record, short buffer", nahokipe_table_of_record(record, 12, table, 3), 11, 4);
+    expect_bytes("table_of_record", table, bridge, sizeof table);
+    expect("first_record", nahokipe_first_record(5, list, 5, first, 12), 0, 12);
+    expect("first_record, no sets", nahokipe_first_record(5, list, 0, first, 12), 2, 0);
+    expect_bytes("first_record", first, record, sizeof first);
+}
+
+static void test_changes(void)
+{
+    static const uint8_t added[14] = {6, 6, 1, 2, 3, 4, 5, 6, 4, 0x09, 0x0E, 0x12, 0x15, 0xA5};
+    static const uint8_t taken[10] = {4, 5, 1, 2, 4, 5, 2, 0x05, 0x0A, 0xA5};
+    static const uint8_t wider[12] = {5, 5, 1, 2, 3, 4, 5, 3, 0x01, 0x0E, 0x12, 0xA5};
+    uint8_t buffer[14];
+
+    memset(buffer, 0xA5, sizeof buffer);
+    expect("add_part", nahokipe_add_part(record, 12, buffer, 14), 0, 13);
+    expect_bytes("add_part", buffer, added, sizeof added);
+    expect("add_part, short buffer", nahokipe_add_part(record, 12, buffer, 12), 11, 13);
+    expect_bytes("add_part, short buffer", buffer, added, sizeof added);
+    memset(buffer, 0xA5, sizeof buffer);
+    expect("take_out", nahokipe_take_out(record, 12, 3, buffer, 14), 0, 9);
+    expect_bytes("take_out", buffer, taken, sizeof taken);
+    expect("take_out, position 6", nahokipe_take_out(record, 12, 6, buffer, 14), 17, 0);
+    expect_bytes("take_out, position 6", buffer, taken, sizeof taken);
+    memset(buffer, 0xA5, sizeof buffer);
+    expect("add_set", nahokipe_add_set(record, 12, 0x01, buffer, 14), 0, 11);
+    expect_bytes("add_set", buffer, wider, sizeof wider);
+    expect("add_set, part 6", nahokipe_add_set(record, 12, 0x20, buffer, 14), 4, 0);
+    expect_bytes("add_set, part 6", buffer, wider, sizeof wider);
+}
+
+static void test_report(void)
+{
+    static const char said[] = "parts 5 sets 4 mark 5\n"
+                               "order 1 0\norder 2 24\norder 3 72\norder 4 24\norder 5 0\n"
+                               "dom 1 0\ndom 2 2\ndom 3 2\ndom 4 -5\ndom 5 2\n"
+                               "part 1 28\npart 2 28\npart 3 8\npart 4 28\npart 5 28\n";
+    static const char line[] = "refused 25 12\n";
+    uint8_t table[4] = {0xA5, 0xA5, 0xA5, 0xA5};
+    uint8_t text[sizeof said] = {0};
+    uint8_t refused[sizeof line] = {0};
+
+    expect("report", nahokipe_report(record, 12, table, 4, text, sizeof text), 0, sizeof said - 1);
+    expect("report, short table", nahokipe_report(record, 12, table, 3, text, 0), 11, 4);
+    expect("report, short text", nahokipe_report(record, 12, table, 4, text, 1), 11, sizeof said - 1);
+    expect("report, cut off", nahokipe_report(record, 11, table, 4, text, sizeof text), 21, 11);
+    expect_bytes("report, text", text, said, sizeof said);
+    expect_bytes("report, table", table, bridge, sizeof table);
+    expect("refused_line", nahokipe_refused_line(25, 12, refused, sizeof refused), 0, sizeof line - 1);
+    expect("refused_line, short", nahokipe_refused_line(21, 0, refused, 12), 11, 13);
+    expect_bytes("refused_line", refused, line, sizeof line);
+}
+
 int main(void)
 {
     test_structures();
@@ -131,5 +298,10 @@ int main(void)
     test_importance();
     test_figures();
     test_shares();
+    test_vectors();
+    test_sheets();
+    test_records();
+    test_changes();
+    test_report();
     return failures != 0;
 }

@@ -40,10 +40,22 @@ pub fn figures(
     if let Some((_, needed)) = rooms.into_iter().find(|(room, needed)| room < needed) {
         return refused(11, needed);
     }
-    let sums = summed(&works, &weights(n));
+    fill(n, &works, counts, signature, domination, importance);
+    Ok(())
+}
+
+/// The same of a structure that needs no check, into buffers that are long enough.
+pub fn fill(
+    n: usize,
+    works: &Words,
+    counts: &mut [i64],
+    signature: &mut [i64],
+    domination: &mut [i64],
+    importance: &mut [u64],
+) {
+    let sums = summed(works, &weights(n));
     write_vectors(n, &sums.counts, counts, signature, domination);
     write_importance(n, &sums, importance);
-    Ok(())
 }
 
 /// The number of path sets of each size, and for each part the weights of the path sets that have it, added up.

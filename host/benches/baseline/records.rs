@@ -1,0 +1,149 @@
+//! What a good Rust program does with design records: numbers are read one after the other, and whether a set holds an earlier one is
+//! settled for all sets at once, with 64 sets to a word.
+
+use super::closing::{carry, store, trimmed};
+use super::table::{refused, table_length, Words};
+use nahokipe_host::records::Record;
+use nahokipe_host::Refusal;
+
+/// A record that is accepted, and its path sets.
+pub struct Read {
+    pub record: Record,
+    pub works: Box<Words>,
+}
+
+/// The record that the bytes are.
+pub fn whole_record(bytes: &[u8]) -> Result<Record, Refusal> {
+    read(bytes).map(|read| read.record)
+}
+
+/// The table of a record.
+pub fn table_of_record(bytes: &[u8], table: &mut [u8]) -> Result<usize, Refusal> {
+    let Read { record, works } = read(bytes)?;
+    let needed = table_length(record.numbers.len());
+    if table.len() < needed {
+        return refused(11, needed);
+    }
+    store(&works, &mut table[..needed]);
+    Ok(needed)
+}
+
+/// The sets of an accepted record, one after the other.
+pub fn walk(bytes: &[u8], record: &Record) -> u64 {
+    let (mut at, mut sum) = (record.offset, 0);
+    for _ in 0..record.sets {
+        let Ok((set, next)) = number_at(bytes, at) else {
+            break;
+        };
+        (at, sum) = (next, sum + set as u64);
+    }
+    sum
+}
+
+/// The record and the structure that its sets give.
+pub fn read(bytes: &[u8]) -> Result<Read, Refusal> {
+    let mut record = read_head(bytes)?;
+    let n = record.numbers.len();
+    let mut listed = Box::new([0; 1024]);
+    let end = mark_sets(bytes, n, &record, &mut listed);
+    let mut works = listed.clone();
+    carry(n, &mut works);
+    if trimmed(n, &works) != *listed {
+        return refused(24, first_holding(bytes, n, &record, &works));
+    }
+    let end = end?;
+    if end < bytes.len() {
+        return refused(25, end);
+    }
+    record.length = end - record.offset;
+    Ok(Read { record, works })
+}
+
+/// n, the mark, the part numbers and the count of sets.
+fn read_head(bytes: &[u8]) -> Result<Record, Refusal> {
+    let (n, at) = number_at(bytes, 0)?;
+    if !(1..=16).contains(&n) {
+        return refused(1, 0);
+    }
+    let (mark, mut at) = number_at(bytes, at)?;
+    let mut numbers = Vec::with_capacity(16);
+    let mut last = 0;
+    for _ in 0..n {
+        let (number, next) = number_at(bytes, at)?;
+        if number <= last || number > mark {
+            return refused(23, at);
+        }
+        numbers.push(number as u64);
+        (last, at) = (number, next);
+    }
+    let (sets, offset) = number_at(bytes, at)?;
+    match sets {
+        0 => refused(2, at),
+        1..=12_870 => Ok(Record {
+            mark: mark as u64,
+            numbers,
+            sets: sets as usize,
+            offset,
+            length: 0,
+        }),
+        _ => refused(3, at),
+    }
+}
+
+/// Marks the sets up to the first that is refused for itself, and gives the position behind the last.
+fn mark_sets(
+    bytes: &[u8],
+    n: usize,
+    record: &Record,
+    listed: &mut Words,
+) -> Result<usize, Refusal> {
+    let (mut at, mut last) = (record.offset, 0);
+    for _ in 0..record.sets {
+        let (set, next) = number_at(bytes, at)?;
+        if set >> n != 0 {
+            return refused(4, at);
+        }
+        if set == 0 {
+            return refused(5, at);
+        }
+        if set <= last {
+            return refused(24, at);
+        }
+        listed[set as usize / 64] |= 1 << (set % 64);
+        (at, last) = (next, set);
+    }
+    Ok(at)
+}
+
+/// Where the first set stands that holds an earlier one; there is one.
+fn first_holding(bytes: &[u8], n: usize, record: &Record, works: &Words) -> usize {
+    let is_path = |set: u32| works[set as usize / 64] >> (set % 64) & 1 == 1;
+    let mut at = record.offset;
+    while let Ok((set, next)) = number_at(bytes, at) {
+        if (0..n).any(|i| set >> i & 1 == 1 && is_path(set ^ 1 << i)) {
+            break;
+        }
+        at = next;
+    }
+    at
+}
+
+/// The number at a position and the position behind it, or 21 and 22.
+#[inline(always)]
+fn number_at(bytes: &[u8], at: usize) -> Result<(u32, usize), Refusal> {
+    let mut number = 0_u64;
+    for group in 0..5 {
+        let Some(&byte) = bytes.get(at + group) else {
+            return refused(21, bytes.len());
+        };
+        number |= ((byte & 0x7F) as u64) << (7 * group);
+        if byte < 0x80 {
+            let is_shortest = byte != 0 || group == 0;
+            return match u32::try_from(number) {
+                Ok(number) if is_shortest => Ok((number, at + group + 1)),
+                _ => refused(22, at),
+            };
+        }
+    }
+    refused(22, at)
+}

@@ -5,7 +5,7 @@ use mathlib.Core.List.{List, [], _∷_, _++_}
 use Prim.Native.Nat.{ℕ, suc, _+_, _≤_}
 use native.Mathlib.Nat.{le-trans, le-of-eq, add-zero, add-assoc}
 use native.Mathlib.Omega.{arith}
-use lib.Dec.{leb, ltb, eqb}
+use lib.Dec.{leb, eqb}
 use lib.IntN.{ℤ}
 use lib.ListN.{length, drop, length-append}
 use lib.Seq.{drop-drop, drop-append-seam}
@@ -22,7 +22,7 @@ use Rattle.codec.specs.declared.Reading.{Reading}
 use Rattle.codec.specs.declared.Reading.the-variants.{Number}
 use Rattle.codec.proofs.ReadAfterWrite.{form-read}
 use Rattle.sets.proofs.Bools.{and-both}
-use Rattle.vector.specs.Kinds.{kindNumber, lengthOf, isKind, kindOf}
+use Rattle.vector.specs.Kinds.{kindNumber, lengthOf, kindOf}
 use Rattle.vector.specs.Vectors.{countsRefusal, vectorRefusal}
 use Rattle.vector.specs.declared.Kind.{Kind}
 use Rattle.vector.proofs.Acceptance.{AcceptedVector, accepted-vector}

@@ -1,7 +1,6 @@
 -- What reading a sheet answers (01, "Records on disk"): a vector in a struct, or its entries in a lent buffer.
 use mathlib.Core.Bool.{cond}
 use mathlib.Core.List.{List, _++_}
-use Prim.Native.Nat.{ℕ}
 use lib.Dec.{leb}
 use lib.IntN.{ℤ}
 use lib.ListN.{length, drop}
@@ -11,7 +10,6 @@ use Rattle.answer.specs.declared.Refusal.{Refusal}
 use Rattle.answer.specs.declared.Verdict.the-variants as verdict
 use Rattle.answer.specs.declared.Written.the-variants as written
 use Rattle.vector.specs.Held.{vectorHolding, noVector}
-use Rattle.vector.specs.declared.Kind.{Kind}
 use Rattle.vector.specs.declared.Kind.the-variants.{PathCounts}
 use Rattle.sheet.specs.Sheets.{Sheet, Given, Refused}
 use Rattle.sheet.specs.declared.Received.{Received}

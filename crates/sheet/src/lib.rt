@@ -17,7 +17,7 @@ ghost use Rattle.answer.specs.Refusals.{bytesLeft};
 ghost use Rattle.codec.specs.Fields.{top};
 ghost use Rattle.codec.specs.Reading.{numberAt};
 ghost use Rattle.vector.specs.Held.{entryCells, entriesOf, heldRefusal};
-ghost use Rattle.vector.specs.Kinds.{lengthOf, kindOf, kindRefusal};
+ghost use Rattle.vector.specs.Kinds.{kindOf, kindRefusal};
 ghost use Rattle.vector.specs.Vectors.{vectorRefusal, countsRefusal};
 ghost use Rattle.sheet.specs.Answers.{sheetRead, receivedOutcome, received};
 ghost use Rattle.sheet.specs.Sheets.{coded, decoded, Refused, sheetBytes, sheetOf, afterNumber};

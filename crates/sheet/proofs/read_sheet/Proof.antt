@@ -1,6 +1,6 @@
 -- `sheet::read_sheet` meets its contract: a refused sheet and a short buffer leave the cells alone, and else the entries are copied.
 -- Assumes nothing.
-use mathlib.Core.Path.{_≡_, sym, ap, ap₂, _∙_}
+use mathlib.Core.Path.{sym, ap, ap₂, _∙_}
 use mathlib.Core.List.{List}
 use Prim.Native.Nat.{ℕ}
 use native.Mathlib.Omega.{arith}

@@ -1,6 +1,6 @@
 -- `sheet::size` meets its contract: an entry below 0 is one more than -1 less the entry, so nothing wraps whatever the entry is.
 -- Assumes nothing.
-use mathlib.Core.Path.{_≡_, ap}
+use mathlib.Core.Path.{ap}
 use native.Mathlib.Omega.{arith}
 use lib.IntN.{natAbs}
 use Rattle.vector.proofs.Signs.{less-found, less-small, less-fits, less-same, less-cast, whole-cast}

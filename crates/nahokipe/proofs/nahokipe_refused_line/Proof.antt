@@ -19,7 +19,7 @@ same-length c = search needs
 
 returns : tie.Need-returns
 returns c =
-    let done = c .before .before .before .refused-line .ensures in
+    let done = c .before .before .before .refused-line .ensures .0 in
     record { answered = c .of-written .ensures ∙ ap (λ (o : Outcome ℕ). ofWritten (o .answer)) done; left = ap (λ (o : Outcome ℕ). o .buffer) done }
 
 pub nahokipe-refused-line-spec : {M : Type 1} → statement M

@@ -21,7 +21,7 @@ same-length-2 c = search needs
 
 returns : tie.Need-returns
 returns c =
-    let done = c .before .before .before .before .before .report .ensures in
+    let done = c .before .before .before .before .before .report .ensures .0 in
     record {
       answered = c .of-written .ensures ∙ ap (λ (o : ReportOutcome). ofWritten (o .answer)) done;
       left-table = ap (λ (o : ReportOutcome). o .table) done;

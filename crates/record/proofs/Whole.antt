@@ -71,6 +71,7 @@ refused-contents bytes why = cases (headAt bytes 0)
 pub record DesignRead (bytes : List ℕ) (d : Design) (end : ℕ) : Type 0 where
   pub rules : DesignRules d
   pub begin : ℕ
+  pub head : headAt bytes 0 ≡ found (record { parts = d .parts; count = length (d .sets) }) begin
   pub contents : wholeContents bytes ≡ record { list = d .parts; sets = length (d .sets); begin = begin; end = end; verdict = Accepted }
   pub sets-at : setsAt bytes (d .parts .count) (length (d .sets)) [] begin ≡ found (d .sets) end
   pub stands : Stands bytes begin end (formsOf (d .sets))
@@ -82,6 +83,7 @@ design-read bytes small d end e =
     record {
       rules = r .rules;
       begin = r .begin;
+      head = r .head;
       contents = ap₂ (λ (h : Read Head) (w : Read Design). contentsOf h w) (r .head) e;
       sets-at = r .sets-at;
       stands = r .sets;

@@ -16,11 +16,10 @@ use Rattle.parts.specs.declared.PartList.{PartList}
 use Rattle.parts.specs.PartLists.{listOf}
 use Rattle.words.specs.Words.{wordsOf, among}
 use Rattle.record.specs.declared.Parts.{Parts}
-use Rattle.record.specs.declared.Heading.{Heading}
 use Rattle.record.specs.declared.Marked.{Marked}
 use Rattle.record.specs.declared.Ending.{Ending}
 use Rattle.record.specs.declared.Ending.the-variants as ending
-use Rattle.record.specs.Records.{Read, found, refused, fieldAt, lastOf, Head}
+use Rattle.record.specs.Records.{Read, found, refused, fieldAt, lastOf}
 
 -- a number as it is read
 abbrev pub asRead : Reading → Read ℕ
@@ -31,11 +30,6 @@ asRead (reading.Refused refusal) = refused refusal
 abbrev pub partsOf : Read PartList → Parts
 partsOf (found list next) = record { list = list; next = next; verdict = verdict.Accepted }
 partsOf (refused refusal) = record { list = listOf 0 []; next = 0; verdict = verdict.Refused refusal }
-
--- what stands before the sets, or a refusal
-abbrev pub headingOf : Read Head → Heading
-headingOf (found head begin) = record { list = head .parts; sets = head .count; begin = begin; verdict = verdict.Accepted }
-headingOf (refused refusal) = record { list = listOf 0 []; sets = 0; begin = 0; verdict = verdict.Refused refusal }
 
 -- where the sets end, or a refusal
 abbrev pub endingOf : Read (List ℕ) → Ending

@@ -15,8 +15,8 @@ ghost use Rattle.sets.specs.Structures.{listed};
 ghost use Rattle.sets.specs.Tables.{tableOf, tableLength};
 ghost use Rattle.words.specs.Words.{inWords};
 ghost use Rattle.record.specs.Records.{found, then, fieldAt, partCountRefusal, partNumberRefusal, setCountRefusal, numbersAt, partsAt, headAt, setsAt};
-ghost use Rattle.record.specs.Contents.{nothing, contentsAt, wholeContents, recordRefusal, designIn, stretchOf, firstCursor, stepAt};
-ghost use Rattle.record.specs.Steps.{asRead, partsOf, headingOf, endingOf, risingRefusal, risingAt, markedOf, nestedAt};
+ghost use Rattle.record.specs.Contents.{nothing, headingOf, contentsAt, wholeContents, recordRefusal, designIn, stretchOf, firstCursor, stepAt};
+ghost use Rattle.record.specs.Steps.{asRead, partsOf, endingOf, risingRefusal, risingAt, markedOf, nestedAt};
 
 // What reading a record finds: its part list, the number of its sets, and where their bytes begin and end, which is where the record ends.
 // Of a refused record: a list of no parts and an empty stretch at 0.
@@ -47,12 +47,13 @@ struct Parts {
     verdict: Verdict,
 }
 
-// What stands before the sets: the part list and the number of sets, and where the sets begin.
-struct Heading {
-    list: PartList,
-    sets: usize,
-    begin: usize,
-    verdict: Verdict,
+// What stands before the sets: the part list and the number of sets, and where the sets begin. Where it is refused: a list of no parts, no
+// set and 0.
+pub struct Heading {
+    pub list: PartList,
+    pub sets: usize,
+    pub begin: usize,
+    pub verdict: Verdict,
 }
 
 // The sets up to the first that does not rise, or is refused for another reason than holding an earlier one: marked, counted, with the
@@ -240,8 +241,8 @@ fn read_part_numbers(bytes: &[u8], start: usize, count: usize, mark: u64) -> Par
     }
 }
 
-// What stands before the sets.
-fn read_heading(bytes: &[u8], start: usize) -> Heading
+// What stands before the sets of the record at a position. The sets are not looked at.
+pub fn read_heading(bytes: &[u8], start: usize) -> Heading
     ensures { λ r. ⌜ r ≡ headingOf (headAt (now (bytes .entry)) start) ⌝ }
 {
     let parts = read_parts(bytes, start);

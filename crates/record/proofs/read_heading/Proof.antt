@@ -4,7 +4,8 @@ use mathlib.Core.Path.{_≡_, sym, ap, _∙_}
 use denote.Ref.{now}
 use borrow.Author.Needs.{needs}
 use Rattle.record.specs.Records.{found, partsAt}
-use Rattle.record.specs.Steps.{asRead, headingOf}
+use Rattle.record.specs.Contents.{headingOf}
+use Rattle.record.specs.Steps.{asRead}
 use Rattle.record.proofs.Answers.{parts-given, parts-refused, head-no-parts, head-no-count, head-given}
 use Rattle.record.proofs.read_heading.Statement.{statement}
 use Rattle.record.proofs.read_heading.Tie as tie

@@ -2,21 +2,19 @@
 -- printed in front, or it refuses the record, and then the line of that refusal is printed. The first 40,000 bytes decide.
 -- Assumes nothing.
 use mathlib.Core.Path.{_≡_, refl, sym, ap, ap₂, _∙_, subst}
-use mathlib.Core.List.{List, [], _++_}
+use mathlib.Core.List.{List, _++_}
 use Prim.Native.Nat.{ℕ, _≤_}
 use native.Mathlib.Omega.{arith}
 use borrow.Author.Tests.{le-leb}
 use lib.ListN.{length, take, drop, length-append}
 use lib.Seq.{take-append-seam}
-use Rattle.answer.specs.Outcome.{at, Outcome, outcome, delivered}
+use Rattle.answer.specs.Outcome.{Outcome, outcome, delivered}
 use Rattle.answer.specs.declared.Refusal.{Refusal}
 use Rattle.answer.specs.declared.Verdict.the-variants.{Accepted}
-use Rattle.answer.specs.declared.Written.{Written}
 use Rattle.answer.specs.declared.Written.the-variants.{Length, Refused}
 use Rattle.answer.proofs.Outcomes.{in-front-delivered}
 use Rattle.codec.proofs.WriteAfterRead.{Bytes}
-use Rattle.parts.specs.PartLists.{listOf}
-use Rattle.record.specs.Records.{Read, found, refused, Design, design, wholeRecord}
+use Rattle.record.specs.Records.{Read, found, refused, Design, wholeRecord}
 use Rattle.record.specs.Contents.{designOr, designIn}
 use Rattle.record.proofs.Whole.{design-read}
 use Rattle.record.proofs.Decided.{whole-first}
@@ -41,7 +39,7 @@ unfolding printed
 printed-first bytes small long = ap printedFor (whole-first bytes small long)
 
 -- the line of a refusal, in a buffer that is long enough
-module _ (why : Refusal) (buffer : List ℕ) (fits : length (refusedLine why) ≤ length buffer) (o : Outcome ℕ) (said : o ≡ delivered Accepted (refusedLine why) buffer) where
+module _ (why : Refusal) (buffer : List ℕ) (o : Outcome ℕ) (said : o ≡ delivered Accepted (refusedLine why) buffer) (fits : length (refusedLine why) ≤ length buffer) where
   all-said : o ≡ outcome (Length (length (refusedLine why))) (refusedLine why ++ drop (length (refusedLine why)) buffer)
   all-said =
       said ∙ sym (in-front-delivered buffer (refusedLine why) (refusedLine why ++ drop (length (refusedLine why)) buffer) (length (refusedLine why)) (record { ends = refl; stands = refl }) fits)

@@ -1,29 +1,15 @@
 -- `report::make_text` meets its contract: both buffers are long enough for every report, so that only a record is refused, and the text is long
 -- enough for every line of a refusal.
 -- Assumes nothing.
-use mathlib.Core.Path.{_≡_, sym, _∙_}
-use mathlib.Core.List.{List}
-use Prim.Native.Nat.{ℕ, _≤_}
+use mathlib.Core.Path.{sym, _∙_}
+use Prim.Native.Nat.{ℕ}
 use native.Mathlib.Omega.{arith}
 use denote.Ref.{now}
-use lib.ListN.{length, take, replicate, length-replicate}
-use Rattle.answer.specs.Outcome.{Outcome, delivered}
-use Rattle.answer.specs.declared.Refusal.{Refusal}
-use Rattle.answer.specs.declared.Verdict.the-variants.{Accepted}
-use Rattle.answer.specs.declared.Written.the-variants.{Length, Refused}
-use Rattle.report_text.specs.Reports.{refusedLine}
+use lib.ListN.{replicate, length-replicate}
 use Rattle.report_text.proofs.Printed.{printed-given, printed-refused, line-given, line-said}
 use borrow.Author.Needs.{needs}
 use Rattle.report.proofs.make_text.Statement.{statement}
 use Rattle.report.proofs.make_text.Tie as tie
-
--- the line of a refusal in a buffer of at least 64 bytes
-module _ (why : Refusal) (buffer : List ℕ) (o : Outcome ℕ) (said : o ≡ delivered Accepted (refusedLine why) buffer) (short : length (refusedLine why) ≤ 64) (room : 64 ≤ length buffer) where
-  line-front : (end : ℕ) → o .answer ≡ Length end → (end ≤ length (o .buffer)) × (take end (o .buffer) ≡ refusedLine why)
-  line-front end e = line-given why buffer (omega arith) o said end e
-
-  line-fits : (other : Refusal) → o .answer ≡ Refused other → ⊥
-  line-fits other e = line-said why buffer (omega arith) o said other e
 
 slice-aggregate-report : tie.Need-slice-aggregate-report
 slice-aggregate-report c = search needs
@@ -69,7 +55,7 @@ returns-2 c =
     let a = known .before .args in
     let refusal = printed-refused (now (a .bytes)) (replicate 8192 0) (now (a .text)) (λ i. omega (arith, known .shared-slice-known .given i)) (omega (arith, length-replicate {A = ℕ} 8192 0)) (known .before .pre)
     (call .report .ensures .1) _ (call .report .ensures .0) _ (said .before .before .before .made2 .given .1) in
-    let line = line-front _ (call .report .last .1 .1 .0) _ (said .refused-line .ensures .0) (said .refused-line .ensures .1) (omega arith) _ (c .before .said .given .1) in
+    let line = line-given _ (call .report .last .1 .1 .0) _ (said .refused-line .ensures .0) (omega (arith, said .refused-line .ensures .1)) _ (c .before .said .given .1) in
     (line .0, line .1 ∙ sym refusal)
 
 same-length-3 : tie.Need-same-length-3
@@ -79,7 +65,7 @@ returns-3 : tie.Need-returns-3
 returns-3 c =
     let said = c .before .before .before .before in
     let call = said .before .before .before .before .before .before .before .before in
-    absurd (line-fits _ (call .report .last .1 .1 .0) _ (said .refused-line .ensures .0) (said .refused-line .ensures .1) (omega arith) _ (c .enum-told .given .1))
+    absurd (line-said _ (call .report .last .1 .1 .0) _ (said .refused-line .ensures .0) (omega (arith, said .refused-line .ensures .1)) _ (c .enum-told .given .1))
 
 pub make-text-spec : {M : Type 1} → statement M
 make-text-spec =

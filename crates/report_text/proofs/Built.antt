@@ -21,9 +21,9 @@ use Rattle.sets.specs.Tables.{tableOf}
 use Rattle.sets.proofs.Ranges.{below-or-above}
 use Rattle.sets.proofs.Tables.{tableOf-length, tableLength-small, tableLength-large}
 use Rattle.record.specs.declared.Contents.{Contents}
-use Rattle.record.specs.Records.{Read, found, refused, Design, wholeRecord}
+use Rattle.record.specs.Records.{Read, found, refused, Head, headAt, Design, wholeRecord}
 use Rattle.record.specs.RecordBytes.{DesignRules}
-use Rattle.record.specs.Contents.{wholeContents, recordRefusal, designOr, designIn}
+use Rattle.record.specs.Contents.{recordRefusal, headingOf, designOr, designIn}
 use Rattle.record.proofs.Whole.{design-read, refused-contents}
 
 -- the table of a design
@@ -45,8 +45,8 @@ pub record Built (bytes own : List ℕ) (size : ℕ) : Type 0 where
   pub end : ℕ
   pub read : wholeRecord bytes ≡ found design end
   pub rules : DesignRules design
-  pub parts : wholeContents bytes .list ≡ design .parts
-  pub sets : wholeContents bytes .sets ≡ length (design .sets)
+  pub parts : headingOf (headAt bytes 0) .list ≡ design .parts
+  pub sets : headingOf (headAt bytes 0) .sets ≡ length (design .sets)
   pub counted : size ≡ length (designTable design)
   pub most : size ≤ 8192
   pub front : take size own ≡ designTable design
@@ -84,8 +84,8 @@ module _ (bytes : List ℕ) (small : Bytes bytes) (w : Written) (own : List ℕ)
             end = end;
             read = here;
             rules = r .rules;
-            parts = ap (λ (k : Contents). k .list) (r .contents);
-            sets = ap (λ (k : Contents). k .sets) (r .contents);
+            parts = ap (λ (h : Read Head). headingOf h .list) (r .head);
+            sets = ap (λ (h : Read Head). headingOf h .sets) (r .head);
             counted = counted;
             most = omega (arith, table-most d (r .rules .parts .rules .few));
             front = ap₂ (λ (k : ℕ) (o : Outcome ℕ). take k (o .buffer)) counted all ∙ take-append-seam (designTable d) (drop (length (designTable d)) (replicate 8192 0));

@@ -11,7 +11,7 @@ use lib.Seq.{length-take-le}
 use Rattle.parts.specs.declared.PartList.{PartList}
 use Rattle.sets.specs.Tables.{inTable}
 use Rattle.structure.specs.Checks.{tableRefusal}
-use Rattle.record.specs.declared.Contents.{Contents}
+use Rattle.record.specs.declared.Heading.{Heading}
 use Rattle.record.specs.Records.{Read, Design}
 use Rattle.record.proofs.MinimalSets.{design-table}
 use Rattle.report_text.specs.Reports.{reportOf}
@@ -46,8 +46,8 @@ enum-known-built c = search needs
 enum-known-built-2 : tie.Need-enum-known-built-2
 enum-known-built-2 c = search needs
 
-whole-record-requires : tie.Need-whole-record-requires
-whole-record-requires c κs = search needs
+read-heading-requires : tie.Need-read-heading-requires
+read-heading-requires c κs = search needs
 
 slice-aggregate-put-table : tie.Need-slice-aggregate-put-table
 slice-aggregate-put-table c = search needs
@@ -62,7 +62,7 @@ put-table-requires : tie.Need-put-table-requires
 put-table-requires c κs =
     let told = c .before .before .before .before in
     let b = built told in
-    (ap₂ (λ (list : PartList) (table : List ℕ). tableRefusal (list .count) table) (ap (λ (k : Contents). k .list) (c .before .before .before .whole-record .ensures) ∙ b .parts) (b .front) ∙ design-table (b .design) (b .rules), omega arith)
+    (ap₂ (λ (list : PartList) (table : List ℕ). tableRefusal (list .count) table) (ap (λ (h : Heading). h .list) (c .before .before .before .read-heading .ensures) ∙ b .parts) (b .front) ∙ design-table (b .design) (b .rules), omega arith)
 
 -- the text in front of 4,096 zeros
 text : (c : tie.After-put-table)
@@ -70,9 +70,9 @@ text : (c : tie.After-put-table)
 text c =
     let told = c .before .before .before .before .before in
     let b = built told in
-    let contents = c .before .before .before .before .whole-record in
-    let same : tableText (contents .result .list) (contents .result .sets) (inTable (take (told .before .built2 .given .0 .0) (told .before .before .before .before .table-of-record .last .1 .0))) ≡ reportOf (b .design) =
-    ap₂ (λ (k : Contents) (table : List ℕ). tableText (k .list) (k .sets) (inTable table)) (contents .ensures) (b .front)
+    let heading = c .before .before .before .before .read-heading in
+    let same : tableText (heading .result .list) (heading .result .sets) (inTable (take (told .before .built2 .given .0 .0) (told .before .before .before .before .table-of-record .last .1 .0))) ≡ reportOf (b .design) =
+    ap₂ (λ (h : Heading) (table : List ℕ). tableText (h .list) (h .sets) (inTable table)) (heading .ensures) (b .front)
     ∙ ap₂ (λ (list : PartList) (sets : ℕ). tableText list sets (inTable (designTable (b .design)))) (b .parts) (b .sets)
     ∙ design-text (b .design) (b .rules) in
     wrote-same (wrote-first (replicate 4096 0) 0 _ 4096 _ _ (c .put-table .ensures .1) (omega arith) (c .put-table .ensures .0)) _ same
@@ -129,7 +129,7 @@ report-spec =
     table-of-record-requires
     enum-known-built
     enum-known-built-2
-    whole-record-requires
+    read-heading-requires
     slice-aggregate-put-table
     array-share-prefix-own-table
     slice-aggregate-put-table-2

@@ -4,6 +4,8 @@ use answer::Written;
 use codec::Field;
 use codec::Reading;
 use libc::STDOUT_FILENO;
+use parts::PartList;
+use reader::Found;
 use vector::Kind;
 
 fn main() {
@@ -13,6 +15,7 @@ fn main() {
     shares();
     vectors();
     numbers();
+    replayed();
 }
 
 // Verdicts on tables.
@@ -261,6 +264,99 @@ fn number(name: &[u8], bytes: &[u8]) {
         }
     }
     say(b"\n");
+}
+
+// The spreadsheet's fault replayed: a pump is taken out and a sensor added. The sensor's number is new, and it stands in no set.
+fn replayed() {
+    say(b"the spreadsheet's fault replayed\n");
+    let mut bytes = [0u8; 12];
+    let made = changing::first_record(3, &[3, 5], &mut bytes);
+    match made {
+        Written::Refused(refusal) => refused(refusal.number, refusal.place),
+        Written::Length(length) => with_spare_pump(&bytes, length),
+    }
+}
+
+fn with_spare_pump(bytes: &[u8], length: usize) {
+    if length <= bytes.len() {
+        design(b"controller 1, pump 2, spare pump 3", &bytes[..length]);
+        pump_taken_out(&bytes[..length]);
+    }
+}
+
+fn pump_taken_out(record: &[u8]) {
+    let mut bytes = [0u8; 12];
+    let made = changing::take_out(record, 3, &mut bytes);
+    match made {
+        Written::Refused(refusal) => refused(refusal.number, refusal.place),
+        Written::Length(length) => without_spare_pump(&bytes, length),
+    }
+}
+
+fn without_spare_pump(bytes: &[u8], length: usize) {
+    if length <= bytes.len() {
+        design(b"the spare pump taken out", &bytes[..length]);
+        sensor_added(&bytes[..length]);
+    }
+}
+
+fn sensor_added(record: &[u8]) {
+    let mut bytes = [0u8; 12];
+    let made = changing::add_part(record, &mut bytes);
+    match made {
+        Written::Refused(refusal) => refused(refusal.number, refusal.place),
+        Written::Length(length) => with_sensor(&bytes, length),
+    }
+}
+
+fn with_sensor(bytes: &[u8], length: usize) {
+    if length <= bytes.len() {
+        design(b"an oxygen sensor added", &bytes[..length]);
+    }
+}
+
+// A design by its part numbers.
+fn design(name: &[u8], record: &[u8]) {
+    let contents = record::whole_record(record);
+    let list = contents.list;
+    say(name);
+    say(b": parts");
+    show_parts(list, 65535);
+    say(b"; mark ");
+    io::print_decimal(STDOUT_FILENO, list.mark);
+    say(b"; sets");
+    show_named(record, list, contents.begin, contents.sets);
+    say(b"\n");
+}
+
+// So many sets of a record from an offset on, by part numbers.
+fn show_named(record: &[u8], list: PartList, begin: usize, count: usize) {
+    let mut offset = begin;
+    for _ in 0..count {
+        let found = reader::read_set(record, offset);
+        match found {
+            Found::End => return,
+            Found::Set { set, next } => {
+                say(b" {");
+                show_parts(list, set);
+                say(b" }");
+                offset = next;
+            }
+        }
+    }
+}
+
+// The numbers of the parts that a set names.
+fn show_parts(list: PartList, set: u64) {
+    let numbers = list.numbers;
+    for i in 0..PartList::MOST_PARTS {
+        if i < list.count {
+            if (set >> i) % 2 == 1 {
+                say(b" ");
+                io::print_decimal(STDOUT_FILENO, numbers[i]);
+            }
+        }
+    }
 }
 
 fn table(name: &[u8], n: usize, bytes: &[u8]) {

@@ -279,12 +279,12 @@ fn replayed() {
 
 fn with_spare_pump(bytes: &[u8], length: usize) {
     if length <= bytes.len() {
-        design(b"controller 1, pump 2, spare pump 3", &bytes[..length]);
-        pump_taken_out(&bytes[..length]);
+        take_pump_out(&bytes[..length]);
     }
 }
 
-fn pump_taken_out(record: &[u8]) {
+fn take_pump_out(record: &[u8]) {
+    design(b"controller 1, pump 2, spare pump 3", record);
     let mut bytes = [0u8; 12];
     let made = changing::take_out(record, 3, &mut bytes);
     match made {
@@ -295,12 +295,12 @@ fn pump_taken_out(record: &[u8]) {
 
 fn without_spare_pump(bytes: &[u8], length: usize) {
     if length <= bytes.len() {
-        design(b"the spare pump taken out", &bytes[..length]);
-        sensor_added(&bytes[..length]);
+        add_sensor(&bytes[..length]);
     }
 }
 
-fn sensor_added(record: &[u8]) {
+fn add_sensor(record: &[u8]) {
+    design(b"the spare pump taken out", record);
     let mut bytes = [0u8; 12];
     let made = changing::add_part(record, &mut bytes);
     match made {
@@ -311,8 +311,12 @@ fn sensor_added(record: &[u8]) {
 
 fn with_sensor(bytes: &[u8], length: usize) {
     if length <= bytes.len() {
-        design(b"an oxygen sensor added", &bytes[..length]);
+        sensor_design(&bytes[..length]);
     }
+}
+
+fn sensor_design(record: &[u8]) {
+    design(b"an oxygen sensor added", record);
 }
 
 // A design by its part numbers.

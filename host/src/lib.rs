@@ -8,6 +8,7 @@
 use std::fmt;
 
 pub mod comparing;
+pub mod known;
 pub mod making;
 pub mod naive;
 pub mod naive_bytes;

@@ -1,6 +1,7 @@
 //! The naive records, changes and reports against document 01's examples and against each other: what the other tests compare with must
 //! be right.
 
+use nahokipe_host::known::REFUSED_RECORDS;
 use nahokipe_host::making::{largest_record, random_record, sets_of_size};
 use nahokipe_host::naive::{holds, refused};
 use nahokipe_host::naive_records::*;
@@ -42,54 +43,9 @@ fn accepted_records() {
     }
 }
 
-/// Records with the number and the place of their refusal.
-const REFUSED: [(&[u8], u8, usize); 41] = [
-    (&[3, 3, 1, 2, 3, 3, 1, 3], 24, 7),
-    (&[3, 3, 1, 2, 3, 3, 1, 3, 0x80, 0], 24, 7),
-    (&[2, 5, 3, 3], 23, 3),
-    (&[2, 2, 1, 2, 2, 1, 0], 5, 6),
-    (&[2, 2, 1, 2, 2, 2, 5], 4, 6),
-    (&[0x11], 1, 0),
-    (&[0, 0xFF, 0xFF, 0xFF, 0xFF, 0xFF], 1, 0),
-    (&[0x91], 21, 1),
-    (&[0x80, 0], 22, 0),
-    (&[0xFF, 0xFF, 0xFF, 0xFF, 0x0F], 1, 0),
-    (&[0x80, 0x80, 0x80, 0x80, 0x10], 22, 0),
-    (&[1, 1, 1, 1, 0x80, 0x80, 0x80, 0x80, 0x08], 4, 4),
-    (&[1, 1, 1, 1, 0x80, 0x80, 0x80, 0x80, 0x10], 22, 4),
-    (&[1, 0xFF, 0xFF, 0xFF, 0xFF], 21, 5),
-    (&[1, 0xFF, 0xFF, 0xFF, 0xFF, 0xFF], 22, 1),
-    (&[1, 0xFF, 0xFF, 0xFF, 0xFF, 0x8F], 22, 1),
-    (&[1, 0xFF, 0xFF, 0xFF, 0xFF, 0x8F, 1], 22, 1),
-    (&[1, 0x80, 0x80, 0x80, 0x80, 0], 22, 1),
-    (&[1, 0xFF, 0xFF, 0xFF, 0xFF, 0x10, 1, 1, 1], 22, 1),
-    (&[1, 1, 1, 1, 0x80], 21, 5),
-    (&[3, 3, 1, 2, 3, 3, 1, 2, 5], 24, 8),
-    (&[2, 2, 1, 2, 2, 1, 1], 24, 6),
-    (&[2, 2, 1, 2, 2, 2, 1], 24, 6),
-    (&[1, 0, 1, 1, 1], 23, 2),
-    (&[2, 5, 1, 6, 1, 3], 23, 3),
-    (&[1, 5, 0, 1, 1], 23, 2),
-    (&[2, 5, 3, 2, 1, 3], 23, 3),
-    (&[1, 1, 1, 0], 2, 3),
-    (&[1, 1, 1, 0xC7, 0x64], 3, 3),
-    (&[1, 1, 1, 0xC6, 0x64], 21, 5),
-    (&[2, 2, 1, 2, 2, 1], 21, 6),
-    (&[2, 2, 1, 2, 1, 1, 2], 25, 6),
-    (&[1, 1, 1, 1, 0x81, 0x80, 0x04], 4, 4),
-    (&[1, 1, 1, 1, 1, 0], 25, 5),
-    (&[], 21, 0),
-    (&[1], 21, 1),
-    (&[1, 1], 21, 2),
-    (&[1, 1, 1], 21, 3),
-    (&[1, 1, 1, 1], 21, 4),
-    (&[1, 1, 1, 1, 0], 5, 4),
-    (&[1, 1, 2, 1, 0], 23, 2),
-];
-
 #[test]
 fn refused_records() {
-    for (bytes, number, place) in REFUSED {
+    for (bytes, number, place) in REFUSED_RECORDS {
         assert_eq!(whole_record(bytes), refused(number, place), "{bytes:02X?}");
     }
 }

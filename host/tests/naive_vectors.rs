@@ -1,6 +1,7 @@
 //! The naive vectors and sheets against document 01's examples and against figures of machines: what the other tests compare with must
 //! be right.
 
+use nahokipe_host::known::REFUSED_VECTORS;
 use nahokipe_host::making::random_table;
 use nahokipe_host::naive::{refused, structure_of};
 use nahokipe_host::naive_bytes::{number_at, number_bytes, Field};
@@ -35,36 +36,9 @@ fn the_papers_vectors() {
     assert_eq!(verdict(TAIL, 5, &tail), refused(13, 3));
 }
 
-/// Kind, n, entries, and the refusal's number and place.
-type Case = (u8, usize, &'static [i64], u8, usize);
-
-/// Entries far outside, faults in two places, totals that are not n!, lengths.
-const REFUSED: [Case; 20] = [
-    (3, 2, &[1, i64::MAX], 13, 1),
-    (3, 2, &[-(i64::MAX - 2), i64::MAX], 13, 1),
-    (4, 1, &[1, 0], 13, 0),
-    (1, 1, &[i64::MIN, 1], 13, 0),
-    (2, 5, &[120, 119, 96, 24, 1, 0], 13, 1),
-    (2, 1, &[1, 1], 13, 0),
-    (1, 3, &[0, 3, 2, 2], 13, 3),
-    (3, 3, &[0, 0, 0], 13, 3),
-    (3, 3, &[0, 6, 6], 13, 2),
-    (3, 3, &[3, -3, 6], 13, 2),
-    (3, 3, &[2, -2, 6], 14, 1),
-    (3, 3, &[0, 6, 0, 0], 12, 0),
-    (1, 3, &[0, 3, 3], 12, 0),
-    (3, 17, &[0], 1, 0),
-    (1, 0, &[], 1, 0),
-    (0, 0, &[], 26, 0),
-    (5, 1, &[0, 1], 26, 0),
-    (255, 17, &[], 26, 0),
-    (2, 3, &[6, 6, 6, 3], 13, 0),
-    (4, 2, &[0, 3, -1], 13, 1),
-];
-
 #[test]
 fn refused_vectors() {
-    for (kind, n, entries, number, place) in REFUSED {
+    for (kind, n, entries, number, place) in REFUSED_VECTORS {
         let found = verdict(kind, n, entries);
         assert_eq!(found, refused(number, place), "{kind}, {n}, {entries:?}");
     }

@@ -2,6 +2,7 @@
 //! buffers.
 
 use nahokipe_host::comparing::{buffers, front, same};
+use nahokipe_host::known::REFUSED_RECORDS;
 use nahokipe_host::making::{damaged_record, largest_record, minimal_of_list, random_list};
 use nahokipe_host::making::{random_record, random_set, sets_of_size, table_of_sets};
 use nahokipe_host::naive::{self, refused, table_length, MOST_SETS};
@@ -510,48 +511,10 @@ fn first_records_of_long_lists() {
 
 // ---- examples
 
-/// Records with the number and the place of their refusal.
-const REFUSED: [(&[u8], u8, usize); 34] = [
-    (&[3, 3, 1, 2, 3, 3, 1, 3], 24, 7),
-    (&[3, 3, 1, 2, 3, 3, 1, 3, 0x80, 0], 24, 7),
-    (&[2, 5, 3, 3], 23, 3),
-    (&[2, 2, 1, 2, 2, 1, 0], 5, 6),
-    (&[2, 2, 1, 2, 2, 2, 5], 4, 6),
-    (&[0x11], 1, 0),
-    (&[0, 0xFF, 0xFF, 0xFF, 0xFF, 0xFF], 1, 0),
-    (&[0x91], 21, 1),
-    (&[0x80, 0], 22, 0),
-    (&[0xFF, 0xFF, 0xFF, 0xFF, 0x0F], 1, 0),
-    (&[0x80, 0x80, 0x80, 0x80, 0x10], 22, 0),
-    (&[1, 1, 1, 1, 0x80, 0x80, 0x80, 0x80, 0x08], 4, 4),
-    (&[1, 1, 1, 1, 0x80, 0x80, 0x80, 0x80, 0x10], 22, 4),
-    (&[1, 0xFF, 0xFF, 0xFF, 0xFF], 21, 5),
-    (&[1, 0xFF, 0xFF, 0xFF, 0xFF, 0xFF], 22, 1),
-    (&[1, 0xFF, 0xFF, 0xFF, 0xFF, 0x8F], 22, 1),
-    (&[1, 0xFF, 0xFF, 0xFF, 0xFF, 0x8F, 1], 22, 1),
-    (&[1, 0x80, 0x80, 0x80, 0x80, 0], 22, 1),
-    (&[1, 0xFF, 0xFF, 0xFF, 0xFF, 0x10, 1, 1, 1], 22, 1),
-    (&[1, 1, 1, 1, 0x80], 21, 5),
-    (&[3, 3, 1, 2, 3, 3, 1, 2, 5], 24, 8),
-    (&[2, 2, 1, 2, 2, 1, 1], 24, 6),
-    (&[1, 0, 1, 1, 1], 23, 2),
-    (&[2, 5, 1, 6, 1, 3], 23, 3),
-    (&[1, 5, 0, 1, 1], 23, 2),
-    (&[2, 5, 3, 2, 1, 3], 23, 3),
-    (&[1, 1, 1, 0], 2, 3),
-    (&[1, 1, 1, 0xC7, 0x64], 3, 3),
-    (&[1, 1, 1, 0xC6, 0x64], 21, 5),
-    (&[2, 2, 1, 2, 2, 1], 21, 6),
-    (&[2, 2, 1, 2, 1, 1, 2], 25, 6),
-    (&[1, 1, 1, 1, 0x81, 0x80, 0x04], 4, 4),
-    (&[1, 1, 1, 1, 1, 0], 25, 5),
-    (&[], 21, 0),
-];
-
 /// Document 01's examples and what follows from its table of refusals.
 #[test]
 fn examples() {
-    for (bytes, number, place) in REFUSED {
+    for (bytes, number, place) in REFUSED_RECORDS {
         assert_eq!(whole_record(bytes), refused(number, place), "{bytes:02X?}");
         compare(bytes);
     }

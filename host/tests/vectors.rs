@@ -1,6 +1,7 @@
 //! Vectors: the calculator against the naive implementation, answers, places and every cell of the lent buffers.
 
 use nahokipe_host::comparing::{buffers, same};
+use nahokipe_host::known::REFUSED_VECTORS;
 use nahokipe_host::making::random_table;
 use nahokipe_host::naive::{self, refused, structure_of};
 use nahokipe_host::naive_figures::{self as figures, binomial, factorial};
@@ -345,21 +346,7 @@ fn examples_of_the_paper() {
 /// Places are sizes, all of 13 comes before 14, and sums leave 64 bits.
 #[test]
 fn examples_of_places() {
-    let cases: [(u8, usize, &[i64], u8, usize); 12] = [
-        (3, 2, &[1, i64::MAX], 13, 1),
-        (3, 2, &[-(i64::MAX - 2), i64::MAX], 13, 1),
-        (4, 1, &[1, 0], 13, 0),
-        (1, 1, &[i64::MIN, 1], 13, 0),
-        (2, 5, &[120, 119, 96, 24, 1, 0], 13, 1),
-        (2, 1, &[1, 1], 13, 0),
-        (1, 3, &[0, 3, 2, 2], 13, 3),
-        (3, 3, &[0, 0, 0], 13, 3),
-        (3, 3, &[0, 6, 6], 13, 2),
-        (3, 3, &[3, -3, 6], 13, 2),
-        (3, 3, &[2, -2, 6], 14, 1),
-        (3, 3, &[0, 6, 0, 0], 12, 0),
-    ];
-    for (kind, n, entries, number, place) in cases {
+    for (kind, n, entries, number, place) in REFUSED_VECTORS {
         let found = vector_verdict(kind, n, entries);
         assert_eq!(found, refused(number, place), "{kind}, {entries:?}");
     }

@@ -76,7 +76,7 @@ fn pieces<'a>(seeded: &mut Seeded, bytes: &'a [u8]) -> Vec<&'a [u8]> {
 fn random_records() {
     let mut seeded = Seeded::new(180);
     for n in 1..=16 {
-        for _ in 0..3 {
+        for _ in 0..8 {
             let bytes = random_record(&mut seeded, n);
             compare(&mut seeded, &bytes);
         }
@@ -87,7 +87,7 @@ fn random_records() {
 fn damaged_records() {
     let mut seeded = Seeded::new(181);
     for n in 1..=16 {
-        for _ in 0..4 {
+        for _ in 0..10 {
             let bytes = damaged_record(&mut seeded, n);
             compare(&mut seeded, &bytes);
         }

@@ -169,7 +169,7 @@ nahokipe_sheet nahokipe_read_sheet(const uint8_t *sheet, size_t sheet_len, int64
 
 /*
  * Design records: n; the mark, which is the highest part number ever issued; the n part numbers, rising; the count of minimal sets; the
- * minimal sets, rising. All are numbers in groups of seven bits, as in a sheet, and reach 2^32 - 1. 35,695 bytes are enough for every
+ * minimal sets, rising. All are numbers in groups of seven bits, as in a sheet, and reach 2^32 - 1. 40,000 bytes are enough for every
  * record.
  */
 
@@ -236,13 +236,13 @@ nahokipe_answer nahokipe_take_out(const uint8_t *bytes, size_t bytes_len, size_t
 nahokipe_answer nahokipe_add_set(const uint8_t *bytes, size_t bytes_len, uint16_t set, uint8_t *buffer, size_t buffer_len);
 
 /*
- * Writes the report on a record, and the record's table into the first buffer; value is the text's length in bytes, of which 1,172 are
+ * Writes the report on a record, and the record's table into the first buffer; value is the text's length in bytes, of which 4,096 are
  * enough. The text gives parts, sets and mark, then the signature by `order`, the domination by `dom` and the importances by `part` and
  * part number, each line ended by a line feed. Refused: as nahokipe_whole_record, 11 for the table and then for the text.
  */
 nahokipe_answer nahokipe_report(const uint8_t *bytes, size_t bytes_len, uint8_t *table, size_t table_len, uint8_t *text, size_t text_len);
 
-/* Writes the line `refused NUMBER PLACE` with its line feed: 33 bytes are enough. Refused: 11. */
+/* Writes the line `refused NUMBER PLACE` with its line feed: 64 bytes are enough. Refused: 11. */
 nahokipe_answer nahokipe_refused_line(uint8_t number, size_t place, uint8_t *text, size_t text_len);
 
 #ifdef __cplusplus

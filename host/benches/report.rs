@@ -82,7 +82,7 @@ fn in_turns(
 
 /// The call once, into buffers that are filled with a pattern: the table with the text behind it, or a refusal's line.
 fn round(call: Call, bytes: &[u8]) -> Round {
-    let (mut table, mut text) = (vec![0xA5; 8192], vec![0xA5; 1_172]);
+    let (mut table, mut text) = (vec![0xA5; 8192], vec![0xA5; 4_096]);
     let (answer, time) = timed(|| call(black_box(bytes), &mut table, &mut text));
     let given = match answer {
         Ok(_) => [table, text].concat(),

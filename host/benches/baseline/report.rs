@@ -45,7 +45,7 @@ fn said(read: &Read) -> Vec<u8> {
         &mut domination,
         &mut importance,
     );
-    let mut text = Vec::with_capacity(1_172);
+    let mut text = Vec::with_capacity(4_096);
     let mut line = |words: std::fmt::Arguments| {
         // Writing to memory cannot fail.
         text.write_fmt(words).unwrap_or(());

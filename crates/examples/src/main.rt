@@ -89,6 +89,13 @@ fn refused_lists() {
 // The figures of the papers' systems.
 fn figures() {
     say(b"figures\n");
+    small_systems();
+    systems_with_the_same_figures();
+    systems_of_remark_4();
+    modules();
+}
+
+fn small_systems() {
     figures_of_list(b"n = 1, {1}", 1, &[1]);
     figures_of_list(b"n = 2, {1} {2} (001, example 1)", 2, &[1, 2]);
     figures_of_list(b"n = 2, {1,2}", 2, &[3]);
@@ -98,12 +105,23 @@ fn figures() {
         5,
         &[9, 18, 21, 14],
     );
+}
+
+fn systems_with_the_same_figures() {
     figures_of_list(b"003, remark 2, first of 8 parts", 8, &[3, 14, 240]);
     figures_of_list(b"003, remark 2, second of 8 parts", 8, &[5, 26, 227]);
+}
+
+fn systems_of_remark_4() {
     figures_of_list(b"003, remark 4 (a)", 4, &[3, 6, 12]);
     figures_of_list(b"003, remark 4 (b), first of 6 parts", 6, &[3, 14, 60]);
     figures_of_list(b"003, remark 4 (b), second of 5 parts", 5, &[5, 26]);
     figures_of_list(b"003, remark 4 (b), second of 6 parts", 6, &[5, 26]);
+}
+
+// Two modules in series, of 3 and 4 parts.
+fn modules() {
+    figures_of_list(b"003, example 7", 7, &[27, 29, 99, 101]);
 }
 
 fn figures_of_list(name: &[u8], n: usize, masks: &[u16]) {

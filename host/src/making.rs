@@ -120,3 +120,12 @@ pub fn damaged_record(seeded: &mut Seeded, n: usize) -> Vec<u8> {
     }
     numbers_bytes(numbers)
 }
+
+/// The table of all sets of 6 or more of 16 parts.
+pub fn six_of_sixteen() -> Vec<u8> {
+    let mut table = vec![0; 8192];
+    for set in (0..=u16::MAX).filter(|set| set.count_ones() >= 6) {
+        table[set as usize / 8] |= 1 << (set % 8);
+    }
+    table
+}

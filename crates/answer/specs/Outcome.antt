@@ -21,6 +21,11 @@ abbrev pub refuse : Bool → ℕ → ℕ → Verdict → Verdict
 refuse true number place later = verdict.Refused (at number place)
 refuse false number place later = later
 
+-- a verdict, and where it accepts a later one
+abbrev pub andThen : Verdict → Verdict → Verdict
+andThen (verdict.Refused r) later = verdict.Refused r
+andThen verdict.Accepted later = later
+
 -- what a call leaves behind: its answer, and the lent buffer afterwards
 pub record Outcome (A : Type 0) : Type 0 where
   pub answer : Written

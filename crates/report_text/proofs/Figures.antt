@@ -24,13 +24,14 @@ use Rattle.sets.proofs.Masks.{add-below}
 use Rattle.sets.proofs.Structures.{semicoherent-same}
 use Rattle.orders.specs.Counting.{count}
 use Rattle.orders.specs.Formulas.{pathCount}
+use Rattle.answer.specs.Outcome.{andThen}
 use Rattle.answer.specs.declared.Verdict.{Verdict}
 use Rattle.answer.specs.declared.Verdict.the-variants.{Accepted}
 use Rattle.structure.specs.Checks.{tableRefusal}
 use Rattle.structure.proofs.Acceptance.{accepted-table, list-works}
 use Rattle.parts.specs.declared.PartList.{PartList}
 use Rattle.signature.specs.Figures.{signature, domination, importance, signatures, dominations, importances}
-use Rattle.signature.specs.All.{buffersOf, roomRefusal, andThen, deliveredAll, allFigures}
+use Rattle.signature.specs.All.{buffersOf, roomRefusal, deliveredAll, allFigures}
 use Rattle.signature.proofs.Rooms.{room-enough}
 use Rattle.signature.proofs.Tails.{signature-is-count}
 use Rattle.signature.proofs.Importances.{importance-is-count}

@@ -9,7 +9,7 @@ use lib.Dec.{leb, eqb}
 use lib.IntN.{ℤ, pos}
 use lib.ListN.{length, getD, drop, List·getD-append}
 use borrow.Author.Tests.{leb-false, eqb-false}
-use Rattle.answer.specs.Outcome.{delivered, refuse}
+use Rattle.answer.specs.Outcome.{delivered, refuse, andThen}
 use Rattle.answer.specs.Refusals.{emptyGroup, unknownGroupPart}
 use Rattle.answer.specs.declared.Verdict.{Verdict}
 use Rattle.answer.specs.declared.Verdict.the-variants.{Accepted, Refused}
@@ -25,7 +25,7 @@ use Rattle.structure.specs.Checks.{tableRefusal}
 use Rattle.structure.proofs.Acceptance.{accepted-table}
 use Rattle.shares.specs.Polynomials.{shareFrom}
 use Rattle.shares.specs.Shares.{sharesBySets, reliability, reliabilityCells, inCells, sharesFromCells, sharesByReliability, groupCounts}
-use Rattle.shares.specs.Refusals.{groupRefusal, andThen, sharesRefusal}
+use Rattle.shares.specs.Refusals.{groupRefusal, sharesRefusal}
 use Rattle.shares.specs.Claim.{GivesCounts}
 use Rattle.shares.proofs.Routes.{share-is-count, routes-agree}
 use Rattle.shares.proofs.Cells.{in-cells, shareFrom-same}

@@ -26,7 +26,7 @@ use Rattle.vector.specs.Kinds.{lengthOf}
 use Rattle.vector.specs.Vectors.{countsRefusal, vectorRefusal}
 use Rattle.vector.specs.declared.Kind.{Kind}
 use Rattle.sheet.specs.Sheets.{decoded, Sheet, Given, Refused, refuse, afterNumber, afterEntries, judged}
-use Rattle.sheet.specs.Steps.{ended, firstOf}
+use Rattle.sheet.specs.Steps.{ended}
 
 -- one more entry behind some fills the first spare cell
 cells-more : (entries : List ℤ) (count : ℕ) (entry : ℤ) → length entries ≡ count → count < mostEntries → set (entryCells entries) count entry ≡ entryCells (entries ++ (entry ∷ []))
@@ -102,10 +102,10 @@ vector-counts kind n entries some few long =
 
 -- 25, and then 13 and 14, are the first of two verdicts
 pub ended-first : (bytes : List ℕ) (kind : Kind) (n : ℕ) (entries : List ℤ) (end : ℕ) → ended bytes kind n entries end
-    ≡ judged (firstOf (answer.refuse (ltb end (length bytes)) bytesLeft end Accepted) (countsRefusal kind n entries)) (Given kind n entries)
+    ≡ judged (answer.andThen (answer.refuse (ltb end (length bytes)) bytesLeft end Accepted) (countsRefusal kind n entries)) (Given kind n entries)
 ended-first bytes kind n entries end = either (ltb end (length bytes))
   where
     either : (t : Bool) → refuse t bytesLeft end (judged (countsRefusal kind n entries) (Given kind n entries))
-        ≡ judged (firstOf (answer.refuse t bytesLeft end Accepted) (countsRefusal kind n entries)) (Given kind n entries)
+        ≡ judged (answer.andThen (answer.refuse t bytesLeft end Accepted) (countsRefusal kind n entries)) (Given kind n entries)
     either true = refl
     either false = refl

@@ -6,8 +6,6 @@ use lib.Dec.{leb, ltb}
 use lib.IntN.{ℤ}
 use lib.ListN.{length}
 use Rattle.answer.specs.Refusals.{wrongPartCount, bytesLeft, wrongKind}
-use Rattle.answer.specs.declared.Verdict.{Verdict}
-use Rattle.answer.specs.declared.Verdict.the-variants.{Accepted, Refused}
 use Rattle.codec.specs.Reading.{numberAt}
 use Rattle.codec.specs.declared.Field.the-variants as field
 use Rattle.vector.specs.Kinds.{lengthOf, isKind, kindOf}
@@ -30,8 +28,3 @@ module _ (bytes : List ℕ) where
   -- behind the kind's number
   abbrev pub kinded : ℕ → ℕ → Sheet
   kinded number next = refuse (not (isKind number)) wrongKind 0 (afterNumber (numberAt bytes next field.Sheet) (numbered (kindOf number)))
-
--- the first of two refusals
-abbrev pub firstOf : Verdict → Verdict → Verdict
-firstOf (Refused r) later = Refused r
-firstOf Accepted later = later

@@ -12,7 +12,7 @@ ghost use lib.Dec.{ltb};
 ghost use lib.IntN.{natAbs};
 ghost use mathlib.Core.List.{_++_};
 ghost use lib.ListN.{length, drop};
-ghost use Rattle.answer.specs.Outcome.{at, refuse, outcome, delivered};
+ghost use Rattle.answer.specs.Outcome.{at, refuse, andThen, outcome, delivered};
 ghost use Rattle.answer.specs.Refusals.{bytesLeft};
 ghost use Rattle.codec.specs.Fields.{top};
 ghost use Rattle.codec.specs.Reading.{numberAt};
@@ -21,7 +21,7 @@ ghost use Rattle.vector.specs.Kinds.{kindOf, kindRefusal};
 ghost use Rattle.vector.specs.Vectors.{vectorRefusal, countsRefusal};
 ghost use Rattle.sheet.specs.Answers.{sheetRead, receivedOutcome, received};
 ghost use Rattle.sheet.specs.Sheets.{coded, decoded, Refused, sheetBytes, sheetOf, afterNumber};
-ghost use Rattle.sheet.specs.Steps.{ended, entered, numbered, firstOf};
+ghost use Rattle.sheet.specs.Steps.{ended, entered, numbered};
 
 // What reading a sheet finds: its vector, or why there is none, and then a vector of no entries.
 pub struct SheetRead {
@@ -243,7 +243,7 @@ fn bytes_left(bytes: &[u8], end: usize) -> Verdict
 
 // The first of two refusals.
 fn first_of(first: Verdict, later: Verdict) -> Verdict
-    ensures { λ r. ⌜ r ≡ firstOf first later ⌝ }
+    ensures { λ r. ⌜ r ≡ andThen first later ⌝ }
 {
     match first {
         Verdict::Refused(refusal) => Verdict::Refused(refusal),

@@ -5,7 +5,7 @@ use Prim.Native.Nat.{ℕ, _+_}
 use lib.Dec.{ltb}
 use lib.IntN.{ℤ}
 use lib.ListN.{length, drop}
-use Rattle.answer.specs.Outcome.{refuse}
+use Rattle.answer.specs.Outcome.{refuse, andThen}
 use Rattle.answer.specs.Refusals.{shortBuffer}
 use Rattle.answer.specs.declared.Verdict.{Verdict}
 use Rattle.answer.specs.declared.Verdict.the-variants.{Accepted, Refused}
@@ -31,11 +31,6 @@ roomRefusal n counts signature domination importance =
     (refuse (ltb signature n) shortBuffer n
     (refuse (ltb domination (n + 1)) shortBuffer (n + 1)
     (refuse (ltb importance n) shortBuffer n Accepted)))
-
--- a verdict, and where it accepts a later one
-abbrev pub andThen : Verdict → Verdict → Verdict
-andThen (Refused r) later = Refused r
-andThen Accepted later = later
 
 -- the answer, and the buffers afterwards
 pub record AllOutcome : Type 0 where

@@ -4,7 +4,7 @@ use mathlib.Core.List.{List}
 use Prim.Native.Nat.{ℕ, _^_, _≤_, _<_}
 use native.Mathlib.Omega.{arith}
 use borrow.Author.Tests.{eq-eqb, ne-eqb, le-leb, lt-leb}
-use Rattle.answer.specs.Outcome.{at}
+use Rattle.answer.specs.Outcome.{at, andThen}
 use Rattle.answer.specs.Refusals.{emptyGroup, unknownGroupPart}
 use Rattle.answer.specs.declared.Refusal.{Refusal}
 use Rattle.answer.specs.declared.Verdict.{Verdict}
@@ -12,7 +12,7 @@ use Rattle.answer.specs.declared.Verdict.the-variants.{Accepted, Refused}
 use Rattle.answer.proofs.Outcomes.{refuse-held, refuse-passed}
 use Rattle.structure.specs.Checks.{tableRefusal}
 use Rattle.structure.proofs.Acceptance.{accepted-table}
-use Rattle.shares.specs.Refusals.{groupRefusal, andThen, sharesRefusal}
+use Rattle.shares.specs.Refusals.{groupRefusal, sharesRefusal}
 
 module _ (n : ℕ) (table : List ℕ) (group : ℕ) where
   pub table-refused : (refusal : Refusal) → tableRefusal n table ≡ Refused refusal → sharesRefusal n table group ≡ Refused refusal

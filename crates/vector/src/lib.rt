@@ -1,4 +1,4 @@
-// Vectors of the four kinds (01, "Vector sheets"): judged, converted into each other, and read from and written to sheets.
+// Vectors of the four kinds (01, "Vector sheets"): judged, and converted into each other.
 use answer::Refusal;
 use answer::Verdict;
 use answer::Written;

@@ -18,8 +18,8 @@ use Rattle.sets.proofs.Bools.{true-or-false, clash}
 use Rattle.sets.proofs.Masks.{odd, even, has-suc, has-low, has-above, has-block, has-shift, quotient-odd, quotient-even}
 use Rattle.sets.proofs.Ranges.{below-or-above, least-found, those-skip, those-take, those-fewer}
 use Rattle.sets.proofs.Tables.{packed-unique, packed-same, inTable-at}
-use Rattle.words.specs.Words.{inWords, wordOf, wordsOf}
-use Rattle.words.specs.Steps.{Lowest, without, spread}
+use Rattle.words.specs.Words.{inWords, wordOf, wordsOf, without, spread}
+use Rattle.words.specs.Steps.{Lowest}
 use Rattle.words.proofs.Words.{inWords-at, inWords-wordsOf, has-wordOf, wordOf-unique, wordsOf-same}
 
 pub byte-of : (w i : ℕ) → w / 2 ^ (8 * i) % 256 ≡ packed 8 (λ k. has w (8 * i + k))

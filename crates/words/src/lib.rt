@@ -13,8 +13,8 @@ ghost use Rattle.answer.specs.Outcome.{outcome, delivered};
 ghost use Rattle.sets.specs.Masks.{has, those, least};
 ghost use Rattle.sets.specs.Structures.{broken};
 ghost use Rattle.sets.specs.Tables.{packed, inTable};
-ghost use Rattle.words.specs.Words.{inWords, wordOf, wordsOf, among};
-ghost use Rattle.words.specs.Steps.{with as withPart, without as withoutPart, lost as lostSet, spare, spread, trimmed as trimmedSet, Lowest};
+ghost use Rattle.words.specs.Words.{inWords, wordOf, wordsOf, among, without as withoutPart, spare, spread, trimmed as trimmedSet};
+ghost use Rattle.words.specs.Steps.{with as withPart, lost as lostSet, Lowest};
 
 // The set function of a table.
 pub fn load(table: &[u8]) -> [u64; 1024]

@@ -1,8 +1,8 @@
 -- `sheet::first_of` meets its contract, case by case.
 -- Assumes nothing.
 use mathlib.Core.Path.{sym, ap}
+use Rattle.answer.specs.Outcome.{andThen}
 use Rattle.answer.specs.declared.Verdict.{Verdict}
-use Rattle.sheet.specs.Steps.{firstOf}
 use borrow.Author.Needs.{needs}
 use Rattle.sheet.proofs.first_of.Statement.{statement}
 use Rattle.sheet.proofs.first_of.Tie as tie
@@ -14,7 +14,7 @@ enum-told : tie.Need-enum-told
 enum-told c = search needs
 
 returns : tie.Need-returns
-returns c = ap (λ (v : Verdict). firstOf v (c .before .before .before .args .later)) (sym (c .before .first .given .1))
+returns c = ap (λ (v : Verdict). andThen v (c .before .before .before .args .later)) (sym (c .before .first .given .1))
 
 returns-2 : tie.Need-returns-2
 returns-2 c = search needs

@@ -8,7 +8,7 @@ use denote.Ref.{now}
 use lib.Dec.{ltb}
 use lib.IntN.{ℤ, pos}
 use lib.ListN.{length, replicate, length-append}
-use Rattle.answer.specs.Outcome.{refuse}
+use Rattle.answer.specs.Outcome.{refuse, andThen}
 use Rattle.answer.specs.Refusals.{bytesLeft}
 use Rattle.answer.specs.declared.Verdict.{Verdict}
 use Rattle.answer.specs.declared.Verdict.the-variants.{Accepted}
@@ -16,7 +16,6 @@ use Rattle.vector.specs.Held.{mostEntries, entriesOf}
 use Rattle.vector.specs.Vectors.{countsRefusal}
 use Rattle.sheet.specs.Answers.{sheetRead}
 use Rattle.sheet.specs.Sheets.{Given, judged}
-use Rattle.sheet.specs.Steps.{firstOf}
 use Rattle.sheet.proofs.Walk.{ended-first}
 use borrow.Author.Needs.{needs}
 use Rattle.sheet.proofs.judged_sheet.Statement.{statement}
@@ -24,12 +23,12 @@ use Rattle.sheet.proofs.judged_sheet.Tie as tie
 
 -- the first of the two verdicts
 decided : (c : tie.After-first-of)
-    → c .first-of .result ≡ firstOf (refuse (ltb (c .before .before .before .before .before .before .args .end) (length (now (c .before .before .before .before .before .before .args .bytes)))) bytesLeft (c .before .before .before .before .before .before .args .end) Accepted)
+    → c .first-of .result ≡ andThen (refuse (ltb (c .before .before .before .before .before .before .args .end) (length (now (c .before .before .before .before .before .before .args .bytes)))) bytesLeft (c .before .before .before .before .before .before .args .end) Accepted)
     (countsRefusal (c .before .before .before .before .before .before .args .vector .kind) (c .before .before .before .before .before .before .args .vector .n)
     (entriesOf (c .before .before .before .before .before .before .args .vector)))
 decided c =
     c .first-of .ensures
-    ∙ ap₂ (λ (first later : Verdict). firstOf first later) (c .before .before .before .before .bytes-left .ensures)
+    ∙ ap₂ (λ (first later : Verdict). andThen first later) (c .before .before .before .before .bytes-left .ensures)
     (c .before .judge .ensures ∙ c .before .before .before .before .before .before .pre .0)
 
 bytes-left-requires : tie.Need-bytes-left-requires

@@ -9,6 +9,7 @@ use native.Mathlib.Omega.{arith}
 use denote.Ref.{now}
 use lib.ListN.{length, drop}
 use borrow.Author.Needs.{needs}
+use Rattle.answer.specs.Outcome.{andThen}
 use Rattle.answer.specs.declared.Verdict.{Verdict}
 use Rattle.answer.specs.declared.Verdict.the-variants.{Accepted}
 use Rattle.numbers.specs.Tables.{tabulate}
@@ -18,7 +19,7 @@ use Rattle.words.specs.Words.{inWords}
 use Rattle.structure.specs.Checks.{tableRefusal}
 use Rattle.structure.proofs.Acceptance.{AcceptedTable, accepted-table}
 use Rattle.signature.specs.Figures.{importances}
-use Rattle.signature.specs.All.{Buffers, buffersOf, roomRefusal, andThen, deliveredAll, allFigures}
+use Rattle.signature.specs.All.{Buffers, buffersOf, roomRefusal, deliveredAll, allFigures}
 use Rattle.signature.specs.Steps.{countsOf, cellAt, Few, row, importanceBy, Rows}
 use Rattle.signature.specs.declared.Kind.the-variants.{PathCounts, Signature, Domination}
 use Rattle.signature.proofs.Machines.{table-counts, table-few, all-row, table-rows, table-importances}

@@ -9,8 +9,7 @@ use native.Mathlib.Omega.{arith}
 use denote.Ref.{now}
 use lib.ListN.{length}
 use Rattle.numbers.proofs.Tables.{tabulate-length}
-use Rattle.words.specs.Words.{inWords, wordOf, wordsOf}
-use Rattle.words.specs.Steps.{without, spread}
+use Rattle.words.specs.Words.{inWords, wordOf, wordsOf, without, spread}
 use Rattle.words.proofs.Runs.{spread-more}
 use borrow.Author.Needs.{needs}
 use Rattle.words.proofs.carried.Statement.{statement}

@@ -7,9 +7,8 @@ use Prim.Native.Nat.{ℕ, _-_, _≤_}
 use native.Mathlib.Omega.{arith}
 use denote.Ref.{now}
 use Rattle.numbers.proofs.Tables.{filled, filled-none, filled-again, filled-end}
-use Rattle.words.specs.Words.{inWords, wordOf}
+use Rattle.words.specs.Words.{inWords, wordOf, without}
 use Rattle.sets.specs.Masks.{join}
-use Rattle.words.specs.Steps.{without}
 use Rattle.words.proofs.Words.{word-is, wordOf-or}
 use borrow.Author.Needs.{needs}
 use Rattle.words.proofs.carried_over.Statement.{statement}

@@ -5,8 +5,7 @@ use Prim.Native.Nat.{ℕ, _-_, _≤_, min}
 use native.Mathlib.Omega.{arith}
 use native.Mathlib.Nat.{le-antisymm}
 use denote.Ref.{now}
-use Rattle.words.specs.Words.{inWords, wordOf}
-use Rattle.words.specs.Steps.{without, spare}
+use Rattle.words.specs.Words.{inWords, wordOf, without, spare}
 use Rattle.words.proofs.Words.{any-word-none, any-word-more}
 use borrow.Author.Needs.{needs}
 use Rattle.words.proofs.spared.Statement.{statement}

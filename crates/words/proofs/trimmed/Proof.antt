@@ -5,8 +5,7 @@ use Prim.Native.Nat.{_-_, _≤_, min}
 use native.Mathlib.Omega.{arith}
 use denote.Ref.{now}
 use Rattle.numbers.proofs.Tables.{filled, filled-none, filled-again, filled-end}
-use Rattle.words.specs.Words.{inWords, wordOf}
-use Rattle.words.specs.Steps.{spare, trimmed}
+use Rattle.words.specs.Words.{inWords, wordOf, spare, trimmed}
 use Rattle.words.proofs.Words.{word-is, wordOf-but}
 use borrow.Author.Needs.{needs}
 use Rattle.words.proofs.trimmed.Statement.{statement}

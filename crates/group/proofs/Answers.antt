@@ -57,8 +57,8 @@ module _ (judged : Verdict) (needed room : ℕ) where
 
   -- a refusal: that of the verdict, or that of the room
   pub data Unwritten (why : Refusal) : Type 0 where
-    pub refused : judged ≡ verdict.Refused why → Unwritten why
-    pub short : judged ≡ Accepted → room < needed → why ≡ at shortBuffer needed → Unwritten why
+    refused : judged ≡ verdict.Refused why → Unwritten why
+    short : judged ≡ Accepted → room < needed → why ≡ at shortBuffer needed → Unwritten why
 
   pub unwritten : (why : Refusal) → Refused why ≡ answered judged needed room → Unwritten why
   unwritten why e = cases judged refl

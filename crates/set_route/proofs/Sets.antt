@@ -12,25 +12,24 @@ use native.Mathlib.Omega.{arith}
 use lib.Count.{ones-le}
 use lib.Dec.{leb, eqb}
 use lib.IntN.{ℤ, pos, _-ℤ_}
-use lib.ListN.{length, getD, drop, List·getD-eq-default}
+use lib.ListN.{length, getD, drop}
 use lib.Pow.{pow-mono}
 use borrow.Author.Tests.{ne-eqb, le-leb, lt-leb}
 use Rattle.numbers.specs.Counts.{factorial}
 use Rattle.numbers.specs.Tables.{tabulate}
-use Rattle.numbers.proofs.Tables.{tabulate-at, tabulate-length}
+use Rattle.numbers.proofs.Tables.{tabulate-at, tabulate-length, tabulate-same}
 use Rattle.algebra.proofs.Sums.{sumBelow-same}
 use Rattle.sets.specs.Masks.{size}
 use Rattle.sets.specs.Tables.{inTable}
 use Rattle.sets.proofs.Ranges.{below-or-above}
 use Rattle.orders.specs.Formulas.{added, taken}
 use Rattle.words.specs.Words.{inWords, wordsOf}
-use Rattle.words.proofs.Words.{inWords-wordsOf}
 use Rattle.figures.proofs.Ranges.{factorials-few}
 use Rattle.shares.specs.Shares.{inside, shareOf, sharesBySets}
-use Rattle.numbers.proofs.Tables.{tabulate-same}
 use Rattle.shares.proofs.Types.{inside-most, inside-and-outside, outside-most}
-use Rattle.set_route.proofs.Gathering.{gathered-list-few}
-use Rattle.set_route.specs.Steps.{gathered, weight, Light, addedBy, takenBy}
+use Rattle.group.specs.Steps.{gathered}
+use Rattle.group.proofs.Gathering.{gathered-list-few, gathered-words}
+use Rattle.set_route.specs.Steps.{weight, addedBy, takenBy}
 
 -- ---- ranges
 
@@ -44,27 +43,18 @@ weight-few n (suc s) few = cases (below-or-above s n)
     cases (inl l) = rw (le-leb (suc s) n l) (factorials-few s (n - suc s) 15 (omega arith))
     cases (inr h) = let above : n < suc s = omega arith in rw (lt-leb (suc s) n above) zero-le
 
-pub weights-light : (n : ℕ) (weights : List ℕ) → n ≤ 16 → weights ≡ tabulate 18 (weight n) → Light weights
-weights-light n weights few is s = cases (below-or-above s 18)
-  where
-    cases : (s < 18) ⊎ (18 ≤ s) → getD weights s 0 ≤ 1307674368000
-    cases (inl l) = le-trans (le-of-eq (ap (λ (xs : List ℕ). getD xs s 0) is ∙ tabulate-at 18 (weight n) s 0 l)) (weight-few n s few)
-    cases (inr h) =
-        le-trans (le-of-eq (ap (λ (xs : List ℕ). getD xs s 0) is
-        ∙ List·getD-eq-default (tabulate 18 (weight n)) 0 (le-trans (le-of-eq (tabulate-length 18 (weight n))) h))) zero-le
-
-module _ (weights : List ℕ) (light : Light weights) (group a : ℕ) (within : group < 65536) (l : a < 65536) where
+module _ (n group a : ℕ) (few : n ≤ 16) (within : group < 65536) (l : a < 65536) where
   pub inside-few : inside group a ≤ 16
   inside-few = omega (arith, inside-most 16 group a within l, ones-le 16 group within)
 
-  pub addedBy-few : addedBy weights group a ≤ 20922789888000
+  pub addedBy-few : addedBy n group a ≤ 20922789888000
   unfolding addedBy
-  addedBy-few = mul-le-mul inside-few (light (size a))
+  addedBy-few = mul-le-mul inside-few (weight-few n (size a) few)
 
-  pub takenBy-few : takenBy weights group a ≤ 20922789888000
+  pub takenBy-few : takenBy n group a ≤ 20922789888000
   unfolding takenBy
   takenBy-few =
-      let lacks : size group - inside group a ≤ 16 = omega (arith, ones-le 16 group within) in mul-le-mul lacks (light (size a + 1))
+      let lacks : size group - inside group a ≤ 16 = omega (arith, ones-le 16 group within) in mul-le-mul lacks (weight-few n (size a + 1) few)
 
 -- ---- the two sums of a share
 
@@ -96,66 +86,53 @@ weight-size n zero some most = absurd (omega arith)
 weight-size n (suc s) some most =
     let same : suc s - 1 ≡ s = omega arith in rw same (weight-at n s most)
 
-module _ (n : ℕ) (few : n ≤ 16) (weights : List ℕ) (is : weights ≡ tabulate 18 (weight n)) (works : ℕ → Bool) (group : ℕ) (within : group < 2 ^ n) (k : ℕ) (l : k < size group) where
-  held : (s : ℕ) → s < n → getD weights (suc s) 0 ≡ factorial s * factorial (n - suc s)
-  held s h =
-      ap (λ (xs : List ℕ). getD xs (suc s) 0) is ∙ tabulate-at 18 (weight n) (suc s) 0 (omega arith) ∙ weight-at n s h
-
-  gathered-added : gathered works (inside group) (addedBy weights group) (2 ^ n) (size group - k) ≡ added n works group (suc k)
+module _ (n : ℕ) (works : ℕ → Bool) (group : ℕ) (within : group < 2 ^ n) (k : ℕ) (l : k < size group) where
+  gathered-added : gathered works (inside group) (addedBy n group) (2 ^ n) (size group - k) ≡ added n works group (suc k)
   unfolding gathered added addedBy
   gathered-added =
       let one : size group - suc k + 1 ≡ size group - k = omega arith in
       rw one (sumBelow-same _ _ (2 ^ n) (λ a h. where-same (works a) (inside group a) (size group - k) _ _ (λ e. weighed a h (size a) refl e)))
     where
       weighed : (a : ℕ) → a < 2 ^ n → (s : ℕ) → size a ≡ s → inside group a ≡ size group - k
-          → inside group a * getD weights s 0 ≡ (size group - k) * factorial (s - 1) * factorial (n - s)
+          → inside group a * weight n s ≡ (size group - k) * factorial (s - 1) * factorial (n - s)
       weighed a h zero is e = absurd (omega (arith, inside-and-outside n group a within h))
       weighed a h (suc s) is e =
           let low : s < n = omega (arith, ones-le n a h) in
           let same : suc s - 1 ≡ s = omega arith in
-          rw same (ap₂ (λ (x y : ℕ). x * y) e (held s low) ∙ sym (mul-assoc (size group - k) (factorial s) (factorial (n - suc s))))
+          rw same (ap₂ (λ (x y : ℕ). x * y) e (weight-at n s low) ∙ sym (mul-assoc (size group - k) (factorial s) (factorial (n - suc s))))
 
-  gathered-taken : gathered works (inside group) (takenBy weights group) (2 ^ n) (size group - (k + 1)) ≡ taken n works group (suc k)
+  gathered-taken : gathered works (inside group) (takenBy n group) (2 ^ n) (size group - (k + 1)) ≡ taken n works group (suc k)
   unfolding gathered taken takenBy
   gathered-taken =
       rw (add-one k) (sumBelow-same _ _ (2 ^ n) (λ a h. where-same (works a) (inside group a) (size group - suc k) _ _ (weighed a h)))
     where
       weighed : (a : ℕ) → a < 2 ^ n → inside group a ≡ size group - suc k
-          → (size group - inside group a) * getD weights (size a + 1) 0 ≡ suc k * factorial (size a) * factorial (n - size a - 1)
+          → (size group - inside group a) * weight n (size a + 1) ≡ suc k * factorial (size a) * factorial (n - size a - 1)
       weighed a h e =
           let low : size a < n = omega (arith, inside-and-outside n group a within h, outside-most n group a within h, ones-le n group within) in
           let lacks : size group - inside group a ≡ suc k = omega arith in
           let rest : n - size a - 1 ≡ n - suc (size a) = omega arith in
-          rw (lacks, rest) (ap (λ (x : ℕ). suc k * x) (ap (λ (i : ℕ). getD weights i 0) (add-one (size a)) ∙ held (size a) low)
+          rw (lacks, rest) (ap (λ (x : ℕ). suc k * x) (ap (weight n) (add-one (size a)) ∙ weight-at n (size a) low)
           ∙ sym (mul-assoc (suc k) (factorial (size a)) (factorial (n - suc (size a)))))
 
-  pub gathered-share : pos (gathered works (inside group) (addedBy weights group) (2 ^ n) (size group - k))
-      -ℤ pos (gathered works (inside group) (takenBy weights group) (2 ^ n) (size group - (k + 1))) ≡ shareOf n works group (suc k)
+  pub gathered-share : pos (gathered works (inside group) (addedBy n group) (2 ^ n) (size group - k))
+      -ℤ pos (gathered works (inside group) (takenBy n group) (2 ^ n) (size group - (k + 1))) ≡ shareOf n works group (suc k)
   unfolding shareOf
   gathered-share = ap₂ (λ (x y : ℕ). pos x -ℤ pos y) gathered-added gathered-taken
 
--- ---- the words of a table
+-- ---- the shares
 
-pub gathered-words : (n : ℕ) (table words : List ℕ) (class amount : ℕ → ℕ) → n ≤ 16 → words ≡ wordsOf (inTable table) → (i : ℕ)
-    → gathered (inWords words) class amount (2 ^ n) i ≡ gathered (inTable table) class amount (2 ^ n) i
-unfolding gathered
-gathered-words n table words class amount few loaded i =
-    sumBelow-same _ _ (2 ^ n) (λ a h.
-    ap (λ (b : Bool). cond (b && eqb (class a) i) (amount a) 0)
-    (ap (λ (ws : List ℕ). inWords ws a) loaded ∙ inWords-wordsOf (inTable table) a (lt-of-lt-of-le h (pow-mono few))))
-
-pub sets-shares : (n : ℕ) (table words weights : List ℕ) (group : ℕ) (adds takes : List ℕ) → n ≤ 16 → group < 2 ^ n → words ≡ wordsOf (inTable table)
-    → weights ≡ tabulate 18 (weight n)
-    → adds ≡ tabulate 17 (gathered (inWords words) (inside group) (addedBy weights group) (2 ^ n))
-    → takes ≡ tabulate 17 (gathered (inWords words) (inside group) (takenBy weights group) (2 ^ n))
+pub sets-shares : (n : ℕ) (table words : List ℕ) (group : ℕ) (adds takes : List ℕ) → n ≤ 16 → group < 2 ^ n → words ≡ wordsOf (inTable table)
+    → adds ≡ tabulate 17 (gathered (inWords words) (inside group) (addedBy n group) (2 ^ n))
+    → takes ≡ tabulate 17 (gathered (inWords words) (inside group) (takenBy n group) (2 ^ n))
     → tabulate (size group) (λ k. pos (getD adds (size group - k) 0) -ℤ pos (getD takes (size group - (k + 1)) 0)) ≡ sharesBySets n (inTable table) group
 unfolding sharesBySets
-sets-shares n table words weights group adds takes few within loaded weighed is-added is-taken =
+sets-shares n table words group adds takes few within loaded is-added is-taken =
     tabulate-same (size group) _ _ (λ k l.
     ap₂ (λ (x y : ℕ). pos x -ℤ pos y)
-    (gathers adds (addedBy weights group) is-added (size group - k) (omega (arith, ones-le n group within)))
-    (gathers takes (takenBy weights group) is-taken (size group - (k + 1)) (omega (arith, ones-le n group within)))
-    ∙ gathered-share n few weights weighed (inTable table) group within k l)
+    (gathers adds (addedBy n group) is-added (size group - k) (omega (arith, ones-le n group within)))
+    (gathers takes (takenBy n group) is-taken (size group - (k + 1)) (omega (arith, ones-le n group within)))
+    ∙ gathered-share n (inTable table) group within k l)
   where
     gathers : (cells : List ℕ) (amount : ℕ → ℕ) → cells ≡ tabulate 17 (gathered (inWords words) (inside group) amount (2 ^ n)) → (i : ℕ) → i < 17
         → getD cells i 0 ≡ gathered (inTable table) (inside group) amount (2 ^ n) i
@@ -164,37 +141,36 @@ sets-shares n table words weights group adds takes few within loaded weighed is-
         ∙ gathered-words n table words (inside group) amount few loaded i
 
 -- what the shares are written as
-pub sets-written : (n : ℕ) (table words weights : List ℕ) (group : ℕ) (adds takes : List ℕ) → n ≤ 16 → group < 2 ^ n → words ≡ wordsOf (inTable table)
-    → weights ≡ tabulate 18 (weight n)
-    → adds ≡ tabulate 17 (gathered (inWords words) (inside group) (addedBy weights group) (2 ^ n))
-    → takes ≡ tabulate 17 (gathered (inWords words) (inside group) (takenBy weights group) (2 ^ n))
+pub sets-written : (n : ℕ) (table words : List ℕ) (group : ℕ) (adds takes : List ℕ) → n ≤ 16 → group < 2 ^ n → words ≡ wordsOf (inTable table)
+    → adds ≡ tabulate 17 (gathered (inWords words) (inside group) (addedBy n group) (2 ^ n))
+    → takes ≡ tabulate 17 (gathered (inWords words) (inside group) (takenBy n group) (2 ^ n))
     → (m : ℕ) → m ≡ size group → (shares after : List ℤ)
     → after ≡ tabulate m (λ k. pos (getD adds (m - k) 0) -ℤ pos (getD takes (m - (k + 1)) 0)) ++ drop m shares
     → after ≡ sharesBySets n (inTable table) group ++ drop (size group) shares
-sets-written n table words weights group adds takes few within loaded weighed is-added is-taken m sized shares after e =
+sets-written n table words group adds takes few within loaded is-added is-taken m sized shares after e =
     e ∙ ap (λ (m : ℕ). tabulate m (λ k. pos (getD adds (m - k) 0) -ℤ pos (getD takes (m - (k + 1)) 0)) ++ drop m shares) sized
-    ∙ ap (λ (xs : List ℤ). xs ++ drop (size group) shares) (sets-shares n table words weights group adds takes few within loaded weighed is-added is-taken)
+    ∙ ap (λ (xs : List ℤ). xs ++ drop (size group) shares) (sets-shares n table words group adds takes few within loaded is-added is-taken)
 
 pub by-sets-length : (n : ℕ) (works : ℕ → Bool) (group : ℕ) → length (sharesBySets n works group) ≡ size group
 unfolding sharesBySets
 by-sets-length n works group = tabulate-length (size group) _
 
 -- the sums over all sets are below 2^62
-module _ (n : ℕ) (works : ℕ → Bool) (weights : List ℕ) (group : ℕ) (few : n ≤ 16) (within : group < 2 ^ n) (light : Light weights) where
-  pub added-small : (cells : List ℕ) → cells ≡ tabulate 17 (gathered works (inside group) (addedBy weights group) (2 ^ n)) → (i : ℕ) → getD cells i 0 < 2 ^ 62
+module _ (n : ℕ) (works : ℕ → Bool) (group : ℕ) (few : n ≤ 16) (within : group < 2 ^ n) where
+  pub added-small : (cells : List ℕ) → cells ≡ tabulate 17 (gathered works (inside group) (addedBy n group) (2 ^ n)) → (i : ℕ) → getD cells i 0 < 2 ^ 62
   added-small cells is i =
       omega (
         arith,
         pow-mono few,
-        gathered-list-few works (inside group) (addedBy weights group) 17 20922789888000 (2 ^ n) i cells is (λ a l.
-            addedBy-few weights light group a (lt-of-lt-of-le within (pow-mono few)) (lt-of-lt-of-le l (pow-mono few))),
+        gathered-list-few works (inside group) (addedBy n group) 17 20922789888000 (2 ^ n) i cells is (λ a l.
+            addedBy-few n group a few (lt-of-lt-of-le within (pow-mono few)) (lt-of-lt-of-le l (pow-mono few))),
       )
 
-  pub taken-small : (cells : List ℕ) → cells ≡ tabulate 17 (gathered works (inside group) (takenBy weights group) (2 ^ n)) → (i : ℕ) → getD cells i 0 < 2 ^ 62
+  pub taken-small : (cells : List ℕ) → cells ≡ tabulate 17 (gathered works (inside group) (takenBy n group) (2 ^ n)) → (i : ℕ) → getD cells i 0 < 2 ^ 62
   taken-small cells is i =
       omega (
         arith,
         pow-mono few,
-        gathered-list-few works (inside group) (takenBy weights group) 17 20922789888000 (2 ^ n) i cells is (λ a l.
-            takenBy-few weights light group a (lt-of-lt-of-le within (pow-mono few)) (lt-of-lt-of-le l (pow-mono few))),
+        gathered-list-few works (inside group) (takenBy n group) 17 20922789888000 (2 ^ n) i cells is (λ a l.
+            takenBy-few n group a few (lt-of-lt-of-le within (pow-mono few)) (lt-of-lt-of-le l (pow-mono few))),
       )

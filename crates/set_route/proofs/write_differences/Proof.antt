@@ -1,8 +1,8 @@
 -- `set_route::write_differences` meets its contract: the shares are filled from the front, and the rest is as it was.
 -- Assumes nothing.
-use mathlib.Core.Path.{_≡_, ap, ap₂, _∙_, subst, sym}
+use mathlib.Core.Path.{_≡_, ap, ap₂, _∙_}
 use mathlib.Core.List.{List}
-use Prim.Native.Nat.{ℕ, _+_, _-_, _^_, _≤_, _<_}
+use Prim.Native.Nat.{ℕ, _+_, _-_, _≤_, _<_}
 use native.Mathlib.Nat.{le-antisymm, le-trans, lt-of-lt-of-le}
 use native.Mathlib.Omega.{arith}
 use denote.Ref.{now}
@@ -11,6 +11,8 @@ use lib.ListN.{length, getD}
 use mir.Facts.{toZ-ofZ}
 use mir.Syntax.{w64}
 use borrow.Author.Needs.{needs}
+use Rattle.integers.specs.Differences.{difference}
+use Rattle.integers.proofs.Differences.{difference-small}
 use Rattle.numbers.proofs.Tables.{filled, filled-none, filled-again, filled-length}
 use Rattle.set_route.proofs.write_differences.Statement.{statement}
 use Rattle.set_route.proofs.write_differences.Tie as tie
@@ -46,11 +48,17 @@ cell-requires-2 : tie.Need-cell-requires-2 Inv-loop μ-loop
 cell-requires-2 c κs = search needs
 
 difference-requires : tie.Need-difference-requires Inv-loop μ-loop
-difference-requires c κs =
-    let start = c .before .before .before .before .before .before in (
-      subst (λ (x : ℕ). x < 2 ^ 62) (sym (c .before .cell .ensures)) (start .pre .1 .0 _),
-      subst (λ (x : ℕ). x < 2 ^ 62) (sym (c .cell2 .ensures)) (start .pre .1 .1 _),
-    )
+difference-requires c κs = search needs
+
+-- the share as the call gives it
+given : (c : tie.After-difference Inv-loop μ-loop)
+    → c .difference .result
+    ≡ share (c .before .before .before .before .before .before .before .args .m) (now (c .before .before .before .before .before .before .before .args .added))
+    (now (c .before .before .before .before .before .before .before .args .taken)) (c .before .before .before .before .loop .k)
+given c =
+    let start = c .before .before .before .before .before .before .before in
+    c .difference .ensures ∙ ap₂ difference (c .before .before .cell .ensures) (c .before .cell2 .ensures)
+    ∙ difference-small _ _ (start .pre .1 .0 _) (start .pre .1 .1 _)
 
 -- there is room for all shares
 long : (c : tie.At-loop Inv-loop μ-loop) → length (c .loop .shares) ≡ length (now (c .before .before .before .args .shares))
@@ -82,8 +90,7 @@ loop-again c =
     let a = head .before .before .before .args in (
       omega arith,
       filled-again (share (a .m) (now (a .added)) (now (a .taken))) (now (a .shares)) (head .loop .k) _ (head .loop .shares) (head .loop .inv .1) (more turn)
-          (toZ-ofZ {w = w64} (record { sfits = c .difference .ok }) ∙ c .difference .ensures
-          ∙ ap₂ (λ (x y : ℕ). pos x -ℤ pos y) (c .before .before .cell .ensures) (c .before .cell2 .ensures)),
+          (toZ-ofZ {w = w64} (record { sfits = c .difference .ok }) ∙ given c),
     )
 
 same-length : tie.Need-same-length Inv-loop μ-loop

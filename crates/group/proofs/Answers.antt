@@ -43,9 +43,12 @@ module _ (judged : Verdict) (needed room : ℕ) where
     pub counted : count ≡ needed
     pub fits : needed ≤ room
 
-  pub roomy : (count : ℕ) → Length count ≡ answered judged needed room → Roomy count
-  roomy count e = cases judged refl
+  pub roomy : {answer : Written} (count : ℕ) → answer ≡ Length count → answer ≡ answered judged needed room → Roomy count
+  roomy count gives is-answered = cases judged refl
     where
+      e : Length count ≡ answered judged needed room
+      e = sym gives ∙ is-answered
+
       whole : judged ≡ Accepted → (t : Bool) → leb needed room ≡ t → Length count ≡ cond t (Length needed) (Refused (at shortBuffer needed)) → Roomy count
       whole is true test said = record { accepted = is; counted = cc; fits = leb-true needed room test }
       whole is false test said = absurd (let wrong : _≡_ {A = ℕ} 0 1 = cc in omega arith)
@@ -60,9 +63,12 @@ module _ (judged : Verdict) (needed room : ℕ) where
     refused : judged ≡ verdict.Refused why → Unwritten why
     short : judged ≡ Accepted → room < needed → why ≡ at shortBuffer needed → Unwritten why
 
-  pub unwritten : (why : Refusal) → Refused why ≡ answered judged needed room → Unwritten why
-  unwritten why e = cases judged refl
+  pub unwritten : {answer : Written} (why : Refusal) → answer ≡ Refused why → answer ≡ answered judged needed room → Unwritten why
+  unwritten why gives is-answered = cases judged refl
     where
+      e : Refused why ≡ answered judged needed room
+      e = sym gives ∙ is-answered
+
       whole : judged ≡ Accepted → (t : Bool) → leb needed room ≡ t → Refused why ≡ cond t (Length needed) (Refused (at shortBuffer needed)) → Unwritten why
       whole is true test said = absurd (let wrong : _≡_ {A = ℕ} 0 1 = cc in omega arith)
       whole is false test said = short is (leb-false needed room test) cc
@@ -74,8 +80,9 @@ module _ (judged : Verdict) (needed room : ℕ) where
 -- ---- one buffer
 
 module _ {A : Type 0} (judged : Verdict) (result buffer : List A) (needed : ℕ) (long : judged ≡ Accepted → needed ≡ length result) where
-  pub unwritten-delivered : (why : Refusal) → Refused why ≡ answered judged needed (length buffer) → outcome (Refused why) buffer ≡ delivered judged result buffer
-  unwritten-delivered why e = cases (unwritten judged needed (length buffer) why e)
+  pub unwritten-delivered : {answer : Written} (why : Refusal) → answer ≡ Refused why → answer ≡ answered judged needed (length buffer)
+      → outcome (Refused why) buffer ≡ delivered judged result buffer
+  unwritten-delivered why gives is-answered = cases (unwritten judged needed (length buffer) why gives is-answered)
     where
       cases : Unwritten judged needed (length buffer) why → outcome (Refused why) buffer ≡ delivered judged result buffer
       cases (refused is) = ap (λ (v : Verdict). delivered v result buffer) (sym is)

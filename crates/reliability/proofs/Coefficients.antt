@@ -3,38 +3,37 @@
 use mathlib.Core.Path.{_≡_, refl, sym, ap, ap₂, _∙_}
 use mathlib.Core.Bool.{Bool, cond, _&&_}
 use mathlib.Core.List.{List, _++_}
-use Prim.Native.Nat.{ℕ, zero, suc, zero-le, _+_, _-_, _*_, _/_, _%_, _^_, _≤_, _<_}
-use native.Mathlib.Nat.{le-trans, le-of-eq, mul-le-mul, two-pow-succ}
+use Prim.Native.Nat.{ℕ, zero, suc, _+_, _-_, _*_, _/_, _%_, _^_, _≤_, _<_}
+use native.Mathlib.Nat.{le-trans, le-of-eq, mul-le-mul}
 use native.Mathlib.Numerals.{add-one}
 use native.Mathlib.Omega.{arith}
 use lib.Count.{ones-le}
 use lib.Dec.{eqb}
 use lib.IntN.{ℤ, pos, negsuc, negℤ, _-ℤ_, _*ℤ_, pow, one, +ℤ-idl, pos-*ℤ-pos}
 use lib.ListN.{length, getD, drop}
-use lib.Pow.{pow-mono, pow-pos}
+use lib.Pow.{pow-mono}
 use borrow.Author.Tests.{eqb-true, eq-eqb}
 use Rattle.numbers.specs.Counts.{choose}
 use Rattle.numbers.specs.Tables.{tabulate}
-use Rattle.numbers.proofs.Tables.{tabulate-at, tabulate-length}
+use Rattle.numbers.proofs.Tables.{tabulate-at, tabulate-length, tabulate-same}
 use Rattle.algebra.specs.Sums.{sumBelowℤ}
 use Rattle.algebra.proofs.Sums.{sumBelow-same}
-use Rattle.algebra.proofs.Integers.{*ℤ-unit, *ℤ-negℤ, negℤ-*ℤ, unit-*ℤ, *ℤ-assoc, ring}
+use Rattle.algebra.proofs.Integers.{*ℤ-unit, negℤ-*ℤ, unit-*ℤ, *ℤ-assoc, ring}
 use Rattle.algebra.proofs.IntegerSums.{sumBelowℤ-same, sumBelowℤ-mul}
 use Rattle.sets.specs.Masks.{size}
 use Rattle.sets.specs.Tables.{inTable}
 use Rattle.sets.proofs.Bools.{same-test, and-left, and-right}
 use Rattle.words.specs.Words.{inWords, wordsOf}
 use Rattle.figures.specs.Figures.{sign, domination}
-use Rattle.signature.specs.Steps.{Few}
+use Rattle.figures.proofs.Signs.{sign-even, sign-odd}
 use Rattle.shares.specs.Shares.{inside, outside, rowLength, reliability, reliabilityCells}
-use Rattle.shares.specs.Steps.{typeCount}
-use Rattle.numbers.proofs.Tables.{tabulate-same}
-use Rattle.shares.proofs.Types.{inside-most, outside-most}
+use Rattle.shares.proofs.Types.{typeCount, inside-most, outside-most}
+use Rattle.shares.proofs.Bounds.{choose-few as choose-within}
 use Rattle.shares.proofs.Reliability.{reliability-by-type}
-use Rattle.reliability.specs.Steps.{gathered, typeOf, typeTerm, coefficientOf}
-use Rattle.reliability.proofs.Gathering.{gathered-list-few}
+use Rattle.group.specs.Steps.{gathered}
+use Rattle.group.proofs.Gathering.{gathered-list-few, gathered-words}
+use Rattle.reliability.specs.Steps.{Few, typeOf, typeTerm, coefficientOf}
 use Rattle.reliability.proofs.Sums.{row-below, place-below, grid-sum}
-use Rattle.reliability.proofs.Sets.{gathered-words}
 
 -- ---- counts by type
 
@@ -117,14 +116,8 @@ cells-length n works group = tabulate-length ((size group + 1) * rowLength n (si
 
 -- ---- the terms of a coefficient
 
-choose-most : (n k : ℕ) → choose n k ≤ 2 ^ n
-unfolding choose
-choose-most n zero = pow-pos n
-choose-most zero (suc k) = zero-le
-choose-most (suc n) (suc k) = omega (arith, choose-most n k, choose-most n (suc k), two-pow-succ n)
-
 pub choose-few : (n k : ℕ) → n ≤ 16 → choose n k ≤ 65536
-choose-few n k few = le-trans (choose-most n k) (pow-mono few)
+choose-few n k few = le-trans (choose-within n k) (pow-mono few)
 
 pub typeTerm-few : (n m : ℕ) (counts : List ℕ) (i j b a : ℕ) → n ≤ 16 → m ≤ n → Few counts → typeTerm n m counts i j b a ≤ 2 ^ 48
 unfolding typeTerm
@@ -133,26 +126,11 @@ typeTerm-few n m counts i j b a most within few =
 
 -- ---- signs
 
-minus : (y : ℤ) → y *ℤ negsuc 0 ≡ negℤ y
-minus y = *ℤ-negℤ y (pos 1) ∙ ap negℤ (*ℤ-unit y)
-
 sign-add : (x y : ℕ) → sign x *ℤ sign y ≡ sign (x + y)
 unfolding pow one
 sign-add x zero = *ℤ-unit (sign x) ∙ ap sign (let none : x ≡ x + 0 = omega arith in none)
 sign-add x (suc y) =
     sym (*ℤ-assoc (sign x) (sign y) (negsuc 0)) ∙ ap (λ (u : ℤ). u *ℤ negsuc 0) (sign-add x y) ∙ ap sign (let more : suc (x + y) ≡ x + suc y = omega arith in more)
-
-sign-even : (x : ℕ) → x % 2 ≡ 0 → sign x ≡ pos 1
-unfolding pow one
-sign-even zero h = refl
-sign-even (suc zero) h = absurd (omega arith)
-sign-even (suc (suc x)) h = minus (sign x *ℤ negsuc 0) ∙ ap negℤ (minus (sign x)) ∙ simp ring (sign-even x (omega arith))
-
-sign-odd : (x : ℕ) → x % 2 ≡ 1 → sign x ≡ negsuc 0
-unfolding pow one
-sign-odd zero h = absurd (omega arith)
-sign-odd (suc zero) h = refl
-sign-odd (suc (suc x)) h = minus (sign x *ℤ negsuc 0) ∙ ap negℤ (minus (sign x)) ∙ simp ring (sign-odd x (omega arith))
 
 -- a coefficient as one sum over the types, row by row
 pub signedTerm : ℕ → ℕ → List ℕ → ℕ → ℕ → ℕ → ℕ → ℤ

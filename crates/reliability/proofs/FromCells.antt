@@ -20,9 +20,9 @@ use Rattle.sets.proofs.Bools.{not-not}
 use Rattle.sets.proofs.Ranges.{any-none}
 use Rattle.shares.specs.Polynomials.{shareFrom}
 use Rattle.shares.specs.Shares.{rowLength, inCells}
-use Rattle.shares.specs.Steps.{common, powerWeight, powerTerm, powerSum, regrouped, Bounded}
+use Rattle.shares.specs.Steps.{common, powerWeight, Bounded}
 use Rattle.shares.proofs.Magnitudes.{natAbs-product}
-use Rattle.shares.proofs.Regrouped.{powerWeight-whole, share-regrouped}
+use Rattle.shares.proofs.Regrouped.{powerTerm, powerSum, regrouped, powerWeight-whole, share-regrouped}
 use Rattle.shares.proofs.Terms.{terms-most, limit-few}
 use Rattle.reliability.specs.Steps.{above, below, cellWeight}
 use Rattle.reliability.proofs.Sums.{grid-sum, grid-sumℕ}

@@ -1,14 +1,14 @@
 -- A sum of integers, carried as what is added and what is taken, and a sum over a grid as one sum over its cells. Assumes nothing.
 use mathlib.Core.Path.{_≡_, refl, sym, ap, ap₂, _∙_}
 use Prim.Native.Nat.{ℕ, zero, suc, _+_, _*_, _/_, _%_, _<_}
-use native.Mathlib.Nat.{mod-lt, div-lt-iff-lt-mul, add-zero, add-suc, zero-mul}
+use native.Mathlib.Nat.{mod-lt, div-lt-iff-lt-mul, zero-mul}
 use native.Mathlib.Numerals.{add-one}
 use native.Mathlib.Omega.{arith}
-use lib.IntN.{ℤ, pos, _+ℤ_, _-ℤ_, +ℤ-assoc, +ℤ-idr, pos-+ℤ-pos}
+use lib.IntN.{ℤ, pos, _+ℤ_, _-ℤ_, pos-+ℤ-pos}
 use Rattle.algebra.specs.Sums.{sumBelow, sumBelowℤ}
 use Rattle.algebra.proofs.Sums.{sumBelow-same, sumBelow-append}
 use Rattle.algebra.proofs.Integers.{ring}
-use Rattle.algebra.proofs.IntegerSums.{sumBelowℤ-same}
+use Rattle.algebra.proofs.IntegerSums.{sumBelowℤ-same, sumBelowℤ-append}
 use Rattle.shares.proofs.Cells.{cell-row, cell-place}
 
 -- ---- what is carried
@@ -36,12 +36,6 @@ row-below t rows length some h = div-lt-iff-lt-mul some .1 h
 
 pub place-below : (t length : ℕ) → 0 < length → t % length < length
 place-below t length some = mod-lt t some
-
-sumBelowℤ-append : (f : ℕ → ℤ) (k l : ℕ) → sumBelowℤ f (k + l) ≡ sumBelowℤ f k +ℤ sumBelowℤ (λ i. f (k + i)) l
-unfolding sumBelowℤ
-sumBelowℤ-append f k zero = ap (sumBelowℤ f) (add-zero k) ∙ sym (+ℤ-idr (sumBelowℤ f k))
-sumBelowℤ-append f k (suc l) =
-    ap (sumBelowℤ f) (add-suc k l) ∙ ap (λ (u : ℤ). u +ℤ f (k + l)) (sumBelowℤ-append f k l) ∙ +ℤ-assoc (sumBelowℤ f k) (sumBelowℤ (λ i. f (k + i)) l) (f (k + l))
 
 -- row by row
 pub grid-sum : (f : ℕ → ℕ → ℤ) (rows length : ℕ) → 0 < length

@@ -8,7 +8,7 @@ use native.Mathlib.Nat.{le-trans, le-of-eq, mul-le-mul-right}
 use native.Mathlib.Omega.{arith}
 use lib.IntN.{ℤ, pos, natAbs}
 use lib.ListN.{length, getD, drop, List·getD-append}
-use Rattle.numbers.proofs.Tables.{tabulate-length}
+use Rattle.numbers.proofs.Tables.{tabulate-length, tabulate-same}
 use Rattle.sets.specs.Masks.{size}
 use Rattle.sets.specs.Structures.{Semicoherent}
 use Rattle.orders.specs.Counting.{count}
@@ -16,7 +16,6 @@ use Rattle.shares.specs.Shares.{rowLength, reliabilityCells, inCells, sharesFro
 use Rattle.shares.specs.Steps.{Bounded}
 use Rattle.shares.proofs.Bounds.{cells-bounded}
 use Rattle.shares.proofs.Cells.{shareFrom-same}
-use Rattle.numbers.proofs.Tables.{tabulate-same}
 use Rattle.shares.proofs.Claim.{cells-share}
 use Rattle.shares.proofs.Ranges.{count-most}
 use Rattle.reliability.specs.Steps.{InRange, shareOfCells}

@@ -1,44 +1,21 @@
 -- What the private functions do: a reader of the promises may pass this file over.
-use mathlib.Core.Bool.{Bool, cond, _&&_}
 use mathlib.Core.List.{List}
 use mathlib.Core.Path.{_≡_}
-use Prim.Native.Nat.{ℕ, zero, suc, _+_, _-_, _*_, _≤_}
-use lib.Dec.{leb, eqb}
+use Prim.Native.Nat.{ℕ, suc, _+_, _-_, _*_, _≤_}
 use lib.IntN.{ℤ, pos, negsuc, natAbs, _*ℤ_}
 use lib.ListN.{getD}
 use Rattle.numbers.specs.Counts.{factorial, choose}
-use Rattle.algebra.specs.Sums.{sumBelow, sumBelowℤ}
-use Rattle.sets.specs.Masks.{size}
+use Rattle.algebra.specs.Sums.{sumBelowℤ}
 use Rattle.figures.specs.Figures.{sign, domination}
 use Rattle.shares.specs.Shares.{inside, outside, inCells}
 use Rattle.shares.specs.Polynomials.{shareFrom}
 use Rattle.shares.specs.Steps.{powerWeight}
 
--- ---- path sets by class
-
--- the sum of an amount over the path sets below t whose class is i
-unfoldable pub gathered : (ℕ → Bool) → (ℕ → ℕ) → (ℕ → ℕ) → ℕ → ℕ → ℕ
-gathered works class amount t i = sumBelow (λ a. cond (works a && eqb (class a) i) (amount a) 0) t
-
--- ---- set by set
-
--- (s-1)! × (n-s)!, for the sizes s from 1 to n
-unfoldable pub weight : ℕ → ℕ → ℕ
-weight n zero = 0
-weight n (suc s) = cond (leb (suc s) n) (factorial s * factorial (n - suc s)) 0
-
--- no weight is over 15!
-abbrev pub Light : List ℕ → Type 0
-Light weights = (s : ℕ) → getD weights s 0 ≤ 1307674368000
-
--- what a path set with i parts in the group adds to the share for k = m - i + 1, and what it takes from the share for k = m - i
-unfoldable pub addedBy : List ℕ → ℕ → ℕ → ℕ
-addedBy weights group a = inside group a * getD weights (size a) 0
-
-unfoldable pub takenBy : List ℕ → ℕ → ℕ → ℕ
-takenBy weights group a = (size group - inside group a) * getD weights (size a + 1) 0
-
 -- ---- h from counts by type
+
+-- no count is over 65,536
+abbrev pub Few : List ℕ → Type 0
+Few counts = (s : ℕ) → getD counts s 0 ≤ 65536
 
 -- a set's type as one number: its parts in the group and outside it, of which there are at most 16
 abbrev pub typeOf : ℕ → ℕ → ℕ

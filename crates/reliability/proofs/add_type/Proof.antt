@@ -6,14 +6,12 @@ use Prim.Native.Nat.{ℕ, _+_, _-_, _*_, _≤_, _<_}
 use native.Mathlib.Nat.{le-of-eq}
 use native.Mathlib.Omega.{arith}
 use denote.Ref.{now}
-use lib.ListN.{length}
 use borrow.Author.Needs.{needs}
-use Rattle.numbers.proofs.Tables.{tabulate-length}
 use Rattle.sets.proofs.Bools.{not-not}
 use Rattle.words.specs.Words.{inWords}
 use Rattle.shares.proofs.Types.{inside-and-outside}
-use Rattle.reliability.specs.Steps.{gathered, typeOf}
-use Rattle.reliability.proofs.Gathering.{gathered-skip, gathered-add, gathered-list-few}
+use Rattle.group.proofs.Gathering.{gathered-skip, gathered-add}
+use Rattle.reliability.specs.Steps.{typeOf}
 use Rattle.reliability.proofs.Coefficients.{type-few}
 use Rattle.reliability.proofs.add_type.Statement.{statement}
 use Rattle.reliability.proofs.add_type.Tie as tie
@@ -61,14 +59,7 @@ add-add : tie.Need-add-add
 add-add c = omega (arith, low (c .before))
 
 add-requires : tie.Need-add-requires
-add-requires c κs =
-    let start = c .before .before .before .before .before .before .before in
-    let a = start .args in
-    let works = inWords (now (a .words)) in
-    let long : length (now (a .counts)) ≡ 289 = ap length (start .pre .1 .1) ∙ tabulate-length 289 (gathered works (typeOf (a .group)) (λ b. 1) (a .a)) in
-    let bound = gathered-list-few works (typeOf (a .group)) (λ b. 1) 289 1 (a .a)
-    (c .before .before .size .result * 17 + (c .before .size2 .result - c .before .before .size .result)) (now (a .counts)) (start .pre .1 .1) (λ b l. le-of-eq refl) in
-    (omega (arith, low (c .before)), omega (arith, start .pre .1 .0))
+add-requires c κs = search needs
 
 same-length : tie.Need-same-length
 same-length c = search needs
@@ -80,7 +71,8 @@ returns-2 c =
     let told = sized .before .before in
     let start = told .before .before .before .before in
     let a = start .args in
-    gathered-add (inWords (now (a .words))) (typeOf (a .group)) (λ b. 1) 289 (a .a) (now (a .counts)) _ _ 1 (start .pre .1 .1)
+    gathered-add (inWords (now (a .words))) (typeOf (a .group)) (λ b. 1) 289 (a .a) 1 (λ b h. le-of-eq refl) (omega (arith, start .pre .1 .0)) (now (a .counts)) _ _ 1
+    (start .pre .1 .1)
     (sym (told .before .works .ensures) ∙ sym (not-not (told .before .works .result)) ∙ ap not (told .if1 .left))
     (type-few (a .group) (a .a) (start .pre .0) (start .pre .1 .0)) (type-is sized) refl (added .add .ensures)
 

@@ -10,6 +10,8 @@ use denote.Ref.{now}
 use lib.IntN.{pos, _-ℤ_}
 use mir.Facts.{toZ-ofZ}
 use mir.Syntax.{w64}
+use borrow.Author.Needs.{needs}
+use Rattle.integers.proofs.Differences.{difference-small}
 use Rattle.algebra.specs.Sums.{sumBelowℤ}
 use Rattle.reliability.proofs.Sums.{carried-none, carried-more, row-below, place-below}
 use Rattle.reliability.proofs.Coefficients.{typeTerm-few, signedTerm, coefficient-terms, term-added, term-taken}
@@ -177,16 +179,16 @@ loop-again c =
     (c .if1 .came)
 
 difference-requires : tie.Need-difference-requires Inv-loop μ-loop
-difference-requires c κs =
-    let head = c .before in
-    (omega (arith, short head, head .loop .inv .few-added), omega (arith, short head, head .loop .inv .few-taken))
+difference-requires c κs = search needs
 
 returns : tie.Need-returns Inv-loop μ-loop
 returns c =
     let head = c .before .before in
     let a = head .before .before .args in
     let done : head .loop .t ≡ (a .j + 1) * (a .i + 1) = le-antisymm (head .loop .inv .within) (c .before .loop-test .left) ∙ head .loop .inv .ends in
-    toZ-ofZ {w = w64} (record { sfits = c .difference .ok }) ∙ c .difference .ensures ∙ head .loop .inv .terms
+    toZ-ofZ {w = w64} (record { sfits = c .difference .ok }) ∙ c .difference .ensures
+    ∙ difference-small (head .loop .added) (head .loop .taken) (omega (arith, short head, head .loop .inv .few-added)) (omega (arith, short head, head .loop .inv .few-taken))
+    ∙ head .loop .inv .terms
     ∙ ap (sumBelowℤ (λ t. signedTerm (a .n) (a .m) (now (a .counts)) (a .i) (a .j) (t / (a .i + 1)) (t % (a .i + 1)))) done
     ∙ sym (coefficient-terms (a .n) (a .m) (now (a .counts)) (a .i) (a .j))
 

@@ -10,9 +10,11 @@ use lib.Pow.{pow-mono}
 use borrow.Author.Needs.{needs}
 use Rattle.algebra.specs.Sums.{sumBelow}
 use Rattle.numbers.specs.Tables.{tabulate}
+use Rattle.numbers.proofs.Counts.{upTo16-given}
 use Rattle.numbers.proofs.Tables.{tabulate-length}
 use Rattle.words.specs.Words.{inWords}
-use Rattle.reliability.specs.Steps.{gathered, typeOf}
+use Rattle.group.specs.Steps.{gathered}
+use Rattle.reliability.specs.Steps.{typeOf}
 use Rattle.reliability.proofs.count_types.Statement.{statement}
 use Rattle.reliability.proofs.count_types.Tie as tie
 
@@ -28,7 +30,9 @@ power-requires c κs = search needs
 
 loop-holds : tie.Need-loop-holds Inv-loop μ-loop
 unfolding tabulate gathered sumBelow
-loop-holds c = (c .power .ensures, (omega arith, refl))
+loop-holds c =
+    let start = c .before .before in
+    (c .power .ensures ∙ upTo16-given (start .args .n) (2 ^ (start .args .n)) (start .pre .0), (omega arith, refl))
 
 long : (c : tie.At-loop Inv-loop μ-loop) → length (c .loop .counts) ≡ 289
 long c = ap length (c .loop .inv .1 .1) ∙ tabulate-length 289 _

@@ -15,6 +15,7 @@ use mir.Syntax.{w64}
 use borrow.Author.Needs.{needs}
 use Rattle.numbers.specs.Counts.{factorial}
 use Rattle.numbers.proofs.Counts.{upTo16-given}
+use Rattle.integers.proofs.Differences.{difference-small}
 use Rattle.algebra.specs.Sums.{sumBelow, sumBelowℤ}
 use Rattle.shares.specs.Shares.{rowLength, inCells}
 use Rattle.shares.specs.Steps.{common}
@@ -259,12 +260,12 @@ mul-difference : tie.Need-mul-difference Inv-loop μ-loop
 mul-difference c = omega (arith, few c)
 
 difference-requires : tie.Need-difference-requires Inv-loop μ-loop
-difference-requires c κs = (omega (arith, few c), omega arith)
+difference-requires c κs = search needs
 
 returns : tie.Need-returns Inv-loop μ-loop
 returns c =
     let start = c .before .before .before .before .before in
-    toZ-ofZ {w = w64} (record { sfits = c .difference .ok }) ∙ c .difference .ensures ∙ ap pos (add-zero _) ∙ ap pos (number (c .before))
+    toZ-ofZ {w = w64} (record { sfits = c .difference .ok }) ∙ c .difference .ensures ∙ difference-small _ 0 (omega (arith, few (c .before))) (omega arith) ∙ ap pos (add-zero _) ∙ ap pos (number (c .before))
     ∙ sym (start .pre .1 .1 .1 .1 .1 .0)
 
 pub share-from-cells-spec : {M : Type 1} → statement M

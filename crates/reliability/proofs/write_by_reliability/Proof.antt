@@ -14,26 +14,26 @@ use Rattle.reliability.proofs.ThroughH.{coefficients-bounded, shares-in
 use Rattle.reliability.proofs.write_by_reliability.Statement.{statement}
 use Rattle.reliability.proofs.write_by_reliability.Tie as tie
 
+size-requires : tie.Need-size-requires
+size-requires c κs = search needs
+
 slice-aggregate-write-reliability : tie.Need-slice-aggregate-write-reliability
 slice-aggregate-write-reliability c = search needs
 
 write-reliability-requires : tie.Need-write-reliability-requires
 write-reliability-requires c κs =
-    let start = c .before .before in
+    let start = c .before .before .before in
     let a = start .args in
     (start .pre .0, (start .pre .1 .0, cells-few (a .n) (size (a .group)) (start .pre .0) (ones-le (a .n) (a .group) (start .pre .1 .0))))
-
-size-requires : tie.Need-size-requires
-size-requires c κs = search needs
 
 slice-aggregate-write-from-cells : tie.Need-slice-aggregate-write-from-cells
 slice-aggregate-write-from-cells c = search needs
 
 write-from-cells-requires : tie.Need-write-from-cells-requires
 write-from-cells-requires c κs =
-    let sized = c .before .before in
-    let written = sized .before .before in
-    let start = written .before .before .before in
+    let written = c .before .before .before in
+    let sized = written .before .before in
+    let start = sized .before .before in
     let a = start .args in
     let works = inTable (now (a .table)) in (
       start .pre .0,
@@ -56,9 +56,9 @@ same-length c = search needs
 returns : tie.Need-returns
 returns c =
     let called = c .before in
-    let sized = called .before .before .before in
-    let written = sized .before .before in
-    let start = written .before .before .before in
+    let written = called .before .before .before .before in
+    let sized = written .before .before in
+    let start = sized .before .before in
     let a = start .args in
     reliability-written (a .n) (inTable (now (a .table))) (a .group) (start .pre .1 .0) _ _ (written .write-reliability .ensures) (sized .size .result)
     (sized .size .ensures) (now (a .shares)) _ (called .write-from-cells .ensures)
@@ -67,9 +67,9 @@ pub write-by-reliability-spec : {M : Type 1} → statement M
 write-by-reliability-spec =
     tie.close
     (tie.spec
+    size-requires
     slice-aggregate-write-reliability
     write-reliability-requires
-    size-requires
     slice-aggregate-write-from-cells
     write-from-cells-requires
     same-length

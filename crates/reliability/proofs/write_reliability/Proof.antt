@@ -12,6 +12,9 @@ use Rattle.reliability.proofs.Coefficients.{counts-few, coefficients-wr
 use Rattle.reliability.proofs.write_reliability.Statement.{statement}
 use Rattle.reliability.proofs.write_reliability.Tie as tie
 
+size-requires : tie.Need-size-requires
+size-requires c κs = search needs
+
 load-requires : tie.Need-load-requires
 load-requires c κs = search needs
 
@@ -21,18 +24,15 @@ slice-aggregate-count-types c = search needs
 count-types-requires : tie.Need-count-types-requires
 count-types-requires c κs = search needs
 
-size-requires : tie.Need-size-requires
-size-requires c κs = search needs
-
 slice-aggregate-write-coefficients : tie.Need-slice-aggregate-write-coefficients
 slice-aggregate-write-coefficients c = search needs
 
 write-coefficients-requires : tie.Need-write-coefficients-requires
 write-coefficients-requires c κs =
-    let sized = c .before .before in
-    let counted = sized .before in
+    let counted = c .before .before in
     let loaded = counted .before .before in
-    let start = loaded .before .before in
+    let sized = loaded .before in
+    let start = sized .before .before in
     let a = start .args in (
       start .pre .0,
       (
@@ -51,10 +51,10 @@ same-length c = search needs
 returns : tie.Need-returns
 returns c =
     let written = c .before in
-    let sized = written .before .before .before in
-    let counted = sized .before in
+    let counted = written .before .before .before in
     let loaded = counted .before .before in
-    let start = loaded .before .before in
+    let sized = loaded .before in
+    let start = sized .before .before in
     let a = start .args in
     coefficients-written (a .n) (now (a .table)) (loaded .load .result) (a .group) (start .pre .0) (start .pre .1 .0) (loaded .load .ensures)
     (counted .count-types .result) (counted .count-types .ensures) (sized .size .result) (sized .size .ensures) (now (a .cells)) _ (written .write-coefficients .ensures)
@@ -63,10 +63,10 @@ pub write-reliability-spec : {M : Type 1} → statement M
 write-reliability-spec =
     tie.close
     (tie.spec
+    size-requires
     load-requires
     slice-aggregate-count-types
     count-types-requires
-    size-requires
     slice-aggregate-write-coefficients
     write-coefficients-requires
     same-length

@@ -41,7 +41,7 @@ write-by-sets-requires c κs =
     let sized = judged .before in
     let a = sized .before .before .args in
     let room = roomy (sharesRefusal (a .n) (now (a .table)) (a .group)) (sized .size .result) (length (now (a .shares))) _
-    (sym (told .before .judged2 .given .1) ∙ judged .judge .ensures) in
+    (told .before .judged2 .given .1) (judged .judge .ensures) in
     let group = accepted-group (a .n) (now (a .table)) (a .group) (room .accepted) in
     (group .few, (group .within, subst (λ (m : ℕ). m ≤ length (now (a .shares))) (sized .size .ensures) (room .fits)))
 
@@ -51,7 +51,7 @@ returns c =
     let sized = judged .before in
     let a = sized .before .before .args in
     unwritten-delivered (sharesRefusal (a .n) (now (a .table)) (a .group)) (sharesBySets (a .n) (inTable (now (a .table))) (a .group)) (now (a .shares))
-    (sized .size .result) (λ e. long sized) _ (sym (c .before .judged .given .1) ∙ judged .judge .ensures)
+    (sized .size .result) (λ e. long sized) _ (c .before .judged .given .1) (judged .judge .ensures)
 
 same-length : tie.Need-same-length
 same-length c = search needs
@@ -66,7 +66,7 @@ returns-2 c =
     let refusal = sharesRefusal (a .n) (now (a .table)) (a .group) in
     let result = sharesBySets (a .n) (inTable (now (a .table))) (a .group) in
     whole-delivered refusal result (now (a .shares)) (sized .size .result) (λ e. long sized) _
-    (roomy refusal (sized .size .result) (length (now (a .shares))) _ (sym (told .before .judged2 .given .1) ∙ judged .judge .ensures)) _
+    (roomy refusal (sized .size .result) (length (now (a .shares))) _ (told .before .judged2 .given .1) (judged .judge .ensures)) _
     (written .write-by-sets .ensures ∙ ap (λ (k : ℕ). result ++ drop k (now (a .shares))) (sym (sized .size .ensures)))
 
 pub shares-by-sets-spec : {M : Type 1} → statement M

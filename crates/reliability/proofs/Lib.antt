@@ -1,0 +1,4 @@
+pub mod Sums
+pub mod Coefficients
+pub mod FromCells
+pub mod ThroughH

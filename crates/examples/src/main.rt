@@ -191,11 +191,11 @@ fn shares_of_group(name: &[u8], group: usize) {
     say(b":\n");
     let bridge = [0x00u8, 0xEA, 0xEC, 0xEE];
     let mut cells = [0i64; 12];
-    let by_sets = subsignature::shares_by_sets(5, &bridge, group, &mut cells);
+    let by_sets = set_route::shares_by_sets(5, &bridge, group, &mut cells);
     vector(b"  set by set", by_sets, &cells);
-    let through = subsignature::shares_by_reliability(5, &bridge, group, &mut cells);
+    let through = reliability::shares_by_reliability(5, &bridge, group, &mut cells);
     vector(b"  through h", through, &cells);
-    let coefficients = subsignature::reliability(5, &bridge, group, &mut cells);
+    let coefficients = reliability::reliability(5, &bridge, group, &mut cells);
     vector(b"  h", coefficients, &cells);
 }
 

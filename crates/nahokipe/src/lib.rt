@@ -164,7 +164,7 @@ pub extern "C" fn nahokipe_shares_by_sets(
 ) -> Answer
     ensures { λ r. ⌜ Leaves (delivered (sharesRefusal n (now (table .entry)) group) (sharesBySets n (inTable (now (table .entry))) group) (now (cells .entry))) r (now (cells .exit)) ⌝ }
 {
-    of_written(subsignature::shares_by_sets(n, table, group, cells))
+    of_written(set_route::shares_by_sets(n, table, group, cells))
 }
 
 // The shares of a group through h(x,z).
@@ -177,7 +177,7 @@ pub extern "C" fn nahokipe_shares_by_reliability(
 ) -> Answer
     ensures { λ r. ⌜ Leaves (delivered (sharesRefusal n (now (table .entry)) group) (sharesByReliability n (inTable (now (table .entry))) group) (now (cells .entry))) r (now (cells .exit)) ⌝ }
 {
-    of_written(subsignature::shares_by_reliability(n, table, group, cells))
+    of_written(reliability::shares_by_reliability(n, table, group, cells))
 }
 
 // The coefficients of h(x,z), where x stands for the parts of the group.
@@ -190,7 +190,7 @@ pub extern "C" fn nahokipe_reliability(
 ) -> Answer
     ensures { λ r. ⌜ Leaves (delivered (sharesRefusal n (now (table .entry)) group) (reliabilityCells n (inTable (now (table .entry))) group) (now (cells .entry))) r (now (cells .exit)) ⌝ }
 {
-    of_written(subsignature::reliability(n, table, group, cells))
+    of_written(reliability::reliability(n, table, group, cells))
 }
 
 // The shares of a group by both routes: the counts of failure orders, twice.

@@ -61,14 +61,7 @@ fn gather(n: usize, words: &[u64], group: usize, added: &mut [u64], taken: &mut 
 }
 
 // Adds the two amounts of a set, if it is a path set.
-fn add_set(
-    n: usize,
-    words: &[u64],
-    group: usize,
-    a: usize,
-    added: &mut [u64],
-    taken: &mut [u64],
-)
+fn add_set(n: usize, words: &[u64], group: usize, a: usize, added: &mut [u64], taken: &mut [u64])
     requires { ⌜ n ≤ 16 ⌝ }
     requires { ⌜ group < 65536 ⌝ }
     requires { ⌜ a < 65536 ⌝ }
@@ -129,7 +122,9 @@ fn write_differences(m: usize, added: &[u64], taken: &[u64], shares: &mut [i64])
     ensures { λ _. ⌜ now (shares .exit) ≡ tabulate m (λ k. pos (getD (now (added .entry)) (m - k) 0) -ℤ pos (getD (now (taken .entry)) (m - (k + 1)) 0)) ++ drop m (now (shares .entry)) ⌝ }
 {
     for k in 0..m {
-        shares[k] =
-            integers::difference(numbers::cell(added, m - k), numbers::cell(taken, m - (k + 1)));
+        shares[k] = integers::difference(
+            numbers::cell(added, m - k),
+            numbers::cell(taken, m - (k + 1)),
+        );
     }
 }

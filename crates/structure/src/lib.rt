@@ -25,7 +25,7 @@ pub fn table_of_list(n: usize, list: &[u16], table: &mut [u8]) -> Written
                 return short(needed);
             }
             let listed = words::marked(list);
-            let reached = words::carried(&listed, n);
+            let reached = closure::carried(&listed, n);
             words::store(&reached, &mut table[..needed]);
             Written::Length(needed)
         }
@@ -41,7 +41,7 @@ pub fn minimal_sets(n: usize, table: &[u8], sets: &mut [u16]) -> Written
         Verdict::Refused(refusal) => Written::Refused(refusal),
         Verdict::Accepted => {
             let loaded = words::load(table);
-            let minimal = words::trimmed(&loaded, n);
+            let minimal = closure::trimmed(&loaded, n);
             words::list(&minimal, sets)
         }
     }
@@ -92,7 +92,7 @@ fn structure_verdict(n: usize, table: &[u8]) -> Verdict
     if !words::works(&loaded, power(n) - 1) {
         return refused(answer::FULL_SET_FAILS, 0);
     }
-    let place = words::first_broken(&loaded, n);
+    let place = closure::first_broken(&loaded, n);
     if place < 65536 {
         return refused(answer::BROKEN_SET, place);
     }

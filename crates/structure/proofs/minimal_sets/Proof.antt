@@ -11,7 +11,8 @@ use Rattle.answer.specs.declared.Verdict.the-variants.{Accepted}
 use Rattle.sets.specs.Masks.{those}
 use Rattle.sets.specs.Structures.{minimalSets}
 use Rattle.sets.specs.Tables.{inTable}
-use Rattle.words.specs.Words.{inWords, wordsOf, trimmed}
+use Rattle.words.specs.Words.{inWords, wordsOf}
+use Rattle.closure.specs.Closure.{trimmed}
 use Rattle.structure.specs.Checks.{tableRefusal}
 use Rattle.structure.proofs.Acceptance.{accepted-table}
 use Rattle.structure.proofs.Walks.{minimal-walk}

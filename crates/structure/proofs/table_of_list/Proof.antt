@@ -18,7 +18,8 @@ use Rattle.sets.specs.Structures.{listed}
 use Rattle.numbers.specs.Tables.{tabulate}
 use Rattle.sets.specs.Tables.{packed, tableOf, tableLength}
 use Rattle.sets.proofs.Tables.{tableOf-length}
-use Rattle.words.specs.Words.{inWords, wordsOf, spread}
+use Rattle.words.specs.Words.{inWords, wordsOf}
+use Rattle.closure.specs.Closure.{spread}
 use Rattle.structure.specs.Checks.{listRefusal}
 use Rattle.structure.proofs.Acceptance.{AcceptedList, accepted-list}
 use Rattle.structure.proofs.Walks.{listed-walk}

@@ -2,10 +2,11 @@
 -- order, a word after the other.
 -- Assumes nothing.
 use mathlib.Core.Path.{_≡_, sym, ap, _∙_, subst}
-use Prim.Native.Nat.{ℕ, _+_, _-_, _^_, _≤_, _<_}
+use Prim.Native.Nat.{ℕ, _+_, _-_, _*_, _^_, _≤_, _<_}
 use native.Mathlib.Omega.{arith}
 use denote.Ref.{now}
 use lib.ListN.{length, getD}
+use lib.Pow.{shr-le}
 use Rattle.answer.specs.Refusals.{shortBuffer}
 use Rattle.answer.specs.Outcome.{at as refusalAt, outcome}
 use Rattle.answer.specs.declared.Written.the-variants.{Refused}
@@ -13,7 +14,7 @@ use Rattle.answer.proofs.Outcomes.{InFront, in-front-delivered, in-front-length
 use Rattle.sets.specs.Masks.{those}
 use Rattle.sets.proofs.Ranges.{those-fewer}
 use Rattle.words.specs.Words.{inWords}
-use Rattle.words.proofs.Runs.{Walk, walk-start, walk-turn, walk-near, walk-room, walk-found}
+use Rattle.words.proofs.Runs.{Lowest, lowest-of, Walk, walk-start, walk-turn, walk-near, walk-room, walk-found}
 use borrow.Author.Needs.{needs}
 use Rattle.words.proofs.list.Statement.{statement}
 use Rattle.words.proofs.list.Tie as tie
@@ -54,6 +55,14 @@ kept c =
     let fewer = those-fewer (inWords (now (a .words))) (l .mask) 65536 (l .inv .1 .1 .last) in
     in-front-length (now (a .sets)) (those (inWords (now (a .words))) (l .mask)) (l .sets) (l .next) (l .inv .1 .1 .listed) (omega (arith, fewer, all c))
 
+-- what is left of the word is not empty
+low : (c : tie.After-lowest Inv-loop μ-loop) → Lowest (c .before .before .before .loop .rest) (c .lowest .result)
+low c =
+    let head = c .before .before .before in
+    let left = head .loop .inv .1 .1 .bits in
+    let fewer = shr-le (getD (now (head .before .before .before .before .before .before .args .words)) (head .loop .at) 0) (head .loop .mask - 64 * head .loop .at) in
+    lowest-of (head .loop .rest) (c .lowest .result) (omega (arith, left, fewer, fits head)) (c .before .if2 .left) (c .lowest .ensures)
+
 near : (c : tie.After-lowest Inv-loop μ-loop) → c .before .before .before .loop .mask + c .lowest .result < 65536
 near c =
     let head = c .before .before .before in
@@ -62,7 +71,7 @@ near c =
     omega (
       arith,
       walk-near (now (a .words)) (now (a .sets)) (l .at) (l .mask) (l .rest) (l .next) (l .sets) (l .inv .1 .1) (c .before .before .loop-test .taken)
-          (fits head) (c .lowest .result) (c .lowest .ensures),
+          (fits head) (c .lowest .result) (low c),
     )
 
 room : (c : tie.After-lowest Inv-loop μ-loop) → c .before .before .before .loop .next < length (now (c .before .before .before .before .before .before .before .before .before .args .sets))
@@ -74,7 +83,7 @@ room c =
       arith,
       l .inv .1 .1 .listed .ends,
       walk-room (now (a .words)) (now (a .sets)) (l .at) (l .mask) (l .rest) (l .next) (l .sets) (l .inv .1 .1)
-          (c .before .before .loop-test .taken) (fits head) (c .lowest .result) (c .lowest .ensures) (all head),
+          (c .before .before .loop-test .taken) (fits head) (c .lowest .result) (low c) (all head),
     )
 
 loop-holds : tie.Need-loop-holds Inv-loop μ-loop
@@ -124,7 +133,7 @@ add-mask-2 : tie.Need-add-mask-2 Inv-loop μ-loop
 add-mask-2 c = omega (arith, near c)
 
 shr-rest : tie.Need-shr-rest Inv-loop μ-loop
-shr-rest c = c .lowest .ensures .within
+shr-rest c = low c .within
 
 loop-less-2 : tie.Need-loop-less-2 Inv-loop μ-loop
 loop-less-2 c = omega (arith, near c)
@@ -138,7 +147,7 @@ loop-again-2 c =
       (
         l .inv .1 .0,
         walk-found (now (a .words)) (now (a .sets)) (l .at) (l .mask) (l .rest) (l .next) (l .sets) (l .inv .1 .1) (c .before .before .loop-test .taken)
-            (fits head) (c .lowest .result) (c .lowest .ensures) (all head),
+            (fits head) (c .lowest .result) (low c) (all head),
       ),
     )
 

@@ -1,4 +1,4 @@
--- `words::lost` meets its contract: the words of the sets that one part leads to a set that does not work, joined part by part.
+-- `closure::lost` meets its contract: the words of the sets that one part leads to a set that does not work, joined part by part.
 -- Assumes nothing.
 use mathlib.Core.Path.{_≡_, ap, _∙_}
 use mathlib.Core.Bool.{not, _&&_}
@@ -7,13 +7,13 @@ use Prim.Native.Nat.{ℕ, _-_, _≤_, min, _+_, _^_}
 use native.Mathlib.Omega.{arith}
 use native.Mathlib.Nat.{le-antisymm}
 use denote.Ref.{now}
 use Rattle.words.specs.Words.{inWords, wordOf}
-use Rattle.words.specs.Steps.{lost}
-use Rattle.words.proofs.Parts.{lost-part}
+use Rattle.closure.specs.Steps.{lost}
+use Rattle.closure.proofs.Parts.{lost-part}
 use Rattle.words.proofs.Words.{any-word-none, any-word-more}
 use borrow.Author.Needs.{needs}
-use Rattle.words.proofs.lost.Statement.{statement}
-use Rattle.words.proofs.lost.Tie as tie
+use Rattle.closure.proofs.lost.Statement.{statement}
+use Rattle.closure.proofs.lost.Tie as tie
 
 abbrev Inv-loop : tie.InvT-loop
 Inv-loop words at parts some₀ end part₀ some part = (part ≤ end) × ((end ≡ min parts 16) × (some ≡ wordOf (lost part (inWords words)) at))

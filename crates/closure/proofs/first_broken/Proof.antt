@@ -1,4 +1,4 @@
--- `words::first_broken` meets its contract: the words are looked at in their order, and the lowest bit of the first that is not empty is
+-- `closure::first_broken` meets its contract: the words are looked at in their order, and the lowest bit of the first that is not empty is
 -- the smallest broken set.
 -- Assumes nothing.
 use mathlib.Core.Path.{_≡_, sym, ap₂, _∙_}
@@ -7,16 +7,18 @@ use Prim.Native.Nat.{ℕ, _-_, _*_, _≤_, _<_, min}
 use native.Mathlib.Nat.{not-suc-le-zero}
 use native.Mathlib.Omega.{arith}
 use denote.Ref.{now}
+use lib.Bits.{and-lt}
 use Rattle.sets.specs.Masks.{meet}
 use Rattle.sets.specs.Structures.{broken}
 use Rattle.sets.proofs.Ranges.{least-none}
 use Rattle.words.specs.Words.{inWords, wordOf}
-use Rattle.words.specs.Steps.{lost}
+use Rattle.closure.specs.Steps.{lost}
 use Rattle.words.proofs.Words.{word-is, wordOf-and}
-use Rattle.words.proofs.Runs.{none-more, found-first}
+use Rattle.words.proofs.Runs.{Lowest, lowest-of}
+use Rattle.closure.proofs.Walks.{none-more, found-first}
 use borrow.Author.Needs.{needs}
-use Rattle.words.proofs.first_broken.Statement.{statement}
-use Rattle.words.proofs.first_broken.Tie as tie
+use Rattle.closure.proofs.first_broken.Statement.{statement}
+use Rattle.closure.proofs.first_broken.Tie as tie
 
 abbrev Inv-loop : tie.InvT-loop
 Inv-loop words parts at₀ at = (at ≤ 1024) × ((a : ℕ) → a < 64 * at → broken (min parts 16) (inWords words) a ≡ false)
@@ -52,15 +54,23 @@ mul-result c = omega arith
 lowest-requires : tie.Need-lowest-requires Inv-loop μ-loop
 lowest-requires c κs = search needs
 
+-- the word has a broken set
+low : (c : tie.After-lowest Inv-loop μ-loop) → Lowest (meet (c .before .before .before .word .result) (c .before .before .lost .result)) (c .lowest .result)
+low c =
+    let read = c .before .before .before .word in
+    let lacks = c .before .before .lost in
+    lowest-of (meet (read .result) (lacks .result)) (c .lowest .result)
+    (and-lt 64 (read .result) (lacks .result) (omega (arith, read .ok)) (omega (arith, lacks .ok))) (c .before .if1 .taken) (c .lowest .ensures)
+
 add-result : tie.Need-add-result Inv-loop μ-loop
-add-result c = omega (arith, c .lowest .ensures .within)
+add-result c = omega (arith, low c .within)
 
 returns : tie.Need-returns Inv-loop μ-loop
 returns c =
     let head = c .before .before .before .before .before in
     let a = head .before .before .args in
     found-first (broken (min (a .parts) 16) (inWords (now (a .words)))) (head .loop .at) _ (bad-word (c .before .before)) (head .loop .inv .1)
-    (c .lowest .result) (c .before .before .before .before .loop-test .taken) (c .lowest .ensures)
+    (c .lowest .result) (c .before .before .before .before .loop-test .taken) (low c)
 
 add-at : tie.Need-add-at Inv-loop μ-loop
 add-at c = omega arith

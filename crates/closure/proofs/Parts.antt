@@ -17,10 +17,11 @@ use Rattle.sets.proofs.Bools.{true-or-false, or-true, or-false, and-swap, not-n
 use Rattle.sets.proofs.Masks.{has-le, has-flip, has-above, has-full, has-low, has-meet, has-join, has-shift, add-below, bit-of-odd, bit-of-even}
 use Rattle.sets.proofs.Ranges.{below-or-above}
 use Rattle.sets.proofs.Tables.{has-packed, packed-below}
-use Rattle.words.specs.Words.{inWords, wordOf, without}
-use Rattle.words.specs.Steps.{with}
+use Rattle.words.specs.Words.{inWords, wordOf}
+use Rattle.closure.specs.Closure.{without}
+use Rattle.closure.specs.Steps.{with}
 use Rattle.words.proofs.Bits.{has-shl, has-shl-below, has-complement}
 use Rattle.words.proofs.Words.{inWords-at, wordOf-unique, wordOf-not, wordOf-same}
 
 -- the parts of a mask, by its word's index and its bit
 index-low : (at k part : ℕ) → k < 64 → part < 6 → has (64 * at + k) part ≡ has k part

@@ -1,4 +1,4 @@
--- `words::without` meets its contract: below 6 the part is a shift inside the word, and from 6 on it leads to a lower word, where the
+-- `closure::without` meets its contract: below 6 the part is a shift inside the word, and from 6 on it leads to a lower word, where the
 -- word's index has it.
 -- Assumes nothing.
 use mathlib.Core.Path.{refl, sym, ap, ap₂, _∙_, subst}
@@ -10,10 +10,10 @@ use lib.ListN.{getD}
 use lib.Pow.{pow-lt}
 use Rattle.sets.specs.Masks.{has, meet}
 use Rattle.sets.specs.Tables.{packed}
-use Rattle.words.proofs.Parts.{without-low, without-high, without-none, step-le}
+use Rattle.closure.proofs.Parts.{without-low, without-high, without-none, step-le}
 use borrow.Author.Needs.{needs}
-use Rattle.words.proofs.without.Statement.{statement}
-use Rattle.words.proofs.without.Tie as tie
+use Rattle.closure.proofs.without.Statement.{statement}
+use Rattle.closure.proofs.without.Tie as tie
 
 word-requires : tie.Need-word-requires
 word-requires c κs = search needs

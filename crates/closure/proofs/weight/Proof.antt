@@ -1,12 +1,12 @@
--- `words::weight` meets its contract: a power below 2^64 is not cut off by the shift.
+-- `closure::weight` meets its contract: a power below 2^64 is not cut off by the shift.
 -- Assumes nothing.
 use mathlib.Core.Path.{ap, _∙_}
 use Prim.Native.Nat.{ℕ, _%_, _^_}
 use native.Mathlib.Nat.{one-mul, mod-eq-of-lt}
 use borrow.Author.Needs.{needs}
 use lib.Pow.{pow-lt}
-use Rattle.words.proofs.weight.Statement.{statement}
-use Rattle.words.proofs.weight.Tie as tie
+use Rattle.closure.proofs.weight.Statement.{statement}
+use Rattle.closure.proofs.weight.Tie as tie
 
 shl-result : tie.Need-shl-result
 shl-result c = search needs

@@ -1,15 +1,16 @@
--- `words::trimmed` meets its contract: of the sets that work those are left out that work without a single part.
+-- `closure::trimmed` meets its contract: of the sets that work those are left out that work without a single part.
 -- Assumes nothing.
 use mathlib.Core.Path.{_≡_, refl}
 use Prim.Native.Nat.{_-_, _≤_, min}
 use native.Mathlib.Omega.{arith}
 use denote.Ref.{now}
 use Rattle.numbers.proofs.Tables.{filled, filled-none, filled-again, filled-end}
-use Rattle.words.specs.Words.{inWords, wordOf, spare, trimmed}
+use Rattle.words.specs.Words.{inWords, wordOf}
+use Rattle.closure.specs.Closure.{spare, trimmed}
 use Rattle.words.proofs.Words.{word-is, wordOf-but}
 use borrow.Author.Needs.{needs}
-use Rattle.words.proofs.trimmed.Statement.{statement}
-use Rattle.words.proofs.trimmed.Tie as tie
+use Rattle.closure.proofs.trimmed.Statement.{statement}
+use Rattle.closure.proofs.trimmed.Tie as tie
 
 abbrev Inv-loop : tie.InvT-loop
 Inv-loop words parts next₀ at₀ next at = (at ≤ 1024) × (next ≡ filled (wordOf (trimmed (min parts 16) (inWords words))) next₀ at)

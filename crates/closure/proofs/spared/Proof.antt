@@ -1,15 +1,16 @@
--- `words::spared` meets its contract: the words of the sets that work without one part, joined part by part.
+-- `closure::spared` meets its contract: the words of the sets that work without one part, joined part by part.
 -- Assumes nothing.
 use mathlib.Core.Path.{_≡_, ap, _∙_}
 use Prim.Native.Nat.{ℕ, _-_, _≤_, min}
 use native.Mathlib.Omega.{arith}
 use native.Mathlib.Nat.{le-antisymm}
 use denote.Ref.{now}
-use Rattle.words.specs.Words.{inWords, wordOf, without, spare}
+use Rattle.words.specs.Words.{inWords, wordOf}
+use Rattle.closure.specs.Closure.{without, spare}
 use Rattle.words.proofs.Words.{any-word-none, any-word-more}
 use borrow.Author.Needs.{needs}
-use Rattle.words.proofs.spared.Statement.{statement}
-use Rattle.words.proofs.spared.Tie as tie
+use Rattle.closure.proofs.spared.Statement.{statement}
+use Rattle.closure.proofs.spared.Tie as tie
 
 abbrev Inv-loop : tie.InvT-loop
 Inv-loop words at parts some₀ end part₀ some part = (part ≤ end) × ((end ≡ min parts 16) × (some ≡ wordOf (spare part (inWords words)) at))

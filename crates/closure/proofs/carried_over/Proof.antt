@@ -1,4 +1,4 @@
--- `words::carried_over` meets its contract: a word of the sets that work, joined with the word of those that work without the part.
+-- `closure::carried_over` meets its contract: a word of the sets that work, joined with the word of those that work without the part.
 -- Assumes nothing.
 use mathlib.Core.Path.{_≡_, refl, ap₂, _∙_}
 use mathlib.Core.Bool.{_||_}
@@ -7,12 +7,13 @@ use Prim.Native.Nat.{ℕ, _-_, _≤_}
 use native.Mathlib.Omega.{arith}
 use denote.Ref.{now}
 use Rattle.numbers.proofs.Tables.{filled, filled-none, filled-again, filled-end}
-use Rattle.words.specs.Words.{inWords, wordOf, without}
+use Rattle.words.specs.Words.{inWords, wordOf}
+use Rattle.closure.specs.Closure.{without}
 use Rattle.sets.specs.Masks.{join}
 use Rattle.words.proofs.Words.{word-is, wordOf-or}
 use borrow.Author.Needs.{needs}
-use Rattle.words.proofs.carried_over.Statement.{statement}
-use Rattle.words.proofs.carried_over.Tie as tie
+use Rattle.closure.proofs.carried_over.Statement.{statement}
+use Rattle.closure.proofs.carried_over.Tie as tie
 
 -- word `at` of the sets that work, or work without the part
 abbrev carriedWord : List ℕ → ℕ → ℕ → ℕ

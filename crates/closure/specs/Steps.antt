@@ -1,7 +1,6 @@
 -- What the private functions do: a reader of the promises may pass this file over.
-use mathlib.Core.Bool.{Bool, true, false, not, _&&_, _||_}
-use mathlib.Core.Path.{_≡_}
-use Prim.Native.Nat.{ℕ, _+_, _^_, _<_}
+use mathlib.Core.Bool.{Bool, not, _&&_, _||_}
+use Prim.Native.Nat.{ℕ, _+_, _^_}
 use Rattle.sets.specs.Masks.{has, any}
 
 -- the set has the part, or works with it
@@ -11,9 +10,3 @@ with part works a = has a part || works (a + 2 ^ part)
 -- some single one of the first n parts leads to a set that does not work
 abbrev pub lost : ℕ → (ℕ → Bool) → ℕ → Bool
 lost n works a = any (λ part. not (has a part) && not (works (a + 2 ^ part))) n
-
--- bit i is the lowest that is set, of 64
-pub record Lowest (word i : ℕ) : Type 0 where
-  pub within : i < 64
-  pub stands : has word i ≡ true
-  pub clear : (k : ℕ) → k < i → has word k ≡ false

@@ -1,4 +1,4 @@
--- `words::lacking` meets its contract: for each of the six parts the word is computed.
+-- `closure::lacking` meets its contract: for each of the six parts the word is computed.
 -- Assumes nothing.
 use mathlib.Core.Path.{_≡_, ap, sym}
 use mathlib.Core.Bool.{not}
@@ -6,8 +6,8 @@ use Prim.Native.Nat.{ℕ}
 use native.Mathlib.Omega.{arith}
 use Rattle.sets.specs.Masks.{has}
 use Rattle.sets.specs.Tables.{packed}
-use Rattle.words.proofs.lacking.Statement.{statement}
-use Rattle.words.proofs.lacking.Tie as tie
+use Rattle.closure.proofs.lacking.Statement.{statement}
+use Rattle.closure.proofs.lacking.Tie as tie
 
 wordFor : ℕ → ℕ
 wordFor part = packed 64 (λ k. not (has k part))

@@ -1,15 +1,15 @@
--- `words::copied` meets its contract: each word is read and stored at its own index.
+-- `closure::copied` meets its contract: each word is read and stored at its own index.
 -- Assumes nothing.
 use mathlib.Core.Path.{_≡_, refl}
 use Prim.Native.Nat.{_-_, _≤_}
 use native.Mathlib.Omega.{arith}
 use denote.Ref.{now}
 use Rattle.numbers.proofs.Tables.{filled, filled-none, filled-again, filled-end}
 use Rattle.words.specs.Words.{inWords, wordOf}
 use Rattle.words.proofs.Words.{word-is}
 use borrow.Author.Needs.{needs}
-use Rattle.words.proofs.copied.Statement.{statement}
-use Rattle.words.proofs.copied.Tie as tie
+use Rattle.closure.proofs.copied.Statement.{statement}
+use Rattle.closure.proofs.copied.Tie as tie
 
 abbrev Inv-loop : tie.InvT-loop
 Inv-loop words next₀ at₀ next at = (at ≤ 1024) × (next ≡ filled (wordOf (inWords words)) next₀ at)

@@ -1,4 +1,4 @@
--- `words::with` meets its contract: below 6 the part is a shift inside the word, and from 6 on it leads to a higher word, where the word's
+-- `closure::with` meets its contract: below 6 the part is a shift inside the word, and from 6 on it leads to a higher word, where the word's
 -- index lacks it.
 -- Assumes nothing.
 use mathlib.Core.Path.{refl, sym, ap, ap₂, _∙_, subst}
@@ -10,10 +10,10 @@ use lib.ListN.{getD}
 use lib.Pow.{pow-lt}
 use Rattle.sets.specs.Masks.{has, join}
 use Rattle.sets.specs.Tables.{packed}
-use Rattle.words.proofs.Parts.{with-low, with-high, with-all, step-below}
+use Rattle.closure.proofs.Parts.{with-low, with-high, with-all, step-below}
 use borrow.Author.Needs.{needs}
-use Rattle.words.proofs.with.Statement.{statement}
-use Rattle.words.proofs.with.Tie as tie
+use Rattle.closure.proofs.with.Statement.{statement}
+use Rattle.closure.proofs.with.Tie as tie
 
 word-requires : tie.Need-word-requires
 word-requires c κs = search needs

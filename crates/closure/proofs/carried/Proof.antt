@@ -1,4 +1,4 @@
--- `words::carried` meets its contract: the sets are carried over one part after the other.
+-- `closure::carried` meets its contract: the sets are carried over one part after the other.
 -- Assumes nothing.
 use mathlib.Core.Path.{_≡_, sym, ap, _∙_}
 use mathlib.Core.Bool.{_||_}
@@ -9,11 +9,12 @@ use native.Mathlib.Omega.{arith}
 use denote.Ref.{now}
 use lib.ListN.{length}
 use Rattle.numbers.proofs.Tables.{tabulate-length}
-use Rattle.words.specs.Words.{inWords, wordOf, wordsOf, without, spread}
-use Rattle.words.proofs.Runs.{spread-more}
+use Rattle.words.specs.Words.{inWords, wordOf, wordsOf}
+use Rattle.closure.specs.Closure.{without, spread}
+use Rattle.closure.proofs.Walks.{spread-more}
 use borrow.Author.Needs.{needs}
-use Rattle.words.proofs.carried.Statement.{statement}
-use Rattle.words.proofs.carried.Tie as tie
+use Rattle.closure.proofs.carried.Statement.{statement}
+use Rattle.closure.proofs.carried.Tie as tie
 
 abbrev Inv-loop : tie.InvT-loop
 Inv-loop words parts next₀ end part₀ next part = (part ≤ end) × ((end ≡ min parts 16) × (next ≡ wordsOf (spread part (inWords words))))

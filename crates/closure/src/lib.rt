@@ -2,7 +2,7 @@
 // path sets that are none without any single part, and the first set that breaks the rule.
 ghost use mathlib.Core.Path.{_≡_};
 ghost use mathlib.Core.Bool.{not, _||_};
-ghost use Prim.Native.Nat.{_^_, _<_, min};
+ghost use Prim.Native.Nat.{_<_, min};
 ghost use Rattle.sets.specs.Masks.{has, least};
 ghost use Rattle.sets.specs.Structures.{broken};
 ghost use Rattle.sets.specs.Tables.{packed};
@@ -28,7 +28,7 @@ pub fn trimmed(words: &[u64], parts: usize) -> [u64; 1024]
 {
     let mut next = [0u64; 1024];
     for at in 0..1024 {
-        next[at] = words::word(words, at) & !spared(words, at, parts);
+        next[at] = numbers::cell(words, at) & !spared(words, at, parts);
     }
     next
 }
@@ -38,7 +38,7 @@ pub fn first_broken(words: &[u64], parts: usize) -> usize
     ensures { λ r. ⌜ r ≡ least (broken (min parts 16) (inWords (now (words .entry)))) 65536 ⌝ }
 {
     for at in 0..1024 {
-        let bad = words::word(words, at) & lost(words, at, parts);
+        let bad = numbers::cell(words, at) & lost(words, at, parts);
         if bad != 0 {
             return 64 * at + words::lowest(bad);
         }
@@ -61,25 +61,17 @@ fn lacking(part: usize) -> u64
     }
 }
 
-// 2 to the power `part`.
-fn weight(part: usize) -> usize
-    requires { ⌜ part < 64 ⌝ }
-    ensures { λ r. ⌜ r ≡ 2 ^ part ⌝ }
-{
-    1 << part
-}
-
 // Word `at` of the sets that have the part and work without it.
 fn without(words: &[u64], at: usize, part: usize) -> u64
     requires { ⌜ part < 16 ⌝ }
     ensures { λ r. ⌜ r ≡ wordOf (withoutPart part (inWords (now (words .entry)))) at ⌝ }
 {
     if part < 6 {
-        return (words::word(words, at) & lacking(part)) << weight(part);
+        return (numbers::cell(words, at) & lacking(part)) << numbers::power(part);
     }
     let high = part - 6;
     if (at >> high) % 2 == 1 {
-        words::word(words, at - weight(high))
+        numbers::cell(words, at - numbers::power(high))
     } else {
         0
     }
@@ -92,13 +84,13 @@ fn with(words: &[u64], at: usize, part: usize) -> u64
     ensures { λ r. ⌜ r ≡ wordOf (withPart part (inWords (now (words .entry)))) at ⌝ }
 {
     if part < 6 {
-        return (words::word(words, at) >> weight(part)) | !lacking(part);
+        return (numbers::cell(words, at) >> numbers::power(part)) | !lacking(part);
     }
     let high = part - 6;
     if (at >> high) % 2 == 1 {
         0xFFFF_FFFF_FFFF_FFFF
     } else {
-        words::word(words, at + weight(high))
+        numbers::cell(words, at + numbers::power(high))
     }
 }
 
@@ -109,7 +101,7 @@ fn carried_over(words: &[u64], part: usize) -> [u64; 1024]
 {
     let mut next = [0u64; 1024];
     for at in 0..1024 {
-        next[at] = words::word(words, at) | without(words, at, part);
+        next[at] = numbers::cell(words, at) | without(words, at, part);
     }
     next
 }
@@ -120,7 +112,7 @@ fn copied(words: &[u64]) -> [u64; 1024]
 {
     let mut next = [0u64; 1024];
     for at in 0..1024 {
-        next[at] = words::word(words, at);
+        next[at] = numbers::cell(words, at);
     }
     next
 }

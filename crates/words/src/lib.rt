@@ -1,6 +1,5 @@
 // Set functions of up to 16 parts, held in 1,024 words of 64 bits and worked on a word at a time: bit a mod 64 of word a/64 says of the
 // set with mask a whether it works. A word that a slice lacks is 0.
-use answer::Refusal;
 use answer::Verdict;
 use answer::Written;
 ghost use mathlib.Core.Path.{_≡_};
@@ -40,7 +39,7 @@ pub fn marked(list: &[u16]) -> [u64; 1024]
 pub fn works(words: &[u64], mask: usize) -> bool
     ensures { λ r. ⌜ r ≡ inWords (now (words .entry)) mask ⌝ }
 {
-    (word(words, mask / 64) >> (mask % 64)) % 2 == 1
+    (numbers::cell(words, mask / 64) >> (mask % 64)) % 2 == 1
 }
 
 // How many sets work.
@@ -49,7 +48,7 @@ pub fn count(words: &[u64]) -> usize
 {
     let mut sum: usize = 0;
     for at in 0..1024 {
-        sum += u64::count_ones(word(words, at)) as usize;
+        sum += u64::count_ones(numbers::cell(words, at)) as usize;
     }
     sum
 }
@@ -60,20 +59,17 @@ pub fn list(words: &[u64], sets: &mut [u16]) -> Written
 {
     let needed = count(words);
     if sets.len() < needed {
-        return Written::Refused(Refusal {
-            number: answer::SHORT_BUFFER,
-            place: needed,
-        });
+        return answer::short(needed);
     }
     let mut at = 0;
     let mut mask = 0;
-    let mut rest = word(words, 0);
+    let mut rest = numbers::cell(words, 0);
     let mut next = 0;
     while at < 1024 {
         if rest == 0 {
             at += 1;
             mask = 64 * at;
-            rest = word(words, at);
+            rest = numbers::cell(words, at);
         } else {
             let gap = lowest(rest);
             mask += gap;
@@ -91,15 +87,8 @@ pub fn store(words: &[u64], table: &mut [u8])
     ensures { λ _. ⌜ now (table .exit) ≡ tabulate (length (now (table .entry))) (λ b. packed 8 (λ i. inWords (now (words .entry)) (8 * b + i))) ⌝ }
 {
     for b in 0..table.len() {
-        table[b] = byte_of(word(words, b / 8), b % 8);
+        table[b] = byte_of(numbers::cell(words, b / 8), b % 8);
     }
-}
-
-// The word at an index, and 0 beyond the last.
-pub fn word(words: &[u64], at: usize) -> u64
-    ensures { λ r. ⌜ r ≡ getD (now (words .entry)) at 0 ⌝ }
-{
-    if at < words.len() { words[at] } else { 0 }
 }
 
 // Byte `i` of a word, from the lowest.

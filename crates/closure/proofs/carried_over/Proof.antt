@@ -28,8 +28,8 @@ abbrev μ-loop : tie.MeasureT-loop
 loop-holds : tie.Need-loop-holds Inv-loop μ-loop
 loop-holds c = (omega arith, filled-none (carriedWord (now (c .before .args .words)) (c .before .args .part)) _)
 
-word-requires : tie.Need-word-requires Inv-loop μ-loop
-word-requires c κs = search needs
+cell-requires : tie.Need-cell-requires Inv-loop μ-loop
+cell-requires c κs = search needs
 
 without-requires : tie.Need-without-requires Inv-loop μ-loop
 without-requires c κs = search needs
@@ -52,7 +52,7 @@ loop-again c =
     let at = head .loop .at in
     let words = now (head .before .before .args .words) in
     let part = head .before .before .args .part in
-    let read = c .before .word in (
+    let read = c .before .cell in (
       omega arith,
       filled-again (carriedWord words part) _ at _ (head .loop .next) (head .loop .inv .1) (omega arith)
           (ap₂ (λ (x y : ℕ). join x y) (word-is words at (read .result) (read .ensures) (omega (arith, read .ok))) (c .without .ensures)
@@ -73,7 +73,7 @@ carried-over-spec =
     Inv-loop
     μ-loop
     loop-holds
-    word-requires
+    cell-requires
     without-requires
     mul-next
     array-write-next

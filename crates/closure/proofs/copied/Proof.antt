@@ -20,8 +20,8 @@ abbrev μ-loop : tie.MeasureT-loop
 loop-holds : tie.Need-loop-holds Inv-loop μ-loop
 loop-holds c = (omega arith, filled-none (wordOf (inWords (now (c .before .args .words)))) _)
 
-word-requires : tie.Need-word-requires Inv-loop μ-loop
-word-requires c κs = search needs
+cell-requires : tie.Need-cell-requires Inv-loop μ-loop
+cell-requires c κs = search needs
 
 mul-next : tie.Need-mul-next Inv-loop μ-loop
 mul-next c = omega arith
@@ -39,7 +39,7 @@ loop-again : tie.Need-loop-again Inv-loop μ-loop
 loop-again c =
     let head = c .before .before in
     let at = head .loop .at in
-    (omega arith, filled-again (wordOf (inWords (now (head .before .before .args .words)))) _ at _ (head .loop .next) (head .loop .inv .1) (omega arith) (word-is (now (head .before .before .args .words)) at (c .word .result) (c .word .ensures) (omega (arith, c .word .ok))))
+    (omega arith, filled-again (wordOf (inWords (now (head .before .before .args .words)))) _ at _ (head .loop .next) (head .loop .inv .1) (omega arith) (word-is (now (head .before .before .args .words)) at (c .cell .result) (c .cell .ensures) (omega (arith, c .cell .ok))))
 
 returns : tie.Need-returns Inv-loop μ-loop
 returns c =
@@ -53,7 +53,7 @@ copied-spec =
     Inv-loop
     μ-loop
     loop-holds
-    word-requires
+    cell-requires
     mul-next
     array-write-next
     add-at

@@ -27,7 +27,7 @@ abbrev μ-loop : tie.MeasureT-loop
 μ-loop words parts at₀ at = 1024 - at
 
 -- the word that is looked at is that of the broken sets
-bad-word : (c : tie.After-lost Inv-loop μ-loop) → meet (c .before .word .result) (c .lost .result)
+bad-word : (c : tie.After-lost Inv-loop μ-loop) → meet (c .before .cell .result) (c .lost .result)
     ≡ wordOf (broken (min (c .before .before .before .before .before .args .parts) 16) (inWords (now (c .before .before .before .before .before .args .words)))) (c .before .before .before .loop .at)
 unfolding broken
 bad-word c =
@@ -35,15 +35,15 @@ bad-word c =
     let a = head .before .before .args in
     let works = inWords (now (a .words)) in
     let at = head .loop .at in
-    ap₂ (λ (x y : ℕ). meet x y) (word-is (now (a .words)) at (c .before .word .result) (c .before .word .ensures) (omega (arith, c .before .word .ok)))
+    ap₂ (λ (x y : ℕ). meet x y) (word-is (now (a .words)) at (c .before .cell .result) (c .before .cell .ensures) (omega (arith, c .before .cell .ok)))
     (c .lost .ensures)
     ∙ wordOf-and works (lost (min (a .parts) 16) works) at
 
 loop-holds : tie.Need-loop-holds Inv-loop μ-loop
 loop-holds c = (omega arith, λ a h. absurd (not-suc-le-zero h))
 
-word-requires : tie.Need-word-requires Inv-loop μ-loop
-word-requires c κs = search needs
+cell-requires : tie.Need-cell-requires Inv-loop μ-loop
+cell-requires c κs = search needs
 
 lost-requires : tie.Need-lost-requires Inv-loop μ-loop
 lost-requires c κs = search needs
@@ -55,9 +55,9 @@ lowest-requires : tie.Need-lowest-requires Inv-loop μ-loop
 lowest-requires c κs = search needs
 
 -- the word has a broken set
-low : (c : tie.After-lowest Inv-loop μ-loop) → Lowest (meet (c .before .before .before .word .result) (c .before .before .lost .result)) (c .lowest .result)
+low : (c : tie.After-lowest Inv-loop μ-loop) → Lowest (meet (c .before .before .before .cell .result) (c .before .before .lost .result)) (c .lowest .result)
 low c =
-    let read = c .before .before .before .word in
+    let read = c .before .before .before .cell in
     let lacks = c .before .before .lost in
     lowest-of (meet (read .result) (lacks .result)) (c .lowest .result)
     (and-lt 64 (read .result) (lacks .result) (omega (arith, read .ok)) (omega (arith, lacks .ok))) (c .before .if1 .taken) (c .lowest .ensures)
@@ -97,7 +97,7 @@ first-broken-spec =
     Inv-loop
     μ-loop
     loop-holds
-    word-requires
+    cell-requires
     lost-requires
     mul-result
     lowest-requires

@@ -21,8 +21,8 @@ abbrev μ-loop : tie.MeasureT-loop
 loop-holds : tie.Need-loop-holds Inv-loop μ-loop
 loop-holds c = (omega arith, filled-none (wordOf (trimmed (min (c .before .args .parts) 16) (inWords (now (c .before .args .words))))) _)
 
-word-requires : tie.Need-word-requires Inv-loop μ-loop
-word-requires c κs = search needs
+cell-requires : tie.Need-cell-requires Inv-loop μ-loop
+cell-requires c κs = search needs
 
 spared-requires : tie.Need-spared-requires Inv-loop μ-loop
 spared-requires c κs = search needs
@@ -46,7 +46,7 @@ loop-again c =
     let at = head .loop .at in
     let a = head .before .before .args in
     let works = inWords (now (a .words)) in
-    let read = c .before .word in (
+    let read = c .before .cell in (
       omega arith,
       filled-again (wordOf (trimmed (min (a .parts) 16) works)) _ at _ (head .loop .next) (head .loop .inv .1) (omega arith)
           (wordOf-but works (spare (min (a .parts) 16) works) at (read .result) (c .spared .result)
@@ -67,7 +67,7 @@ trimmed-spec =
     Inv-loop
     μ-loop
     loop-holds
-    word-requires
+    cell-requires
     spared-requires
     mul-next
     array-write-next

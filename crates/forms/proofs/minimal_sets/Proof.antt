@@ -1,4 +1,4 @@
--- `structure::minimal_sets` meets its contract: a refused table leaves the buffer alone, and an accepted one has the trimmed path sets for its
+-- `forms::minimal_sets` meets its contract: a refused table leaves the buffer alone, and an accepted one has the trimmed path sets for its
 -- minimal sets.
 -- Assumes nothing.
 use mathlib.Core.Path.{_≡_, sym, ap, _∙_}
@@ -13,12 +13,12 @@ use Rattle.sets.specs.Structures.{minimalSets}
 use Rattle.sets.specs.Tables.{inTable}
 use Rattle.words.specs.Words.{inWords, wordsOf}
 use Rattle.closure.specs.Closure.{trimmed}
 use Rattle.structure.specs.Checks.{tableRefusal}
 use Rattle.structure.proofs.Acceptance.{accepted-table}
 use Rattle.structure.proofs.Walks.{minimal-walk}
 use borrow.Author.Needs.{needs}
-use Rattle.structure.proofs.minimal_sets.Statement.{statement}
-use Rattle.structure.proofs.minimal_sets.Tie as tie
+use Rattle.forms.proofs.minimal_sets.Statement.{statement}
+use Rattle.forms.proofs.minimal_sets.Tie as tie
 
 table-verdict-requires : tie.Need-table-verdict-requires
 table-verdict-requires c κs = search needs

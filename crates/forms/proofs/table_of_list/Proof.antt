@@ -1,31 +1,30 @@
--- `structure::table_of_list` meets its contract: a refused list and a short buffer leave the buffer alone, and an accepted list's carried
+-- `forms::table_of_list` meets its contract: a refused list and a short buffer leave the buffer alone, and an accepted list's carried
 -- sets are its table.
 -- Assumes nothing.
-use mathlib.Core.Path.{_≡_, sym, ap, ap₂, _∙_, subst}
+use mathlib.Core.Path.{_≡_, sym, ap, ap₂, _∙_}
 use mathlib.Core.List.{List, _++_}
-use Prim.Native.Nat.{ℕ, _+_, _*_, _≤_, _<_, min}
+use Prim.Native.Nat.{ℕ, _+_, _*_, min}
 use denote.Ref.{now}
-use lib.ListN.{length, drop}
+use lib.ListN.{drop}
 use lib.Seq.{length-take-le}
-use Rattle.answer.specs.Refusals.{shortBuffer}
-use Rattle.answer.specs.Outcome.{at, outcome, delivered}
+use Rattle.answer.specs.Outcome.{outcome, delivered}
 use Rattle.answer.specs.declared.Verdict.{Verdict}
 use Rattle.answer.specs.declared.Verdict.the-variants.{Accepted}
 use Rattle.answer.specs.declared.Written.{Written}
-use Rattle.answer.specs.declared.Written.the-variants.{Refused}
-use Rattle.answer.proofs.Outcomes.{short-delivered, in-front-delivered}
+use Rattle.answer.proofs.Deliveries.{delivered-short, delivered-whole}
 use Rattle.sets.specs.Structures.{listed}
 use Rattle.numbers.specs.Tables.{tabulate}
+use Rattle.numbers.proofs.Counts.{upTo16-given}
 use Rattle.sets.specs.Tables.{packed, tableOf, tableLength}
 use Rattle.sets.proofs.Tables.{tableOf-length}
 use Rattle.words.specs.Words.{inWords, wordsOf}
 use Rattle.closure.specs.Closure.{spread}
 use Rattle.structure.specs.Checks.{listRefusal}
 use Rattle.structure.proofs.Acceptance.{AcceptedList, accepted-list}
 use Rattle.structure.proofs.Walks.{listed-walk}
 use borrow.Author.Needs.{needs}
-use Rattle.structure.proofs.table_of_list.Statement.{statement}
-use Rattle.structure.proofs.table_of_list.Tie as tie
+use Rattle.forms.proofs.table_of_list.Statement.{statement}
+use Rattle.forms.proofs.table_of_list.Tie as tie
 
 verdict : (c : tie.After-enum-told) → listRefusal (c .before .before .before .before .before .args .n) (now (c .before .before .before .before .before .args .list)) ≡ Accepted
 verdict c = sym (c .before .before .list-verdict .ensures) ∙ c .enum-told .given .1
@@ -43,21 +42,24 @@ enum-told : tie.Need-enum-told
 enum-told c = search needs
 
 table-length-requires : tie.Need-table-length-requires
-table-length-requires c κs = accepted c .few
+table-length-requires c κs = search needs
 
 short-requires : tie.Need-short-requires
 short-requires c κs = search needs
+
+-- the bytes that the table needs
+length-is : (c : tie.After-table-length) → c .table-length .result ≡ tableLength (c .before .before .before .before .before .before .args .n)
+length-is c = c .table-length .ensures ∙ upTo16-given (c .before .before .before .before .before .before .args .n) _ (accepted (c .before) .few)
 
 returns : tie.Need-returns
 returns c =
     let a = c .before .before .before .before .before .before .before .before .args in
     let table = now (a .table) in
     let result = tableOf (a .n) (listed (now (a .list))) in
-    let long : c .before .before .table-length .result ≡ length result = c .before .before .table-length .ensures ∙ sym (tableOf-length (a .n) (listed (now (a .list)))) in
+    let needed = c .before .before .table-length .result in
     ap (λ (w : Written). outcome w table) (c .short .ensures)
-    ∙ ap (λ (k : ℕ). outcome (Refused (at shortBuffer k)) table) long
-    ∙ short-delivered table result (subst (λ (k : ℕ). length table < k) long (c .before .if1 .taken))
-    ∙ ap (λ (v : Verdict). delivered v result table) (sym (verdict (c .before .before .before)))
+    ∙ delivered-short (listRefusal (a .n) (now (a .list))) result table (verdict (c .before .before .before)) needed
+    (length-is (c .before .before) ∙ sym (tableOf-length (a .n) (listed (now (a .list))))) (c .before .if1 .taken)
 
 marked-requires : tie.Need-marked-requires
 marked-requires c κs = search needs
@@ -98,16 +100,14 @@ returns-3 c =
     let passed = c .before .before .before .before .before .before .before .before .before .before in
     let needed = c .before .before .before .before .before .before .before .before .before .table-length .result in
     let result = tableOf n (listed list) in
-    let long : needed ≡ tableLength n = c .before .before .before .before .before .before .before .before .before .table-length .ensures in
-    let whole : needed ≡ length result = long ∙ sym (tableOf-length n (listed list)) in
+    let long : needed ≡ tableLength n = length-is (c .before .before .before .before .before .before .before .before .before) in
     let reached = c .before .before .before .before .before .carried .ensures ∙ ap (λ (ws : List ℕ). wordsOf (spread (min n 16) (inWords ws))) (c .before .before .before .before .before .before .before .marked .ensures) in
     let bytes =
     c .before .before .store .ensures
     ∙ ap₂ (λ (k : ℕ) (ws : List ℕ). tabulate k (λ b. packed 8 (λ i. inWords ws (8 * b + i)))) (length-take-le needed table (c .before .before .before .before .before .before .before .before .if1 .left) ∙ long) reached
     ∙ listed-walk n list (accepted passed) in
-    in-front-delivered table result _ needed (record { ends = whole; stands = ap₂ (λ (xs : List ℕ) (k : ℕ). xs ++ drop k table) bytes whole })
-    (subst (λ (k : ℕ). k ≤ length table) whole (c .before .before .before .before .before .before .before .before .if1 .left))
-    ∙ ap (λ (v : Verdict). delivered v result table) (sym (verdict passed))
+    delivered-whole (listRefusal n list) result table (verdict passed) needed (long ∙ sym (tableOf-length n (listed list))) _
+    (ap (λ (xs : List ℕ). xs ++ drop needed table) bytes) (c .before .before .before .before .before .before .before .before .if1 .left)
 
 pub table-of-list-spec : {M : Type 1} → statement M
 table-of-list-spec =

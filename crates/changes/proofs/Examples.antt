@@ -63,5 +63,5 @@ sensor = refl
 
 -- a first record of a list with a repeat and a nested set
 first : firstRecord 2 (3 ∷ 1 ∷ 1 ∷ []) (replicate 7 9) ≡ outcome (Length 6) (2 ∷ 2 ∷ 1 ∷ 2 ∷ 1 ∷ 1 ∷ 9 ∷ [])
-unfolding firstRecord structure.partListRefusal structure.entriesRefusal tabulate holds any those listed minimal recordBytes headBytes partsBytes formsOf bytesOf grouped
+unfolding firstRecord structure.listRefusal structure.entriesRefusal tabulate holds any those listed minimal recordBytes headBytes partsBytes formsOf bytesOf grouped
 first = refl

@@ -3,6 +3,7 @@
 //! tested; that both give the same results is asserted in every round.
 
 mod baseline {
+    mod counts;
     pub mod figures;
     mod table;
 }

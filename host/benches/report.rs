@@ -5,6 +5,7 @@
 
 mod baseline {
     mod closing;
+    mod counts;
     // The checks of tables are for other benchmarks.
     #[allow(dead_code)]
     mod figures;

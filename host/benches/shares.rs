@@ -3,6 +3,7 @@
 //! the same results, by either route, is asserted in every round.
 
 mod baseline {
+    mod counts;
     pub mod shares;
     mod table;
 }

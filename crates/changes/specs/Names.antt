@@ -38,7 +38,3 @@ LeastNamed sets set =
 -- The structure by part numbers: the machine runs while those parts work, since all parts of some minimal set do.
 abbrev pub runs : Design → (ℕ → Bool) → Bool
 runs d working = some (every working) (namedSets d)
-
--- the set by positions of those that work among the parts with these numbers
-abbrev pub workingSet : List ℕ → (ℕ → Bool) → ℕ
-workingSet numbers working = packed (length numbers) (λ i. working (getD numbers i 0))

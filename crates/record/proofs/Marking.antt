@@ -23,7 +23,8 @@ use Rattle.codec.specs.declared.Field.the-variants.{Record}
 use Rattle.codec.specs.declared.Reading.{Reading}
 use Rattle.codec.specs.declared.Reading.the-variants as reading
 use Rattle.codec.specs.Reading.{numberAt}
-use Rattle.sets.specs.Masks.{any, join, RisingFrom}
+use Rattle.sets.specs.Masks.{any, RisingFrom}
+use Rattle.sets.proofs.Masks.{join}
 use Rattle.sets.proofs.Ranges.{any-same}
 use Rattle.words.specs.Words.{wordsOf, among}
 use Rattle.words.proofs.Words.{wordsOf-none, wordsOf-same, marked-more}

@@ -4,12 +4,11 @@ use mathlib.Core.List.{List, [], _∷_, map, List·Memᴰ}
 use mathlib.Core.Path.{_≡_}
 use Prim.Native.Nat.{ℕ, _-_, _/_}
 use lib.Dec.{eqb}
-use lib.ListN.{length, getD}
+use lib.ListN.{getD}
 use Rattle.algebra.specs.Sums.{some}
 use Rattle.parts.specs.PartLists.{numbersOf}
 use Rattle.parts.specs.Lines.{In}
 use Rattle.sets.specs.Masks.{has}
-use Rattle.sets.specs.Tables.{packed}
 use Rattle.record.specs.Records.{Design}
 use Rattle.changes.specs.Changes.{every}
 

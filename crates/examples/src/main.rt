@@ -193,7 +193,7 @@ fn shares_of_group(name: &[u8], group: usize) {
     let mut cells = [0i64; 12];
     let by_sets = set_route::shares_by_sets(5, &bridge, group, &mut cells);
     vector(b"  set by set", by_sets, &cells);
-    let through = reliability::shares_by_reliability(5, &bridge, group, &mut cells);
+    let through = reliability_route::shares_by_reliability(5, &bridge, group, &mut cells);
     vector(b"  through h", through, &cells);
     let coefficients = reliability::reliability(5, &bridge, group, &mut cells);
     vector(b"  h", coefficients, &cells);

@@ -177,7 +177,7 @@ pub extern "C" fn nahokipe_shares_by_reliability(
 ) -> Answer
     ensures { λ r. ⌜ Leaves (delivered (sharesRefusal n (now (table .entry)) group) (sharesByReliability n (inTable (now (table .entry))) group) (now (cells .entry))) r (now (cells .exit)) ⌝ }
 {
-    of_written(reliability::shares_by_reliability(n, table, group, cells))
+    of_written(reliability_route::shares_by_reliability(n, table, group, cells))
 }
 
 // The coefficients of h(x,z), where x stands for the parts of the group.

@@ -33,7 +33,7 @@ use Rattle.shares.proofs.Reliability.{reliability-by-type}
 use Rattle.group.specs.Steps.{gathered}
 use Rattle.group.proofs.Gathering.{gathered-list-few, gathered-words}
 use Rattle.reliability.specs.Steps.{Few, typeOf, typeTerm, coefficientOf}
-use Rattle.reliability.proofs.Sums.{row-below, place-below, grid-sum}
+use Rattle.shares.proofs.Sums.{row-below, place-below, grid-sum}
 
 -- ---- counts by type
 

@@ -1,4 +1,1 @@
-pub mod Sums
 pub mod Coefficients
-pub mod FromCells
-pub mod ThroughH

@@ -1,17 +1,12 @@
 -- What the private functions do: a reader of the promises may pass this file over.
 use mathlib.Core.List.{List}
-use mathlib.Core.Path.{_≡_}
 use Prim.Native.Nat.{ℕ, suc, _+_, _-_, _*_, _≤_}
-use lib.IntN.{ℤ, pos, negsuc, natAbs, _*ℤ_}
+use lib.IntN.{ℤ, pos, _*ℤ_}
 use lib.ListN.{getD}
-use Rattle.numbers.specs.Counts.{factorial, choose}
+use Rattle.numbers.specs.Counts.{choose}
 use Rattle.algebra.specs.Sums.{sumBelowℤ}
 use Rattle.figures.specs.Figures.{sign, domination}
-use Rattle.shares.specs.Shares.{inside, outside, inCells}
-use Rattle.shares.specs.Polynomials.{shareFrom}
-use Rattle.shares.specs.Steps.{powerWeight}
-
--- ---- h from counts by type
+use Rattle.shares.specs.Shares.{inside, outside}
 
 -- no count is over 65,536
 abbrev pub Few : List ℕ → Type 0
@@ -29,26 +24,3 @@ typeTerm n m counts i j b a = choose (m - a) (i - a) * choose (n - m - b) (j - b
 unfoldable pub coefficientOf : ℕ → ℕ → List ℕ → ℕ → ℕ → ℤ
 coefficientOf n m counts i j =
     sumBelowℤ (λ b. sign (j - b) *ℤ pos (choose (n - m - b) (j - b)) *ℤ domination m (λ a. getD counts (a * 17 + b) 0) i) (suc j)
-
--- ---- a share from h
-
--- how far a number is above 0, and how far below
-unfoldable pub above : ℤ → ℕ
-above (pos x) = x
-above (negsuc x) = 0
-
-unfoldable pub below : ℤ → ℕ
-below (pos x) = 0
-below (negsuc x) = suc x
-
--- what the coefficient of x^(i+1) z^j counts for in the share for k, without n!/L
-unfoldable pub cellWeight : ℕ → ℕ → ℕ → ℕ → ℕ → ℕ
-cellWeight n m k i j = choose (m - 1 - i) (k - 1) * (i + 1) * powerWeight n m k j
-
--- a number in 0..n!
-abbrev pub InRange : ℕ → ℤ → Type 0
-InRange n z = (z ≡ pos (natAbs z)) × (natAbs z ≤ factorial n)
-
--- the share for k by the coefficients that stand in cells
-abbrev pub shareOfCells : ℕ → ℕ → List ℤ → ℕ → ℤ
-shareOfCells n m cells k = shareFrom n m (inCells n m cells) k

@@ -24,7 +24,7 @@ pub fn shares_by_both_routes(
         Written::Refused(refusal) => Written::Refused(refusal),
         Written::Length(needed) => {
             set_route::shares_by_sets(n, table, group, first);
-            reliability::shares_by_reliability(n, table, group, second);
+            reliability_route::shares_by_reliability(n, table, group, second);
             Written::Length(needed)
         }
     }

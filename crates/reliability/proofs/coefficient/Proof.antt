@@ -13,7 +13,7 @@ use mir.Syntax.{w64}
 use borrow.Author.Needs.{needs}
 use Rattle.integers.proofs.Differences.{difference-small}
 use Rattle.algebra.specs.Sums.{sumBelowℤ}
-use Rattle.reliability.proofs.Sums.{carried-none, carried-more, row-below, place-below}
+use Rattle.shares.proofs.Sums.{carried-none, carried-more, row-below, place-below}
 use Rattle.reliability.proofs.Coefficients.{typeTerm-few, signedTerm, coefficient-terms, term-added, term-taken}
 use Rattle.reliability.proofs.coefficient.Statement.{statement}
 use Rattle.reliability.proofs.coefficient.Tie as tie

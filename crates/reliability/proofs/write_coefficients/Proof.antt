@@ -13,7 +13,7 @@ use mir.Syntax.{w64}
 use Rattle.numbers.proofs.Tables.{filled, filled-none, filled-again, filled-length}
 use Rattle.shares.specs.Shares.{rowLength}
 use Rattle.reliability.specs.Steps.{coefficientOf}
-use Rattle.reliability.proofs.Sums.{row-below, place-below}
+use Rattle.shares.proofs.Sums.{row-below, place-below}
 use Rattle.reliability.proofs.Coefficients.{cells-few}
 use Rattle.reliability.proofs.write_coefficients.Statement.{statement}
 use Rattle.reliability.proofs.write_coefficients.Tie as tie

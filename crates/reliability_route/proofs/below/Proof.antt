@@ -1,4 +1,4 @@
--- `reliability::below` meets its contract: a number below 0 is as far from it as its magnitude.
+-- `reliability_route::below` meets its contract: a number below 0 is as far from it as its magnitude.
 -- Assumes nothing.
 use mathlib.Core.Path.{sym, ap, _∙_}
 use lib.IntN.{natAbs}
@@ -6,9 +6,9 @@ use mir.Facts.{toZ-ofZ}
 use mir.Syntax.{w64}
 use borrow.Author.Needs.{needs}
 use Rattle.integers.proofs.Signs.{less-found, whole-found}
-use Rattle.reliability.specs.Steps.{below}
-use Rattle.reliability.proofs.below.Statement.{statement}
-use Rattle.reliability.proofs.below.Tie as tie
+use Rattle.reliability_route.specs.Steps.{below}
+use Rattle.reliability_route.proofs.below.Statement.{statement}
+use Rattle.reliability_route.proofs.below.Tie as tie
 
 magnitude-requires : tie.Need-magnitude-requires
 magnitude-requires c κs = search needs

@@ -1,4 +1,4 @@
--- `reliability::above` meets its contract: a number that is not below 0 is its own magnitude.
+-- `reliability_route::above` meets its contract: a number that is not below 0 is its own magnitude.
 -- Assumes nothing.
 use mathlib.Core.Path.{sym, ap, _∙_}
 use lib.IntN.{natAbs}
@@ -6,9 +6,9 @@ use mir.Facts.{toZ-ofZ}
 use mir.Syntax.{w64}
 use borrow.Author.Needs.{needs}
 use Rattle.integers.proofs.Signs.{less-found, whole-found}
-use Rattle.reliability.specs.Steps.{above}
-use Rattle.reliability.proofs.above.Statement.{statement}
-use Rattle.reliability.proofs.above.Tie as tie
+use Rattle.reliability_route.specs.Steps.{above}
+use Rattle.reliability_route.proofs.above.Statement.{statement}
+use Rattle.reliability_route.proofs.above.Tie as tie
 
 magnitude-requires : tie.Need-magnitude-requires
 magnitude-requires c κs = search needs

@@ -24,9 +24,9 @@ use Rattle.shares.specs.Steps.{common, powerWeight, Bounded}
 use Rattle.shares.proofs.Magnitudes.{natAbs-product}
 use Rattle.shares.proofs.Regrouped.{powerTerm, powerSum, regrouped, powerWeight-whole, share-regrouped}
 use Rattle.shares.proofs.Terms.{terms-most, limit-few}
-use Rattle.reliability.specs.Steps.{above, below, cellWeight}
-use Rattle.reliability.proofs.Sums.{grid-sum, grid-sumℕ}
+use Rattle.reliability_route.specs.Steps.{above, below, cellWeight}
+use Rattle.shares.proofs.Sums.{grid-sum, grid-sumℕ}
 use Rattle.reliability.proofs.Coefficients.{choose-few}
 
 -- ---- by computing
 

@@ -1,4 +1,4 @@
--- `reliability::share_from_cells` meets its contract: what the cells add and take stays below 2^45, and the last product is the share, which is in
+-- `reliability_route::share_from_cells` meets its contract: what the cells add and take stays below 2^45, and the last product is the share, which is in
 -- 0..n!.
 -- Assumes nothing.
 use mathlib.Core.Path.{_≡_, refl, sym, ap, ap₂, _∙_, subst}
@@ -20,11 +20,11 @@ use Rattle.algebra.specs.Sums.{sumBelow, sumBelowℤ}
 use Rattle.shares.specs.Shares.{rowLength, inCells}
 use Rattle.shares.specs.Steps.{common}
 use Rattle.algebra.proofs.Sums.{sumBelow-prefix}
-use Rattle.reliability.specs.Steps.{above, below, cellWeight, shareOfCells}
-use Rattle.reliability.proofs.Sums.{carried-none, carried-more, row-below, place-below}
-use Rattle.reliability.proofs.FromCells.{common-some, factorial-small, cellTerm, cellSize, cells-most, taken-fewer, share-number, next-row, cell-apart, cell-size}
-use Rattle.reliability.proofs.share_from_cells.Statement.{statement}
-use Rattle.reliability.proofs.share_from_cells.Tie as tie
+use Rattle.reliability_route.specs.Steps.{above, below, cellWeight, shareOfCells}
+use Rattle.shares.proofs.Sums.{carried-none, carried-more, row-below, place-below}
+use Rattle.reliability_route.proofs.FromCells.{common-some, factorial-small, cellTerm, cellSize, cells-most, taken-fewer, share-number, next-row, cell-apart, cell-size}
+use Rattle.reliability_route.proofs.share_from_cells.Statement.{statement}
+use Rattle.reliability_route.proofs.share_from_cells.Tie as tie
 
 -- what is carried: the cells so far, by their terms and by the size of these
 record Carried (n m : ℕ) (cells : List ℤ) (k row end added taken c : ℕ) : Type 0 where

@@ -1,12 +1,12 @@
--- `reliability::entry` meets its contract: beyond the last number the default is 0.
+-- `reliability_route::entry` meets its contract: beyond the last number the default is 0.
 -- Assumes nothing.
 use mathlib.Core.Path.{sym}
 use denote.Ref.{now}
 use lib.IntN.{pos}
 use lib.ListN.{List·getD-eq-default}
 use borrow.Author.Needs.{needs}
-use Rattle.reliability.proofs.entry.Statement.{statement}
-use Rattle.reliability.proofs.entry.Tie as tie
+use Rattle.reliability_route.proofs.entry.Statement.{statement}
+use Rattle.reliability_route.proofs.entry.Tie as tie
 
 mul-result : tie.Need-mul-result
 mul-result c = search needs

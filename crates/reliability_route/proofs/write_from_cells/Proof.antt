@@ -1,4 +1,4 @@
--- `reliability::write_from_cells` meets its contract: the shares are filled from the front, and the rest is as it was.
+-- `reliability_route::write_from_cells` meets its contract: the shares are filled from the front, and the rest is as it was.
 -- Assumes nothing.
 use mathlib.Core.Path.{_≡_, ap, _∙_}
 use mathlib.Core.List.{List}
@@ -13,9 +13,9 @@ use mir.Facts.{toZ-ofZ}
 use mir.Syntax.{w64}
 use Rattle.numbers.proofs.Tables.{filled, filled-none, filled-again, filled-length}
 use Rattle.shares.specs.Shares.{sharesFromCells}
-use Rattle.reliability.specs.Steps.{shareOfCells}
-use Rattle.reliability.proofs.write_from_cells.Statement.{statement}
-use Rattle.reliability.proofs.write_from_cells.Tie as tie
+use Rattle.reliability_route.specs.Steps.{shareOfCells}
+use Rattle.reliability_route.proofs.write_from_cells.Statement.{statement}
+use Rattle.reliability_route.proofs.write_from_cells.Tie as tie
 
 -- the share in cell k
 abbrev share : ℕ → ℕ → List ℤ → ℕ → ℤ

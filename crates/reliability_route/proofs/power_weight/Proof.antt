@@ -1,4 +1,4 @@
--- `reliability::power_weight` meets its contract: the divisor is not 0, since it divides L.
+-- `reliability_route::power_weight` meets its contract: the divisor is not 0, since it divides L.
 -- Assumes nothing.
 use mathlib.Core.Path.{_≡_, ap, ap₂, _∙_}
 use Prim.Native.Nat.{ℕ, _+_, _*_, _/_}
@@ -7,9 +7,9 @@ use borrow.Author.Needs.{needs}
 use Rattle.numbers.specs.Counts.{choose}
 use Rattle.numbers.proofs.Counts.{upTo16-given}
 use Rattle.shares.specs.Steps.{powerWeight}
-use Rattle.reliability.proofs.FromCells.{divisor-some, divisor-few}
-use Rattle.reliability.proofs.power_weight.Statement.{statement}
-use Rattle.reliability.proofs.power_weight.Tie as tie
+use Rattle.reliability_route.proofs.FromCells.{divisor-some, divisor-few}
+use Rattle.reliability_route.proofs.power_weight.Statement.{statement}
+use Rattle.reliability_route.proofs.power_weight.Tie as tie
 
 common-requires : tie.Need-common-requires
 common-requires c κs = search needs

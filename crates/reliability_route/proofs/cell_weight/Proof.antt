@@ -1,4 +1,4 @@
--- `reliability::cell_weight` meets its contract: the product of the three factors is below 2^40.
+-- `reliability_route::cell_weight` meets its contract: the product of the three factors is below 2^40.
 -- Assumes nothing.
 use mathlib.Core.Path.{_≡_, ap, ap₂, _∙_}
 use Prim.Native.Nat.{ℕ, _+_, _-_, _*_, _≤_}
@@ -7,10 +7,10 @@ use native.Mathlib.Omega.{arith}
 use borrow.Author.Needs.{needs}
 use Rattle.numbers.specs.Counts.{choose}
 use Rattle.numbers.proofs.Counts.{upTo16-given}
-use Rattle.reliability.specs.Steps.{cellWeight}
-use Rattle.reliability.proofs.FromCells.{factors-few, cellWeight-few}
-use Rattle.reliability.proofs.cell_weight.Statement.{statement}
-use Rattle.reliability.proofs.cell_weight.Tie as tie
+use Rattle.reliability_route.specs.Steps.{cellWeight}
+use Rattle.reliability_route.proofs.FromCells.{factors-few, cellWeight-few}
+use Rattle.reliability_route.proofs.cell_weight.Statement.{statement}
+use Rattle.reliability_route.proofs.cell_weight.Tie as tie
 
 sub-binomial : tie.Need-sub-binomial
 sub-binomial c = search needs

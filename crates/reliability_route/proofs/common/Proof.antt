@@ -1,12 +1,12 @@
--- `reliability::common` meets its contract: the constant table is that of the definition.
+-- `reliability_route::common` meets its contract: the constant table is that of the definition.
 -- Assumes nothing.
 use native.Mathlib.Omega.{arith}
 use borrow.Author.Needs.{needs}
 use Rattle.numbers.specs.Tables.{tabulate}
 use Rattle.numbers.proofs.Tables.{tabulate-at}
 use Rattle.shares.specs.Steps.{common}
-use Rattle.reliability.proofs.common.Statement.{statement}
-use Rattle.reliability.proofs.common.Tie as tie
+use Rattle.reliability_route.proofs.common.Statement.{statement}
+use Rattle.reliability_route.proofs.common.Tie as tie
 
 mul-result : tie.Need-mul-result
 mul-result c = search needs

@@ -6,24 +6,29 @@ use mathlib.Core.List.{List, _++_}
 use Prim.Native.Nat.{ℕ, suc, _+_, _-_, _*_, _^_, _≤_, _<_}
 use native.Mathlib.Nat.{le-trans, le-of-eq, mul-le-mul-right}
 use native.Mathlib.Omega.{arith}
+use lib.Count.{ones-le}
 use lib.IntN.{ℤ, pos, natAbs}
-use lib.ListN.{length, getD, drop, List·getD-append}
+use lib.ListN.{length, getD, List·getD-append}
 use Rattle.numbers.proofs.Tables.{tabulate-length, tabulate-same}
 use Rattle.sets.specs.Masks.{size}
 use Rattle.sets.specs.Structures.{Semicoherent}
+use Rattle.sets.specs.Tables.{inTable}
+use Rattle.answer.specs.Outcome.{outcome, delivered}
+use Rattle.answer.specs.declared.Refusal.{Refusal}
+use Rattle.answer.specs.declared.Verdict.the-variants.{Accepted}
+use Rattle.answer.specs.declared.Written.{Written}
+use Rattle.answer.specs.declared.Written.the-variants.{Length, Refused}
+use Rattle.answer.proofs.Deliveries.{refused-kept, refused-by, Given, given}
 use Rattle.orders.specs.Counting.{count}
 use Rattle.shares.specs.Shares.{rowLength, reliabilityCells, inCells, sharesFromCells, sharesByReliability}
 use Rattle.shares.specs.Steps.{Bounded}
 use Rattle.shares.proofs.Bounds.{cells-bounded}
 use Rattle.shares.proofs.Cells.{shareFrom-same}
-use Rattle.shares.proofs.Claim.{cells-share}
+use Rattle.shares.specs.Refusals.{sharesRefusal}
+use Rattle.shares.proofs.Claim.{cells-share, accepted-group}
 use Rattle.shares.proofs.Ranges.{count-most}
-use Rattle.reliability.specs.Steps.{InRange, shareOfCells}
-use Rattle.reliability.proofs.Coefficients.{cells-length}
-
-pub by-reliability-length : (n : ℕ) (works : ℕ → Bool) (group : ℕ) → length (sharesByReliability n works group) ≡ size group
-unfolding sharesByReliability sharesFromCells
-by-reliability-length n works group = tabulate-length (size group) _
+use Rattle.reliability_route.specs.Steps.{InRange, shareOfCells}
+use Rattle.reliability.proofs.Coefficients.{cells-few, cells-length}
 
 module _ (n : ℕ) (works : ℕ → Bool) (group : ℕ) (within : group < 2 ^ n) (cells rest : List ℤ) (is : cells ≡ reliabilityCells n works group ++ rest) where
   coefficient-same : (i j : ℕ) → i ≤ size group → j ≤ n - size group
@@ -56,10 +61,33 @@ module _ (n : ℕ) (works : ℕ → Bool) (group : ℕ) (within : group < 2 ^ n)
           le-trans (le-of-eq (ap natAbs (number h))) (count-most n works group k),
         )
 
-    -- what the shares are written as
-    pub reliability-written : (shares after : List ℤ) → after ≡ sharesFromCells n m cells ++ drop m shares
-        → after ≡ sharesByReliability n works group ++ drop (size group) shares
+    -- the shares from the list are those through h
+    pub shares-same : sharesFromCells n m cells ≡ sharesByReliability n works group
     unfolding sharesByReliability sharesFromCells
-    reliability-written shares after e =
-        e ∙ ap (λ (m : ℕ). sharesFromCells n m cells ++ drop m shares) sized
-        ∙ ap (λ (xs : List ℤ). xs ++ drop (size group) shares) (tabulate-same (size group) _ _ (λ k l. share-same (suc k) (omega arith) l))
+    shares-same =
+        ap (λ (m : ℕ). sharesFromCells n m cells) sized
+        ∙ tabulate-same (size group) _ _ (λ k l. share-same (suc k) (omega arith) l)
+
+-- there are m shares from cells
+pub from-cells-length : (n m : ℕ) (cells : List ℤ) → m ≡ length (sharesFromCells n m cells)
+unfolding sharesFromCells
+from-cells-length n m cells = sym (tabulate-length m _)
+
+-- where nothing refuses, 289 cells are enough for h
+pub cells-fit : (n : ℕ) (table : List ℕ) (group : ℕ) → sharesRefusal n table group ≡ Accepted → length (reliabilityCells n (inTable table) group) ≤ 289
+cells-fit n table group accepted =
+    let checked = accepted-group n table group accepted in
+    le-trans (le-of-eq (cells-length n (inTable table) group)) (cells-few n (size group) (checked .few) (ones-le n group (checked .within)))
+
+-- what a call that works out h in a buffer of 289 cells tells
+module _ (n : ℕ) (table : List ℕ) (group : ℕ) (buffer after : List ℤ) (answer : Written) (long : length buffer ≡ 289)
+    (left : outcome answer after ≡ delivered (sharesRefusal n table group) (reliabilityCells n (inTable table) group) buffer) where
+  pub found-refused : (why : Refusal) → answer ≡ Refused why → (result shares : List ℤ) → outcome (Refused why) shares ≡ delivered (sharesRefusal n table group) result shares
+  found-refused why is result shares =
+      refused-kept (sharesRefusal n table group) result shares why
+      (refused-by (sharesRefusal n table group) (reliabilityCells n (inTable table) group) buffer after why
+      (λ accepted. le-trans (cells-fit n table group accepted) (le-of-eq (sym long))) (ap (λ (w : Written). outcome w after) (sym is) ∙ left))
+
+  pub found-given : (count : ℕ) → answer ≡ Length count → Given (sharesRefusal n table group) (reliabilityCells n (inTable table) group) buffer after count
+  found-given count is =
+      given (sharesRefusal n table group) (reliabilityCells n (inTable table) group) buffer after count (ap (λ (w : Written). outcome w after) (sym is) ∙ left)

@@ -27,10 +27,12 @@ use Rattle.words.specs.Words.{inWords, wordOf, wordsOf}
 use Rattle.words.proofs.Words.{inWords-wordsOf}
 use Rattle.structure.proofs.Acceptance.{AcceptedTable, table-beyond}
 use Rattle.figures.specs.Figures.{importance, importances}
-use Rattle.signature.specs.Steps.{hasPart, Few, countsOf, ways, addedSets, takenSets, Parted, rowsOf, row, importanceBy, Rows}
+use Rattle.tally.specs.Rows.{hasPart, rowsOf, row}
+use Rattle.tally.specs.Steps.{Few}
+use Rattle.signature.specs.Steps.{countsOf, ways, addedSets, takenSets, Parted, importanceBy, Rows}
 use Rattle.figures.proofs.Sizes.{pathCount-few}
 use Rattle.numbers.proofs.Tables.{tabulate-same}
-use Rattle.signature.proofs.Rows.{row-is}
+use Rattle.tally.proofs.Rows.{row-is}
 use Rattle.figures.proofs.Importances.{withPart, withPart-fewer, importance-by-size}
 
 -- ---- the words of a table

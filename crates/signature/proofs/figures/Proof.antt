@@ -20,7 +20,9 @@ use Rattle.structure.specs.Checks.{tableRefusal}
 use Rattle.structure.proofs.Acceptance.{AcceptedTable, accepted-table}
 use Rattle.figures.specs.Figures.{importances}
 use Rattle.signature.specs.All.{Buffers, buffersOf, roomRefusal, deliveredAll, allFigures}
-use Rattle.signature.specs.Steps.{countsOf, cellAt, Few, row, importanceBy, Rows}
+use Rattle.tally.specs.Rows.{row}
+use Rattle.tally.specs.Steps.{Few}
+use Rattle.signature.specs.Steps.{countsOf, cellAt, importanceBy, Rows}
 use Rattle.signature.specs.declared.Kind.the-variants.{PathCounts, Signature, Domination}
 use Rattle.signature.proofs.Machines.{table-counts, table-few, all-row, table-rows, table-importances}
 use Rattle.signature.proofs.Rooms.{Room, room-accepted, all-given}

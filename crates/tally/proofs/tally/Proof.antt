@@ -1,4 +1,4 @@
--- `signature::tally` meets its contract: each word adds to each row its sets that have the row's part.
+-- `tally::tally` meets its contract: each word adds to each row its sets that have the row's part.
 -- Assumes nothing.
 use mathlib.Core.Path.{_≡_, refl, sym, ap, ap₂, _∙_, subst}
 use mathlib.Core.Bool.{Bool, _&&_}
@@ -15,11 +15,12 @@ use Rattle.sets.specs.Masks.{has, size, meet}
 use Rattle.sets.proofs.Masks.{has-meet}
 use Rattle.words.specs.Words.{inWords, wordOf}
 use Rattle.words.proofs.Words.{inWords-at, has-wordOf}
-use Rattle.signature.specs.Steps.{hasPart, inWord, Few, rowsOf}
+use Rattle.tally.specs.Rows.{hasPart, rowsOf}
+use Rattle.tally.specs.Steps.{inWord, Few}
 use Rattle.numbers.proofs.Tables.{tabulate-same}
-use Rattle.signature.proofs.Words.{sizes, sizes-most, sizes-next, sizes-all, tabulate-few}
-use Rattle.signature.proofs.tally.Statement.{statement}
-use Rattle.signature.proofs.tally.Tie as tie
+use Rattle.tally.proofs.Words.{sizes, sizes-most, sizes-next, sizes-all, tabulate-few}
+use Rattle.tally.proofs.tally.Statement.{statement}
+use Rattle.tally.proofs.tally.Tie as tie
 
 -- the path sets that have a row's part
 chosen : List ℕ → ℕ → ℕ → Bool

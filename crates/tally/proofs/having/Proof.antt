@@ -1,4 +1,4 @@
--- `signature::having` meets its contract: for the six parts within a word the word is computed, and for the others the word's index decides.
+-- `tally::having` meets its contract: for the six parts within a word the word is computed, and for the others the word's index decides.
 -- Assumes nothing.
 use mathlib.Core.Path.{_≡_, ap, sym}
 use Prim.Native.Nat.{ℕ, _-_, _%_, _/_, _^_, _≤_, _<_}
@@ -6,9 +6,9 @@ use native.Mathlib.Omega.{arith}
 use Rattle.sets.specs.Masks.{has}
 use Rattle.sets.specs.Tables.{packed}
 use Rattle.sets.proofs.Masks.{bit-of-odd, bit-of-even}
-use Rattle.signature.proofs.Words.{having-low, having-all, having-none, having-every}
-use Rattle.signature.proofs.having.Statement.{statement}
-use Rattle.signature.proofs.having.Tie as tie
+use Rattle.tally.proofs.Words.{having-low, having-all, having-none, having-every}
+use Rattle.tally.proofs.having.Statement.{statement}
+use Rattle.tally.proofs.having.Tie as tie
 
 wordFor : ℕ → ℕ
 wordFor part = packed 64 (λ k. has k part)

@@ -1,4 +1,4 @@
--- `signature::of_size` meets its contract: for each of the seven sizes the word is computed.
+-- `tally::of_size` meets its contract: for each of the seven sizes the word is computed.
 -- Assumes nothing.
 use mathlib.Core.Path.{_≡_, ap, sym}
 use Prim.Native.Nat.{ℕ}
@@ -7,8 +7,8 @@ use lib.Count.{ones, onesIn}
 use lib.Dec.{eqb}
 use Rattle.sets.specs.Masks.{size}
 use Rattle.sets.specs.Tables.{packed}
-use Rattle.signature.proofs.of_size.Statement.{statement}
-use Rattle.signature.proofs.of_size.Tie as tie
+use Rattle.tally.proofs.of_size.Statement.{statement}
+use Rattle.tally.proofs.of_size.Tie as tie
 
 wordFor : ℕ → ℕ
 wordFor k = packed 64 (λ m. eqb (size m) k)

@@ -13,7 +13,7 @@ use Rattle.numbers.specs.Tables.{tabulate}
 use Rattle.numbers.proofs.Tables.{tabulate-length, tabulate-at, tabulate-unique, filled, filled-from, filled-length}
 use Rattle.sets.proofs.Ranges.{below-or-above}
 use Rattle.orders.specs.Formulas.{pathCount}
-use Rattle.signature.specs.Steps.{hasPart, rowsOf}
+use Rattle.tally.specs.Rows.{hasPart, rowsOf}
 
 -- ---- tables and parts of them
 

@@ -27,7 +27,8 @@ use Rattle.orders.proofs.Orders.{eqb-comm}
 use Rattle.orders.proofs.Sizes.{size-bits}
 use Rattle.words.specs.Words.{wordOf}
 use Rattle.words.proofs.Words.{wordOf-unique}
-use Rattle.signature.specs.Steps.{hasPart, inWord, Few}
+use Rattle.tally.specs.Rows.{hasPart}
+use Rattle.tally.specs.Steps.{inWord, Few}
 
 -- ---- the sets that have a part
 

@@ -1,4 +1,4 @@
--- `signature::add_rows` meets its contract: row after row gets the sets of the word that have its part.
+-- `tally::add_rows` meets its contract: row after row gets the sets of the word that have its part.
 -- Assumes nothing.
 use mathlib.Core.Path.{_≡_, sym, ap, ap₂, _∙_}
 use mathlib.Core.List.{List}
@@ -12,11 +12,12 @@ use borrow.Author.Needs.{needs}
 use Rattle.numbers.proofs.Tables.{filled, filled-none, filled-all, filled-length}
 use Rattle.sets.specs.Masks.{size, meet}
 use Rattle.words.specs.Words.{wordOf}
-use Rattle.signature.specs.Steps.{hasPart, inWord}
+use Rattle.tally.specs.Rows.{hasPart}
+use Rattle.tally.specs.Steps.{inWord}
 use Rattle.numbers.proofs.Tables.{tabulate-same}
-use Rattle.signature.proofs.Rows.{row-length, row-few, row-old, row-back}
-use Rattle.signature.proofs.add_rows.Statement.{statement}
-use Rattle.signature.proofs.add_rows.Tie as tie
+use Rattle.tally.proofs.Rows.{row-length, row-few, row-old, row-back}
+use Rattle.tally.proofs.add_rows.Statement.{statement}
+use Rattle.tally.proofs.add_rows.Tie as tie
 
 -- what a count becomes
 more : List ℕ → ℕ → ℕ → ℕ → ℕ

@@ -1,4 +1,4 @@
--- `signature::sized` meets its contract: each word adds its sets to the counts of their sizes.
+-- `tally::sized` meets its contract: each word adds its sets to the counts of their sizes.
 -- Assumes nothing.
 use mathlib.Core.Path.{_≡_, refl, sym, ap, _∙_, subst}
 use mathlib.Core.List.{List}
@@ -15,11 +15,11 @@ use Rattle.orders.specs.Formulas.{pathCount}
 use Rattle.sets.specs.Masks.{has, size}
 use Rattle.words.specs.Words.{inWords}
 use Rattle.words.proofs.Words.{inWords-at}
-use Rattle.signature.specs.Steps.{inWord, Few}
+use Rattle.tally.specs.Steps.{inWord, Few}
 use Rattle.numbers.proofs.Tables.{tabulate-same}
-use Rattle.signature.proofs.Words.{sizes, sizes-most, sizes-next, sizes-all, tabulate-few}
-use Rattle.signature.proofs.sized.Statement.{statement}
-use Rattle.signature.proofs.sized.Tie as tie
+use Rattle.tally.proofs.Words.{sizes, sizes-most, sizes-next, sizes-all, tabulate-few}
+use Rattle.tally.proofs.sized.Statement.{statement}
+use Rattle.tally.proofs.sized.Tie as tie
 
 abbrev Inv-loop : tie.InvT-loop
 Inv-loop words counts₀ at₀ counts at = (at ≤ 1024) × (counts ≡ tabulate 17 (sizes (inWords words) at))

@@ -1,4 +1,4 @@
--- `signature::add_word` meets its contract: the sets of each size within the word are counted and added where that size stands.
+-- `tally::add_word` meets its contract: the sets of each size within the word are counted and added where that size stands.
 -- Assumes nothing.
 use mathlib.Core.Path.{_≡_, sym, ap, _∙_, subst}
 use Prim.Native.Nat.{ℕ, _+_, _-_, _≤_, _<_}
@@ -8,9 +8,9 @@ use denote.Ref.{now}
 use lib.Count.{ones}
 use lib.ListN.{length, getD, length-set}
 use Rattle.sets.specs.Masks.{meet}
-use Rattle.signature.proofs.Words.{ofSize, ofSize-ones, ofSize-few, smaller-few, Added, added-none, added-more, added-all, inWord-none}
-use Rattle.signature.proofs.add_word.Statement.{statement}
-use Rattle.signature.proofs.add_word.Tie as tie
+use Rattle.tally.proofs.Words.{ofSize, ofSize-ones, ofSize-few, smaller-few, Added, added-none, added-more, added-all, inWord-none}
+use Rattle.tally.proofs.add_word.Statement.{statement}
+use Rattle.tally.proofs.add_word.Tie as tie
 
 abbrev Inv-loop : tie.InvT-loop
 Inv-loop counts₀ word base k₀ counts k = (k ≤ 7) × ((length counts ≡ 17) × Added word base counts₀ counts k)

@@ -1,6 +1,4 @@
-pub mod Words
-pub mod Rows
+pub mod Vectors
 pub mod Machines
-pub mod Deliveries
 pub mod Rooms
 pub mod Claims

@@ -10,10 +10,12 @@ use native.Mathlib.Omega.{arith}
 use lib.Count.{ones-le}
 use lib.Dec.{eqb}
 use lib.ListN.{length, getD, take, drop, List·getD-eq-default}
+use lib.IntN.{ℤ, pos}
 use lib.Pow.{pow-mono}
+use lib.Seq.{getD-take, length-take-le}
 use borrow.Author.Tests.{ne-eqb, lt-leb}
 use Rattle.numbers.specs.Tables.{tabulate}
-use Rattle.numbers.proofs.Tables.{tabulate-at, tabulate-length}
+use Rattle.numbers.proofs.Tables.{tabulate-at, tabulate-length, tabulate-unique}
 use Rattle.algebra.specs.Sums.{sumBelow}
 use Rattle.algebra.proofs.Sums.{sumBelow-same, sumBelow-zero, sumBelow-append}
 use Rattle.sets.specs.Masks.{has, size}
@@ -26,7 +28,7 @@ use Rattle.figures.proofs.Ranges.{factorials-few}
 use Rattle.words.specs.Words.{inWords, wordOf, wordsOf}
 use Rattle.words.proofs.Words.{inWords-wordsOf}
 use Rattle.structure.proofs.Acceptance.{AcceptedTable, table-beyond}
-use Rattle.figures.specs.Figures.{importance, importances}
+use Rattle.figures.specs.Figures.{importance, pathCounts, importances}
 use Rattle.tally.specs.Rows.{hasPart, rowsOf, row}
 use Rattle.tally.specs.Steps.{Few}
 use Rattle.signature.specs.Steps.{countsOf, ways, addedSets, takenSets, Parted, importanceBy, Rows}
@@ -110,6 +112,15 @@ module _ (n : ℕ) (table : List ℕ) (accepted : AcceptedTable n table) where
       pub table-few : Few counts
       table-few s =
           le-trans (le-of-eq (ap (λ (f : ℕ → ℕ). f s) table-counts)) (le-trans (pathCount-few n (inTable table) s) (pow-mono (accepted .few)))
+
+      -- as entries, those up to n
+      pub table-entries : (entries : List ℤ) → entries ≡ tabulate 17 (λ s. pos (countsOf counts s)) → take (n + 1) entries ≡ pathCounts n (inTable table)
+      table-entries entries e =
+          tabulate-unique (n + 1) (λ j. pos (pathCount n (inTable table) j)) (take (n + 1) entries) (pos 0)
+          (length-take-le (n + 1) entries (omega (arith, accepted .few, ap length e ∙ tabulate-length 17 (λ s. pos (countsOf counts s)))))
+          (λ j h.
+          getD-take (n + 1) entries j (pos 0) h ∙ ap (λ (xs : List ℤ). getD xs j (pos 0)) e
+          ∙ tabulate-at 17 (λ s. pos (countsOf counts s)) j (pos 0) (omega (arith, h, accepted .few)) ∙ ap (λ (f : ℕ → ℕ). pos (f j)) table-counts)
 
     module _ (rows : List ℕ) (is : rows ≡ rowsOf (inWords words)) where
       row-of : (part : ℕ) → part < 17 → row part rows ≡ tabulate 17 (pathCount 16 (λ a. inTable table a && hasPart part a))

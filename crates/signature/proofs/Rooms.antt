@@ -12,7 +12,8 @@ use Rattle.answer.specs.Refusals.{shortBuffer}
 use Rattle.answer.specs.declared.Verdict.the-variants.{Accepted, Refused}
 use Rattle.answer.proofs.Outcomes.{refuse-accepted, refuse-passed, refuse-held}
 use Rattle.figures.specs.Figures.{pathCounts, signatures, dominations, importances}
-use Rattle.signature.specs.All.{Buffers, buffersOf, roomRefusal, allOutcome, deliveredAll}
+use Rattle.signature.specs.All.{Buffers, buffersOf, roomRefusal}
+use Rattle.signature.specs.Steps.{allWritten}
 
 pub record Room (n counts signature domination importance : ℕ) : Type 0 where
   pub for-counts : n + 1 ≤ counts
@@ -60,11 +61,10 @@ module _ (n counts signature domination importance : ℕ) where
         room-enough h = sym (passed ∙ refuse-passed _ shortBuffer n _ (le-ltb importance n h))
 
 -- all four results written
-pub all-given : (n : ℕ) (works : ℕ → Bool) (old : Buffers) (counts signature domination : List ℤ) (importance : List ℕ)
+pub all-written : (n : ℕ) (works : ℕ → Bool) (old : Buffers) (counts signature domination : List ℤ) (importance : List ℕ)
     → counts ≡ pathCounts n works ++ drop (n + 1) (old .counts) → signature ≡ signatures n works ++ drop n (old .signature)
     → domination ≡ dominations n works ++ drop (n + 1) (old .domination) → importance ≡ importances n works ++ drop n (old .importance)
-    → allOutcome Accepted (buffersOf counts signature domination importance) ≡ deliveredAll Accepted n works old
-all-given n works old counts signature domination importance e1 e2 e3 e4 =
-    ap₂ (λ (x y : List ℤ). allOutcome Accepted (buffersOf x y domination importance)) e1 e2
-    ∙ ap₂ (λ (x : List ℤ) (y : List ℕ). allOutcome Accepted
-    (buffersOf (pathCounts n works ++ drop (n + 1) (old .counts)) (signatures n works ++ drop n (old .signature)) x y)) e3 e4
+    → buffersOf counts signature domination importance ≡ allWritten n works old
+all-written n works old counts signature domination importance e1 e2 e3 e4 =
+    ap₂ (λ (x y : List ℤ). buffersOf x y domination importance) e1 e2
+    ∙ ap₂ (λ (x : List ℤ) (y : List ℕ). buffersOf (pathCounts n works ++ drop (n + 1) (old .counts)) (signatures n works ++ drop n (old .signature)) x y) e3 e4

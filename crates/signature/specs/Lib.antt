@@ -1,2 +1,3 @@
 pub mod All
+pub mod Vectors
 pub mod Steps

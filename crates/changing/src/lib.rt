@@ -240,8 +240,8 @@ fn minimal_of_sets(n: usize, sets: &[u16], minimal: &mut [u16]) -> Written
     ensures { λ r. ⌜ outcome r (now (minimal .exit)) ≡ delivered Verdict.Accepted (minimalSets n (listed (now (sets .entry)))) (now (minimal .entry)) ⌝ }
 {
     let marks = words::marked(sets);
-    let reached = words::carried(&marks, n);
-    let least = words::trimmed(&reached, n);
+    let reached = closure::carried(&marks, n);
+    let least = closure::trimmed(&reached, n);
     words::list(&least, minimal)
 }
 

@@ -182,7 +182,7 @@ pub fn table_of_record(bytes: &[u8], table: &mut [u8]) -> Written
             }
             let marked = mark_sets(bytes, contents.begin, n, contents.sets);
             let words = marked.words;
-            let reached = words::carried(&words, n);
+            let reached = closure::carried(&words, n);
             words::store(&reached, &mut table[..needed]);
             Written::Length(needed)
         }
@@ -419,8 +419,8 @@ fn read_sets(bytes: &[u8], start: usize, n: usize, count: usize) -> Ending
 {
     let marked = mark_sets(bytes, start, n, count);
     let words = marked.words;
-    let reached = words::carried(&words, n);
-    let minimal = words::trimmed(&reached, n);
+    let reached = closure::carried(&words, n);
+    let minimal = closure::trimmed(&reached, n);
     let nested = first_nested(bytes, start, marked.read, &minimal);
     if let Verdict::Refused(refusal) = nested {
         return Ending::Refused(refusal);

@@ -15,11 +15,11 @@ use Rattle.numbers.proofs.Tables.{tabulate-length, tabulate-at, tabulate-unique
 use Rattle.algebra.proofs.IntegerSums.{sumBelowℤ-same}
 use Rattle.orders.specs.Formulas.{pathCount}
 use Rattle.sets.specs.Structures.{Semicoherent}
-use Rattle.figures.specs.Figures.{tail, signature, domination, sign, pathCounts, tails, signatures, dominations}
+use Rattle.figures.specs.Figures.{tail, signature, domination, sign}
 use Rattle.figures.proofs.Binomials.{factor-le, choose-factorials, choose-mirror}
 use Rattle.figures.proofs.Tails.{tail-proportion, pathCount-empty, pathCount-full, pathCount-most, proportions-rise}
 use Rattle.kind.specs.Kinds.{lengthOf}
-use Rattle.conversion.specs.Vectors.{entryAt, unitOf, countsOf, vectorRefusal, figure, vectorOf, converted}
+use Rattle.conversion.specs.Vectors.{entryAt, unitOf, countsOf, vectorRefusal, figure, vectorOf, converted, figuresOf}
 use Rattle.kind.specs.declared.Kind.{Kind}
 use Rattle.kind.specs.declared.Kind.the-variants.{PathCounts, Tail, Signature, Domination}
 use Rattle.conversion.proofs.Scaled.{unit-pos, signature-step, scaled-figure, vector-scaled}
@@ -149,16 +149,21 @@ module _ (n : ℕ) (some : 1 ≤ n) (few : n ≤ 16) (works : ℕ → Bool) (coh
       }
 
   -- the vector of each kind is the figure of its name
-  pub structure-vectors : (vectorOf PathCounts n (pathCount n works) ≡ pathCounts n works) × (vectorOf Tail n (pathCount n works) ≡ tails n works)
-      × (vectorOf Signature n (pathCount n works) ≡ signatures n works) × (vectorOf Domination n (pathCount n works) ≡ dominations n works)
+  pub structure-vectors : (kind : Kind) → vectorOf kind n (pathCount n works) ≡ figuresOf kind n works
   unfolding figure
-  structure-vectors = (refl, refl, refl, refl)
+  structure-vectors PathCounts = refl
+  structure-vectors Tail = refl
+  structure-vectors Signature = refl
+  structure-vectors Domination = refl
 
   -- they are accepted
-  pub structure-accepted : (kind : Kind) → vectorRefusal kind n (vectorOf kind n (pathCount n works)) ≡ Accepted
+  pub structure-accepted : (kind : Kind) → vectorRefusal kind n (figuresOf kind n works) ≡ Accepted
   structure-accepted kind =
-      vector-accepted kind n (vectorOf kind n (pathCount n works)) (figures-accepted n some few (pathCount n works) structure-counts kind)
+      ap (vectorRefusal kind n) (sym (structure-vectors kind))
+      ∙ vector-accepted kind n (vectorOf kind n (pathCount n works)) (figures-accepted n some few (pathCount n works) structure-counts kind)
 
   -- and convert into each other
-  pub structure-convert : (kind target : Kind) → converted target kind n (vectorOf kind n (pathCount n works)) ≡ vectorOf target n (pathCount n works)
-  structure-convert = figures-convert n some few (pathCount n works) structure-counts
+  pub structure-convert : (kind target : Kind) → converted target kind n (figuresOf kind n works) ≡ figuresOf target n works
+  structure-convert kind target =
+      ap (converted target kind n) (sym (structure-vectors kind)) ∙ figures-convert n some few (pathCount n works) structure-counts kind target
+      ∙ structure-vectors target

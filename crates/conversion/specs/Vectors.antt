@@ -1,4 +1,5 @@
--- Which path counts a vector stands for, when it is accepted, and what it converts to (01, "Vector sheets" and refusals 1, 12, 13 and 14).
+-- Which path counts a vector stands for, when it is accepted, what it converts to, and which vectors a machine's figures are (01, "Vector sheets"
+-- and refusals 1, 12, 13 and 14).
 use mathlib.Core.Bool.{Bool, false, not, cond, _&&_}
 use mathlib.Core.List.{List}
 use Prim.Native.Nat.{ℕ, suc, _-_, _*_, _/_, _%_}
@@ -14,7 +15,7 @@ use Rattle.answer.specs.Refusals.{wrongVectorLength, wrongPathCount, fallingPro
 use Rattle.answer.specs.declared.Verdict.{Verdict}
 use Rattle.answer.specs.declared.Verdict.the-variants.{Accepted}
 use Rattle.structure.specs.Checks.{partsRefusal}
-use Rattle.figures.specs.Figures.{tail, signature, domination}
+use Rattle.figures.specs.Figures.{tail, signature, domination, pathCounts, tails, signatures, dominations}
 use Rattle.kind.specs.Kinds.{lengthOf}
 use Rattle.kind.specs.declared.Kind.{Kind}
 use Rattle.kind.specs.declared.Kind.the-variants.{PathCounts, Tail, Signature, Domination}
@@ -94,3 +95,12 @@ vectorOf kind n φ = tabulate (lengthOf kind n) (figure kind n φ)
 -- an accepted vector as one of another kind
 abbrev pub converted : Kind → Kind → ℕ → List ℤ → List ℤ
 converted target kind n entries = vectorOf target n (countsOf kind n entries)
+
+-- ---- the figures of a machine
+
+-- of each kind the figure of its name
+abbrev pub figuresOf : Kind → ℕ → (ℕ → Bool) → List ℤ
+figuresOf PathCounts n works = pathCounts n works
+figuresOf Tail n works = tails n works
+figuresOf Signature n works = signatures n works
+figuresOf Domination n works = dominations n works

@@ -14,13 +14,12 @@ use Rattle.sets.specs.Tables.{inTable}
 use Rattle.structure.specs.Checks.{tableRefusal}
 use Rattle.structure.proofs.Acceptance.{accepted-table}
 use Rattle.kind.specs.declared.Kind.{Kind}
-use Rattle.conversion.specs.Vectors.{vectorRefusal, converted}
+use Rattle.conversion.specs.Vectors.{vectorRefusal, converted, figuresOf}
 use Rattle.figures.specs.Figures.{signature, importance, signatures, importances}
 use Rattle.numbers.proofs.Tables.{tabulate-same}
 use Rattle.figures.proofs.Tails.{signature-is-count}
 use Rattle.figures.proofs.Importances.{importance-is-count}
-use Rattle.signature.specs.Vectors.{figuresOf}
-use Rattle.signature.proofs.Vectors.{figures-accepted, figures-converted}
+use Rattle.conversion.proofs.Conversions.{structure-accepted, structure-convert}
 
 module _ (n : ℕ) (table : List ℕ) (accepted : tableRefusal n table ≡ Accepted) where
   pub signature-counts : signatures n (inTable table) ≡ tabulate n (λ k. pos (count n (inTable table) (2 ^ n - 1) (suc k)))
@@ -38,9 +37,9 @@ module _ (n : ℕ) (table : List ℕ) (accepted : tableRefusal n table ≡ Accep
   pub vectors-accepted : (kind : Kind) → vectorRefusal kind n (figuresOf kind n (inTable table)) ≡ Accepted
   vectors-accepted =
       let a = accepted-table n table accepted in
-      figures-accepted n (a .some) (a .few) (inTable table) (a .semicoherent)
+      structure-accepted n (a .some) (a .few) (inTable table) (a .semicoherent)
 
   pub vectors-converted : (kind target : Kind) → converted target kind n (figuresOf kind n (inTable table)) ≡ figuresOf target n (inTable table)
   vectors-converted =
       let a = accepted-table n table accepted in
-      figures-converted n (a .some) (a .few) (inTable table) (a .semicoherent)
+      structure-convert n (a .some) (a .few) (inTable table) (a .semicoherent)

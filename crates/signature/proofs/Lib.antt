@@ -1,4 +1,3 @@
-pub mod Vectors
 pub mod Machines
 pub mod Rooms
 pub mod Claims

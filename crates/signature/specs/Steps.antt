@@ -3,14 +3,19 @@ use mathlib.Core.Bool.{Bool}
 use mathlib.Core.List.{List, _++_}
 use mathlib.Core.Path.{_≡_}
 use Prim.Native.Nat.{ℕ, suc, _+_, _-_, _*_, _≤_, _<_}
+use lib.IntN.{ℤ, pos}
 use lib.ListN.{length, getD, drop}
 use Rattle.answer.specs.Outcome.{andThen}
 use Rattle.answer.specs.declared.Verdict.{Verdict}
 use Rattle.numbers.specs.Counts.{factorial}
+use Rattle.numbers.specs.Tables.{tabulate}
 use Rattle.algebra.specs.Sums.{sumBelow}
+use Rattle.sets.specs.Tables.{inTable}
+use Rattle.orders.specs.Formulas.{pathCount}
+use Rattle.words.specs.Words.{inWords, wordsOf}
 use Rattle.structure.specs.Checks.{tableRefusal}
 use Rattle.figures.specs.Figures.{pathCounts, signatures, dominations, importances}
-use Rattle.tally.specs.Rows.{row}
+use Rattle.tally.specs.Rows.{rowsOf, row}
 use Rattle.tally.specs.Steps.{Few}
 use Rattle.signature.specs.All.{Buffers, buffersOf, roomRefusal}
 
@@ -19,6 +24,17 @@ use Rattle.signature.specs.All.{Buffers, buffersOf, roomRefusal}
 -- a list of counts as a function
 abbrev pub countsOf : List ℕ → ℕ → ℕ
 countsOf counts s = getD counts s 0
+
+-- counts by size as entries
+abbrev pub entriesOf : List ℕ → List ℤ
+entriesOf counts = tabulate 17 (λ s. pos (countsOf counts s))
+
+-- the path sets in a table's words, by size, and as rows of the parts
+abbrev pub sizedIn : List ℕ → List ℕ
+sizedIn table = tabulate 17 (pathCount 16 (inWords (wordsOf (inTable table))))
+
+abbrev pub rowsIn : List ℕ → List ℕ
+rowsIn table = rowsOf (inWords (wordsOf (inTable table)))
 
 -- s! × (n-s-1)!
 unfoldable pub ways : ℕ → ℕ → ℕ

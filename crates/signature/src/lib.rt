@@ -5,7 +5,6 @@ use kind::Kind;
 ghost use mathlib.Core.Path.{_≡_};
 ghost use mathlib.Core.List.{_++_};
 ghost use Prim.Native.Nat.{_+_, _≤_, _<_};
-ghost use lib.IntN.{pos};
 ghost use lib.ListN.{length, drop};
 ghost use Rattle.numbers.specs.Tables.{tabulate};
 ghost use Rattle.sets.specs.Tables.{inTable};
@@ -13,11 +12,10 @@ ghost use Rattle.answer.specs.Outcome.{outcome, delivered};
 ghost use Rattle.answer.specs.declared.Verdict.the-variants.{Accepted};
 ghost use Rattle.structure.specs.Checks.{tableRefusal};
 ghost use Rattle.figures.specs.Figures.{pathCounts, tails, signatures, dominations, importances};
-ghost use Rattle.conversion.specs.Vectors.{vectorRefusal, converted};
+ghost use Rattle.conversion.specs.Vectors.{vectorRefusal, converted, figuresOf};
 ghost use Rattle.tally.specs.Steps.{Few};
 ghost use Rattle.signature.specs.All.{buffersOf, roomRefusal, allOutcome, allFigures};
-ghost use Rattle.signature.specs.Vectors.{figuresOf};
-ghost use Rattle.signature.specs.Steps.{countsOf, ways as waysOf, addedSets, takenSets, Parted, importanceBy, Rows, figuresRefusal, allWritten};
+ghost use Rattle.signature.specs.Steps.{ways as waysOf, addedSets, takenSets, Parted, importanceBy, Rows, entriesOf, sizedIn, rowsIn, figuresRefusal, allWritten};
 
 // The path counts φ(0) to φ(n), into a lent buffer.
 pub fn path_counts(n: usize, table: &[u8], cells: &mut [i64]) -> Written
@@ -58,8 +56,7 @@ pub fn importance(n: usize, table: &[u8], cells: &mut [u64]) -> Written
             if cells.len() < n {
                 return answer::short(n);
             }
-            let words = words::load(table);
-            let rows = tally::tally(&words);
+            let rows = rows_of(table);
             write_importance(n, &rows, cells);
             Written::Length(n)
         }
@@ -103,18 +100,33 @@ fn vector(kind: Kind, n: usize, table: &[u8], cells: &mut [i64]) -> Written
     match checked {
         Verdict::Refused(refusal) => Written::Refused(refusal),
         Verdict::Accepted => {
-            let words = words::load(table);
-            let counts = tally::sized(&words);
-            let entries = signed(&counts);
+            let entries = entries_of(table);
             conversion::convert(Kind::PathCounts, n, &entries[..n + 1], kind, cells)
         }
     }
 }
 
+// The path counts of a table as entries.
+fn entries_of(table: &[u8]) -> [i64; 17]
+    ensures { λ r. ⌜ r ≡ entriesOf (sizedIn (now (table .entry))) ⌝ }
+{
+    let words = words::load(table);
+    let counts = tally::sized(&words);
+    signed(&counts)
+}
+
+// The path sets of a table counted by size, all of them and those with each part.
+fn rows_of(table: &[u8]) -> [u64; 289]
+    ensures { λ r. ⌜ r ≡ rowsIn (now (table .entry)) ⌝ }
+{
+    let words = words::load(table);
+    tally::tally(&words)
+}
+
 // Path counts as entries.
 fn signed(counts: &[u64]) -> [i64; 17]
     requires { ⌜ Few (now counts) ⌝ }
-    ensures { λ r. ⌜ r ≡ tabulate 17 (λ s. pos (countsOf (now (counts .entry)) s)) ⌝ }
+    ensures { λ r. ⌜ r ≡ entriesOf (now (counts .entry)) ⌝ }
 {
     let mut entries = [0i64; 17];
     for s in 0..17 {
@@ -179,8 +191,7 @@ fn write_figures(
     requires { ⌜ figuresRefusal n (now table) (length (now counts)) (length (now signature)) (length (now domination)) (length (now importance)) ≡ Accepted ⌝ }
     ensures { λ _. ⌜ buffersOf (now (counts .exit)) (now (signature .exit)) (now (domination .exit)) (now (importance .exit)) ≡ allWritten n (inTable (now (table .entry))) (buffersOf (now (counts .entry)) (now (signature .entry)) (now (domination .entry)) (now (importance .entry))) ⌝ }
 {
-    let words = words::load(table);
-    let rows = tally::tally(&words);
+    let rows = rows_of(table);
     let entries = signed(&rows[272..289]);
     write_vectors(n, &entries[..n + 1], counts, signature, domination);
     write_importance(n, &rows, importance);

@@ -54,14 +54,8 @@ returns c =
     ∙ delivered-short (tableRefusal (a .n) (now (a .table))) (importances (a .n) works) (now (a .cells)) (verdict told) (a .n) (long (a .n) works)
     (c .before .if1 .taken)
 
-load-requires : tie.Need-load-requires
-load-requires c κs = search needs
-
-slice-aggregate-tally : tie.Need-slice-aggregate-tally
-slice-aggregate-tally c = search needs
-
-tally-requires : tie.Need-tally-requires
-tally-requires c κs = search needs
+rows-of-requires : tie.Need-rows-of-requires
+rows-of-requires c κs = search needs
 
 slice-aggregate-write-importance : tie.Need-slice-aggregate-write-importance
 slice-aggregate-write-importance c = search needs
@@ -69,11 +63,10 @@ slice-aggregate-write-importance c = search needs
 write-importance-requires : tie.Need-write-importance-requires
 write-importance-requires c κs =
     let counted = c .before .before in
-    let loaded = counted .before .before in
-    let told = loaded .before .before in
+    let told = counted .before .before in
     let a = told .before .before .before .before .before .args in (
-      table-rows (a .n) (now (a .table)) (accepted told) (loaded .load .result) (loaded .load .ensures) (counted .tally .result) (counted .tally .ensures),
-      loaded .before .if1 .left,
+      table-rows (a .n) (now (a .table)) (accepted told) (counted .rows-of .result) (counted .rows-of .ensures),
+      counted .before .if1 .left,
     )
 
 returns-2 : tie.Need-returns-2
@@ -88,16 +81,15 @@ same-length c = search needs
 returns-3 : tie.Need-returns-3
 returns-3 c =
     let counted = c .before .before .before .before .before in
-    let loaded = counted .before .before in
-    let told = loaded .before .before in
+    let told = counted .before .before in
     let a = told .before .before .before .before .before .args in
     let cells = now (a .cells) in
     let works = inTable (now (a .table)) in
     delivered-whole (tableRefusal (a .n) (now (a .table))) (importances (a .n) works) cells (verdict told) (a .n) (long (a .n) works) _
     (c .before .before .write-importance .ensures
     ∙ ap (λ (xs : List ℕ). xs ++ drop (a .n) cells)
-    (table-importances (a .n) (now (a .table)) (accepted told) (loaded .load .result) (loaded .load .ensures) (counted .tally .result) (counted .tally .ensures)))
-    (loaded .before .if1 .left)
+    (table-importances (a .n) (now (a .table)) (accepted told) (counted .rows-of .result) (counted .rows-of .ensures)))
+    (counted .before .if1 .left)
 
 pub importance-spec : {M : Type 1} → statement M
 importance-spec =
@@ -108,9 +100,7 @@ importance-spec =
     enum-told
     short-requires
     returns
-    load-requires
-    slice-aggregate-tally
-    tally-requires
+    rows-of-requires
     slice-aggregate-write-importance
     write-importance-requires
     returns-2

@@ -1,7 +1,7 @@
 -- `signature::vector` meets its contract: a refused table leaves the cells alone, and else its path counts are an accepted vector, which is
 -- converted.
 -- Assumes nothing.
-use mathlib.Core.Path.{_≡_, sym, ap, ap₂, _∙_}
+use mathlib.Core.Path.{_≡_, refl, sym, ap, ap₂, _∙_}
 use mathlib.Core.List.{List}
 use Prim.Native.Nat.{ℕ, _+_, _≤_}
 use native.Mathlib.Omega.{arith}
@@ -19,11 +19,10 @@ use Rattle.sets.specs.Tables.{inTable}
 use Rattle.structure.specs.Checks.{tableRefusal}
 use Rattle.structure.proofs.Acceptance.{AcceptedTable, accepted-table}
 use Rattle.kind.specs.declared.Kind.the-variants.{PathCounts}
-use Rattle.conversion.specs.Vectors.{vectorRefusal, converted}
+use Rattle.conversion.specs.Vectors.{vectorRefusal, converted, figuresOf}
 use Rattle.figures.specs.Figures.{pathCounts}
-use Rattle.signature.specs.Vectors.{figuresOf}
-use Rattle.signature.specs.Steps.{countsOf}
-use Rattle.signature.proofs.Machines.{table-few, table-entries}
+use Rattle.signature.specs.Steps.{countsOf, sizedIn}
+use Rattle.signature.proofs.Machines.{table-entries}
 use Rattle.signature.proofs.Claims.{vectors-accepted, vectors-converted}
 use Rattle.signature.proofs.vector.Statement.{statement}
 use Rattle.signature.proofs.vector.Tie as tie
@@ -36,21 +35,18 @@ module _ (c : tie.After-enum-told) where
   accepted : AcceptedTable (c .before .before .before .before .args .n) (now (c .before .before .before .before .args .table))
   accepted = accepted-table (c .before .before .before .before .args .n) (now (c .before .before .before .before .args .table)) verdict
 
--- the counts are signed, and there are enough
-module _ (c : tie.After-signed) where
-  room : c .before .before .before .before .before .before .before .before .before .args .n + 1 ≤ length (c .signed .result)
+-- the path counts as entries are enough, and are the table's
+module _ (c : tie.After-entries-of) where
+  room : c .before .before .before .before .before .args .n + 1 ≤ length (c .entries-of .result)
   room =
-      let told = c .before .before .before .before .before in
-      omega (arith, accepted told .few, ap length (c .signed .ensures) ∙ tabulate-length 17 (λ s. pos (countsOf (c .before .before .sized .result) s)))
+      let start = c .before .before .before .before .before in
+      omega (arith, accepted (c .before) .few, ap length (c .entries-of .ensures) ∙ tabulate-length 17 (λ s. pos (countsOf (sizedIn (now (start .args .table))) s)))
 
-  entries : take (c .before .before .before .before .before .before .before .before .before .args .n + 1) (c .signed .result)
-      ≡ pathCounts (c .before .before .before .before .before .before .before .before .before .args .n)
-      (inTable (now (c .before .before .before .before .before .before .before .before .before .args .table)))
+  entries : take (c .before .before .before .before .before .args .n + 1) (c .entries-of .result)
+      ≡ pathCounts (c .before .before .before .before .before .args .n) (inTable (now (c .before .before .before .before .before .args .table)))
   entries =
-      let sized = c .before .before in
-      let loaded = sized .before .before in
-      table-entries _ _ (accepted (loaded .before)) (loaded .load .result) (loaded .load .ensures) (sized .sized .result) (sized .sized .ensures)
-      (c .signed .result) (c .signed .ensures)
+      let a = c .before .before .before .before .before .args in
+      table-entries (a .n) (now (a .table)) (accepted (c .before)) (sizedIn (now (a .table))) refl (c .entries-of .result) (c .entries-of .ensures)
 
 table-verdict-requires : tie.Need-table-verdict-requires
 table-verdict-requires c κs = search needs
@@ -61,32 +57,17 @@ enum-known-checked c = search needs
 enum-told : tie.Need-enum-told
 enum-told c = search needs
 
-load-requires : tie.Need-load-requires
-load-requires c κs = search needs
-
-slice-aggregate-sized : tie.Need-slice-aggregate-sized
-slice-aggregate-sized c = search needs
-
-sized-requires : tie.Need-sized-requires
-sized-requires c κs = search needs
-
-slice-aggregate-signed : tie.Need-slice-aggregate-signed
-slice-aggregate-signed c = search needs
-
-signed-requires : tie.Need-signed-requires
-signed-requires c κs =
-    let sized = c .before in
-    let loaded = sized .before .before in
-    table-few _ _ (accepted (loaded .before)) (loaded .load .result) (loaded .load .ensures) (sized .sized .result) (sized .sized .ensures)
+entries-of-requires : tie.Need-entries-of-requires
+entries-of-requires c κs = search needs
 
 add-entries : tie.Need-add-entries
-add-entries c = record { fits = omega (arith, accepted (c .before .before .before .before .before) .few) }
+add-entries c = record { fits = omega (arith, accepted (c .before) .few) }
 
 array-share-prefix-entries : tie.Need-array-share-prefix-entries
 array-share-prefix-entries c = room c
 
 slice-aggregate-convert : tie.Need-slice-aggregate-convert
-slice-aggregate-convert c = sym (length-take-le _ (c .before .signed .result) (room (c .before)))
+slice-aggregate-convert c = sym (length-take-le _ (c .before .entries-of .result) (room (c .before)))
 
 convert-requires : tie.Need-convert-requires
 convert-requires c κs = search needs
@@ -103,7 +84,7 @@ same-length c = search needs
 returns-2 : tie.Need-returns-2
 returns-2 c =
     let counted = c .before .before .before .before in
-    let told = counted .before .before .before .before .before in
+    let told = counted .before in
     let a = told .before .before .before .before .args in
     c .before .convert .ensures
     ∙ ap₂ (λ (v : Verdict) (xs : List ℤ). delivered v xs (now (a .cells)))
@@ -117,11 +98,7 @@ vector-spec =
     table-verdict-requires
     enum-known-checked
     enum-told
-    load-requires
-    slice-aggregate-sized
-    sized-requires
-    slice-aggregate-signed
-    signed-requires
+    entries-of-requires
     add-entries
     array-share-prefix-entries
     slice-aggregate-convert

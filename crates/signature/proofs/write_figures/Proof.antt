@@ -18,12 +18,11 @@ use Rattle.structure.specs.Checks.{tableRefusal}
 use Rattle.structure.proofs.Acceptance.{AcceptedTable, accepted-table}
 use Rattle.kind.specs.declared.Kind.{Kind}
 use Rattle.kind.specs.declared.Kind.the-variants.{PathCounts, Signature, Domination}
-use Rattle.conversion.specs.Vectors.{vectorRefusal, converted}
+use Rattle.conversion.specs.Vectors.{vectorRefusal, converted, figuresOf}
 use Rattle.figures.specs.Figures.{pathCounts}
 use Rattle.tally.specs.Rows.{row}
 use Rattle.signature.specs.All.{roomRefusal}
 use Rattle.signature.specs.Steps.{countsOf}
-use Rattle.signature.specs.Vectors.{figuresOf}
 use Rattle.signature.proofs.Machines.{table-few, table-entries, all-row, table-rows, table-importances}
 use Rattle.signature.proofs.Rooms.{Room, room-accepted, all-written}
 use Rattle.signature.proofs.Claims.{vectors-accepted, vectors-converted}
@@ -46,14 +45,8 @@ module _ (start : tie.Start) where
       (then-accepted (tableRefusal (a .n) (now (a .table)))
       (roomRefusal (a .n) (length (now (a .counts))) (length (now (a .signature))) (length (now (a .domination))) (length (now (a .importance)))) (start .pre) .1)
 
-load-requires : tie.Need-load-requires
-load-requires c κs = search needs
-
-slice-aggregate-tally : tie.Need-slice-aggregate-tally
-slice-aggregate-tally c = search needs
-
-tally-requires : tie.Need-tally-requires
-tally-requires c κs = search needs
+rows-of-requires : tie.Need-rows-of-requires
+rows-of-requires c κs = search needs
 
 sub-signed : tie.Need-sub-signed
 sub-signed c = search needs
@@ -67,38 +60,35 @@ part-signed-end c = search needs
 signed-requires : tie.Need-signed-requires
 signed-requires c κs =
     let counted = c .before .before in
-    let loaded = counted .before .before in
-    let a = accepted (loaded .before .before .before) in
-    table-few _ _ a (loaded .load .result) (loaded .load .ensures) (row 16 (counted .tally .result))
-    (all-row _ _ a (loaded .load .result) (loaded .load .ensures) (counted .tally .result) (counted .tally .ensures))
+    let a = accepted (counted .before .before .before) in
+    table-few _ _ a (row 16 (counted .rows-of .result)) (all-row _ _ a (counted .rows-of .result) (counted .rows-of .ensures))
 
 -- the row of all path sets as entries
 module _ (c : tie.After-signed) where
-  enough : c .before .before .before .before .before .before .before .before .args .n + 1 ≤ length (c .signed .result)
+  enough : c .before .before .before .before .before .before .args .n + 1 ≤ length (c .signed .result)
   enough =
-      omega (arith, accepted (c .before .before .before .before .before .before .before .before) .few, ap length (c .signed .ensures) ∙ tabulate-length 17 (λ s. pos (countsOf (row 16 (c .before .before .before .tally .result)) s)))
+      omega (arith, accepted (c .before .before .before .before .before .before) .few, ap length (c .signed .ensures) ∙ tabulate-length 17 (λ s. pos (countsOf (row 16 (c .before .before .before .rows-of .result)) s)))
 
-  entries : take (c .before .before .before .before .before .before .before .before .args .n + 1) (c .signed .result)
-      ≡ pathCounts (c .before .before .before .before .before .before .before .before .args .n)
-      (inTable (now (c .before .before .before .before .before .before .before .before .args .table)))
+  entries : take (c .before .before .before .before .before .before .args .n + 1) (c .signed .result)
+      ≡ pathCounts (c .before .before .before .before .before .before .args .n)
+      (inTable (now (c .before .before .before .before .before .before .args .table)))
   entries =
       let counted = c .before .before .before in
-      let loaded = counted .before .before in
-      let a = accepted (loaded .before .before .before) in
-      table-entries _ _ a (loaded .load .result) (loaded .load .ensures) (row 16 (counted .tally .result))
-      (all-row _ _ a (loaded .load .result) (loaded .load .ensures) (counted .tally .result) (counted .tally .ensures)) (c .signed .result) (c .signed .ensures)
+      let a = accepted (counted .before .before .before) in
+      table-entries _ _ a (row 16 (counted .rows-of .result)) (all-row _ _ a (counted .rows-of .result) (counted .rows-of .ensures)) (c .signed .result)
+      (c .signed .ensures)
 
   -- what they are converted to
-  vector : (kind : Kind) → converted kind PathCounts (c .before .before .before .before .before .before .before .before .args .n)
-      (take (c .before .before .before .before .before .before .before .before .args .n + 1) (c .signed .result))
-      ≡ figuresOf kind (c .before .before .before .before .before .before .before .before .args .n)
-      (inTable (now (c .before .before .before .before .before .before .before .before .args .table)))
+  vector : (kind : Kind) → converted kind PathCounts (c .before .before .before .before .before .before .args .n)
+      (take (c .before .before .before .before .before .before .args .n + 1) (c .signed .result))
+      ≡ figuresOf kind (c .before .before .before .before .before .before .args .n)
+      (inTable (now (c .before .before .before .before .before .before .args .table)))
   vector kind =
-      let start = c .before .before .before .before .before .before .before .before in
+      let start = c .before .before .before .before .before .before in
       ap (converted kind PathCounts (start .args .n)) entries ∙ vectors-converted (start .args .n) (now (start .args .table)) (verdict start) PathCounts kind
 
 add-entries : tie.Need-add-entries
-add-entries c = record { fits = omega (arith, accepted (c .before .before .before .before .before .before .before .before) .few) }
+add-entries c = record { fits = omega (arith, accepted (c .before .before .before .before .before .before) .few) }
 
 array-share-prefix-entries : tie.Need-array-share-prefix-entries
 array-share-prefix-entries c = enough c
@@ -109,7 +99,7 @@ slice-aggregate-write-vectors c = sym (length-take-le _ (c .before .signed .resu
 write-vectors-requires : tie.Need-write-vectors-requires
 write-vectors-requires c κs =
     let signed = c .before .before .before .before in
-    let start = signed .before .before .before .before .before .before .before .before in
+    let start = signed .before .before .before .before .before .before in
     let a = start .args in (
       ap (vectorRefusal PathCounts (a .n)) (entries signed) ∙ vectors-accepted (a .n) (now (a .table)) (verdict start) PathCounts,
       (room start .for-counts, (room start .for-signature, room start .for-domination)),
@@ -121,9 +111,8 @@ slice-aggregate-write-importance c = search needs
 write-importance-requires : tie.Need-write-importance-requires
 write-importance-requires c κs =
     let counted = c .before .before .before .before .before .before .before .before .before .before .before .before .before in
-    let loaded = counted .before .before in
-    let start = loaded .before .before .before in
-    (table-rows _ _ (accepted start) (loaded .load .result) (loaded .load .ensures) (counted .tally .result) (counted .tally .ensures), room start .for-importance)
+    let start = counted .before .before .before in
+    (table-rows _ _ (accepted start) (counted .rows-of .result) (counted .rows-of .ensures), room start .for-importance)
 
 same-length : tie.Need-same-length
 same-length c = search needs
@@ -142,8 +131,7 @@ returns c =
     let vectors = c .before .before .before .before .before .before .before .before in
     let signed = vectors .before .before .before .before .before in
     let counted = signed .before .before .before in
-    let loaded = counted .before .before in
-    let start = loaded .before .before .before in
+    let start = counted .before .before .before in
     let a = start .args in
     let stands = vectors .write-vectors .ensures in
     all-written (a .n) (inTable (now (a .table))) _ _ _ _ _
@@ -152,15 +140,13 @@ returns c =
     (stands .1 .1 ∙ ap (λ (xs : List ℤ). xs ++ drop (a .n + 1) (now (a .domination))) (vector signed Domination))
     (c .before .before .write-importance .ensures
     ∙ ap (λ (xs : List ℕ). xs ++ drop (a .n) (now (a .importance)))
-    (table-importances _ _ (accepted start) (loaded .load .result) (loaded .load .ensures) (counted .tally .result) (counted .tally .ensures)))
+    (table-importances _ _ (accepted start) (counted .rows-of .result) (counted .rows-of .ensures)))
 
 pub write-figures-spec : {M : Type 1} → statement M
 write-figures-spec =
     tie.close
     (tie.spec
-    load-requires
-    slice-aggregate-tally
-    tally-requires
+    rows-of-requires
     sub-signed
     part-signed-start
     part-signed-end

@@ -3,7 +3,7 @@
 use denote.Ref.{now}
 use borrow.Author.Needs.{needs}
 use Rattle.kind.specs.declared.Kind.the-variants.{PathCounts, Signature, Domination}
-use Rattle.signature.proofs.Vectors.{converted-stands}
+use Rattle.signature.proofs.Rooms.{converted-stands}
 use Rattle.signature.proofs.write_vectors.Statement.{statement}
 use Rattle.signature.proofs.write_vectors.Tie as tie
 

@@ -10,7 +10,8 @@ ghost use mathlib.Core.List.{[]};
 ghost use Prim.Native.Nat.{_+_, _^_, _≤_, _<_};
 ghost use denote.Ref.{ptr};
 ghost use Rattle.answer.specs.Outcome.{at, outcome, delivered};
-ghost use Rattle.parts.specs.PartLists.{mostParts, listOf};
+ghost use Rattle.numbering.specs.Numbering.{mostParts};
+ghost use Rattle.parts.specs.PartLists.{listOf};
 ghost use Rattle.sets.specs.Structures.{listed};
 ghost use Rattle.sets.specs.Tables.{tableOf, tableLength};
 ghost use Rattle.words.specs.Words.{inWords};
@@ -293,7 +294,7 @@ fn read_part_number(bytes: &[u8], start: usize, previous: u64, mark: u64) -> Rea
     match number {
         Reading::Refused(refusal) => Reading::Refused(refusal),
         Reading::Number { value, next } => {
-            if PartList::misnumbered(previous, mark, value) {
+            if numbering::misnumbered(previous, mark, value) {
                 return refused(answer::WRONG_PART_NUMBER, start);
             }
             Reading::Number { value, next }

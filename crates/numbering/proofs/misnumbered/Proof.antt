@@ -1,8 +1,8 @@
--- `parts::PartList::misnumbered` meets its contract: at each `return` the tests that led there decide the definition's.
+-- `numbering::misnumbered` meets its contract: at each `return` the tests that led there decide the definition's.
 -- Assumes nothing.
 use borrow.Author.Tests.{le-leb, lt-leb, lt-ltb, le-ltb}
-use Rattle.parts.proofs.PartList.misnumbered.Statement.{statement}
-use Rattle.parts.proofs.PartList.misnumbered.Tie as tie
+use Rattle.numbering.proofs.misnumbered.Statement.{statement}
+use Rattle.numbering.proofs.misnumbered.Tie as tie
 
 returns : tie.Need-returns
 returns c = simp (le-leb _ _ (c .if1 .taken))

@@ -1,4 +1,4 @@
--- `parts::judge` meets its contract. The loop's invariant: the numbers passed are right, so what refuses those left, under the last one
+-- `numbering::judge` meets its contract. The loop's invariant: the numbers passed are right, so what refuses those left, under the last one
 -- passed, is what refuses all. The measure is the numbers left.
 -- Assumes nothing.
 use mathlib.Core.Path.{_≡_, sym, _∙_}
@@ -8,14 +8,14 @@ use denote.Ref.{now}
 use borrow.Author.Needs.{needs}
 use borrow.Author.Tests.{eq-eqb, ne-eqb, lt-ltb, le-ltb}
 use lib.ListN.{length, drop}
-use Rattle.parts.specs.PartLists.{numbersRefusal, listRefusal}
-use Rattle.parts.proofs.Refusals.{refusal-counted, refusal-past, refusal-here, refusal-end}
-use Rattle.parts.proofs.judge.Statement.{statement}
-use Rattle.parts.proofs.judge.Tie as tie
+use Rattle.numbering.specs.Numbering.{numbersRefusal, partListRefusal}
+use Rattle.numbering.proofs.Refusals.{refusal-counted, refusal-past, refusal-here, refusal-end}
+use Rattle.numbering.proofs.judge.Statement.{statement}
+use Rattle.numbering.proofs.judge.Tie as tie
 
 abbrev Inv-loop : tie.InvT-loop
 Inv-loop mark numbers count previous₀ index₀ previous index =
-    (index ≤ length numbers) × (numbersRefusal previous mark index (drop index numbers) ≡ listRefusal (length numbers) mark numbers)
+    (index ≤ length numbers) × (numbersRefusal previous mark index (drop index numbers) ≡ partListRefusal (length numbers) mark numbers)
 
 abbrev μ-loop : tie.MeasureT-loop
 μ-loop mark numbers count previous₀ index₀ previous index = length numbers - index
@@ -24,14 +24,14 @@ refused-requires : tie.Need-refused-requires Inv-loop μ-loop
 refused-requires c κs = search needs
 
 returns : tie.Need-returns Inv-loop μ-loop
-unfolding listRefusal
+unfolding partListRefusal
 returns c = simp (eq-eqb _ _ (c .before .if1 .taken)) (c .refused .ensures)
 
 refused-requires-2 : tie.Need-refused-requires-2 Inv-loop μ-loop
 refused-requires-2 c κs = search needs
 
 returns-2 : tie.Need-returns-2 Inv-loop μ-loop
-unfolding listRefusal
+unfolding partListRefusal
 returns-2 c = simp (ne-eqb _ _ (c .before .before .if1 .left), lt-ltb _ _ (c .before .if2 .taken)) (c .refused2 .ensures)
 
 loop-holds : tie.Need-loop-holds Inv-loop μ-loop

@@ -13,11 +13,11 @@ use lib.Seq.{drop-cons, drop-length}
 use Rattle.answer.specs.Refusals.{wrongPartNumber}
 use Rattle.answer.specs.Outcome.{at, refuse}
 use Rattle.answer.specs.declared.Verdict.the-variants.{Accepted, Refused}
-use Rattle.parts.specs.PartLists.{mostParts, topNumber, misnumbered, numbersRefusal, listRefusal}
+use Rattle.numbering.specs.Numbering.{mostParts, topNumber, misnumbered, numbersRefusal, partListRefusal}
 
 -- a count of 1 to 16 leaves the judgement to the numbers
-pub refusal-counted : (count mark : ℕ) (numbers : List ℕ) → (count ≡ 0 → ⊥) → count ≤ mostParts → listRefusal count mark numbers ≡ numbersRefusal 0 mark 0 numbers
-unfolding listRefusal
+pub refusal-counted : (count mark : ℕ) (numbers : List ℕ) → (count ≡ 0 → ⊥) → count ≤ mostParts → partListRefusal count mark numbers ≡ numbersRefusal 0 mark 0 numbers
+unfolding partListRefusal
 refusal-counted count mark numbers some few = simp (ne-eqb _ _ some, le-ltb _ _ few)
 
 module _ (numbers : List ℕ) (mark previous index : ℕ) (h : index < length numbers) where

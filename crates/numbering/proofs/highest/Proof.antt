@@ -1,4 +1,4 @@
--- `parts::highest` meets its contract. The loop's invariant: the highest of the numbers passed and of those left is the highest of all.
+-- `numbering::highest` meets its contract. The loop's invariant: the highest of the numbers passed and of those left is the highest of all.
 -- The measure is the numbers left.
 -- Assumes nothing.
 use mathlib.Core.Path.{_≡_, sym, _∙_}
@@ -9,10 +9,10 @@ use native.Mathlib.Omega.{arith}
 use denote.Ref.{now}
 use mathlib.Core.List.{[]}
 use lib.ListN.{length, drop, drop-of-length-le}
-use Rattle.parts.specs.PartLists as lists
-use Rattle.parts.proofs.Marks.{highest-past}
-use Rattle.parts.proofs.highest.Statement.{statement}
-use Rattle.parts.proofs.highest.Tie as tie
+use Rattle.numbering.specs.Numbering as lists
+use Rattle.numbering.proofs.Marks.{highest-past}
+use Rattle.numbering.proofs.highest.Statement.{statement}
+use Rattle.numbering.proofs.highest.Tie as tie
 
 abbrev Inv-loop : tie.InvT-loop
 Inv-loop numbers most₀ index₀ most index = (index ≤ length numbers) × (max most (lists.highest (drop index numbers)) ≡ lists.highest numbers)

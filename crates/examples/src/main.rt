@@ -3,10 +3,10 @@ use answer::Verdict;
 use answer::Written;
 use codec::Field;
 use codec::Reading;
+use kind::Kind;
 use libc::STDOUT_FILENO;
 use parts::PartList;
 use reader::Found;
-use vector::Kind;
 
 fn main() {
     tables();
@@ -256,7 +256,7 @@ fn refused_vectors() {
 // A vector of a machine of five parts as one of another kind.
 fn conversion(name: &[u8], kind: Kind, entries: &[i64], target: Kind) {
     let mut cells = [0i64; 6];
-    let converted = vector::convert(kind, 5, entries, target, &mut cells);
+    let converted = conversion::convert(kind, 5, entries, target, &mut cells);
     vector(name, converted, &cells);
 }
 

@@ -17,13 +17,13 @@ use Rattle.codec.specs.Fields.{top}
 use Rattle.codec.specs.declared.Field.the-variants as field
 use Rattle.figures.specs.Figures.{tail, sign, domination}
 use Rattle.figures.proofs.Ranges.{tail-few}
-use Rattle.vector.specs.Kinds.{lengthOf}
-use Rattle.vector.specs.Vectors.{entryAt, countsOf, vectorRefusal, figure}
-use Rattle.vector.specs.declared.Kind.{Kind}
-use Rattle.vector.specs.declared.Kind.the-variants.{PathCounts, Tail, Signature, Domination}
-use Rattle.vector.proofs.Fits.{choose-few}
-use Rattle.vector.proofs.Acceptance.{AcceptedVector, accepted-vector}
-use Rattle.vector.proofs.Conversions.{conversion-same, signature-positive}
+use Rattle.kind.specs.Kinds.{lengthOf}
+use Rattle.conversion.specs.Vectors.{entryAt, countsOf, vectorRefusal, figure}
+use Rattle.kind.specs.declared.Kind.{Kind}
+use Rattle.kind.specs.declared.Kind.the-variants.{PathCounts, Tail, Signature, Domination}
+use Rattle.conversion.proofs.Fits.{choose-few}
+use Rattle.conversion.proofs.Acceptance.{AcceptedVector, accepted-vector}
+use Rattle.conversion.proofs.Conversions.{conversion-same, signature-positive}
 use Rattle.sheet.specs.Sheets.{coded, decoded}
 use Rattle.sheet.proofs.Codes.{written-domination, written-positive}
 

@@ -22,11 +22,11 @@ use Rattle.codec.specs.declared.Reading.{Reading}
 use Rattle.codec.specs.declared.Reading.the-variants.{Number}
 use Rattle.codec.proofs.ReadAfterWrite.{form-read}
 use Rattle.sets.proofs.Bools.{and-both}
-use Rattle.vector.specs.Kinds.{kindNumber, lengthOf, kindOf}
-use Rattle.vector.specs.Vectors.{countsRefusal, vectorRefusal}
-use Rattle.vector.specs.declared.Kind.{Kind}
-use Rattle.vector.proofs.Acceptance.{AcceptedVector, accepted-vector}
-use Rattle.vector.proofs.KindNumbers.{kind-back, kind-is-one}
+use Rattle.kind.specs.Kinds.{kindNumber, lengthOf, kindOf}
+use Rattle.conversion.specs.Vectors.{countsRefusal, vectorRefusal}
+use Rattle.kind.specs.declared.Kind.{Kind}
+use Rattle.conversion.proofs.Acceptance.{AcceptedVector, accepted-vector}
+use Rattle.kind.proofs.KindNumbers.{kind-back, kind-is-one}
 use Rattle.sheet.proofs.Codes.{kind-few}
 use Rattle.sheet.proofs.Bounds.{Fitting, accepted-fitting}
 use Rattle.sheet.specs.Steps.{ended, entered, numbered, kinded}

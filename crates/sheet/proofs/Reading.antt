@@ -12,7 +12,7 @@ use Rattle.answer.specs.declared.Refusal.{Refusal}
 use Rattle.answer.specs.declared.Verdict.the-variants as verdict
 use Rattle.answer.specs.declared.Written.the-variants.{Length}
 use Rattle.vector.specs.Held.{mostEntries, entryCells, entriesOf}
-use Rattle.vector.specs.declared.Kind.{Kind}
+use Rattle.kind.specs.declared.Kind.{Kind}
 use Rattle.sheet.specs.Answers.{sheetRead, receivedOutcome, notReceived, received}
 use Rattle.sheet.specs.Sheets.{Sheet, Given, Refused}
 use Rattle.sheet.specs.declared.SheetRead.{SheetRead}

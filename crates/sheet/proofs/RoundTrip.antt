@@ -13,9 +13,9 @@ use Rattle.answer.specs.declared.Verdict.the-variants.{Accepted}
 use Rattle.codec.proofs.WriteAfterRead.{Bytes}
 use Rattle.structure.specs.Checks.{partsRefusal}
 use Rattle.vector.specs.Held.{vectorHolding, entriesOf, heldRefusal}
-use Rattle.vector.specs.Kinds.{lengthOf}
-use Rattle.vector.specs.Vectors.{countsRefusal, vectorRefusal}
-use Rattle.vector.specs.declared.Kind.{Kind}
+use Rattle.kind.specs.Kinds.{lengthOf}
+use Rattle.conversion.specs.Vectors.{countsRefusal, vectorRefusal}
+use Rattle.kind.specs.declared.Kind.{Kind}
 use Rattle.vector.specs.declared.Vector.{Vector}
 use Rattle.sheet.specs.Answers.{sheetRead}
 use Rattle.sheet.specs.Sheets.{sheetBytes, sheetOf}

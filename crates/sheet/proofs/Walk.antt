@@ -22,9 +22,9 @@ use Rattle.codec.specs.declared.Field.the-variants as field
 use Rattle.codec.specs.declared.Reading.{Reading}
 use Rattle.codec.specs.declared.Reading.the-variants as reading
 use Rattle.vector.specs.Held.{mostEntries, entryCells}
-use Rattle.vector.specs.Kinds.{lengthOf}
-use Rattle.vector.specs.Vectors.{countsRefusal, vectorRefusal}
-use Rattle.vector.specs.declared.Kind.{Kind}
+use Rattle.kind.specs.Kinds.{lengthOf}
+use Rattle.conversion.specs.Vectors.{countsRefusal, vectorRefusal}
+use Rattle.kind.specs.declared.Kind.{Kind}
 use Rattle.sheet.specs.Sheets.{decoded, Sheet, Given, Refused, refuse, afterNumber, afterEntries, judged}
 use Rattle.sheet.specs.Steps.{ended}
 

@@ -8,9 +8,9 @@ use lib.ListN.{length, take, drop, length-append, take-append-drop}
 use lib.Seq.{take-suc, drop-append-seam, drop-append-add, drop-drop}
 use Rattle.answer.proofs.Outcomes.{InFront}
 use Rattle.codec.specs.ByteForm.{bytesOf}
-use Rattle.vector.specs.Kinds.{kindNumber}
-use Rattle.vector.specs.Vectors.{entryAt}
-use Rattle.vector.specs.declared.Kind.{Kind}
+use Rattle.kind.specs.Kinds.{kindNumber}
+use Rattle.conversion.specs.Vectors.{entryAt}
+use Rattle.kind.specs.declared.Kind.{Kind}
 use Rattle.sheet.specs.Sheets.{coded, entryBytes, sheetBytes}
 
 -- ---- a result in front of a buffer, and a longer one

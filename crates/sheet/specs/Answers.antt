@@ -10,7 +10,7 @@ use Rattle.answer.specs.declared.Refusal.{Refusal}
 use Rattle.answer.specs.declared.Verdict.the-variants as verdict
 use Rattle.answer.specs.declared.Written.the-variants as written
 use Rattle.vector.specs.Held.{vectorHolding, noVector}
-use Rattle.vector.specs.declared.Kind.the-variants.{PathCounts}
+use Rattle.kind.specs.declared.Kind.the-variants.{PathCounts}
 use Rattle.sheet.specs.Sheets.{Sheet, Given, Refused}
 use Rattle.sheet.specs.declared.Received.{Received}
 use Rattle.sheet.specs.declared.SheetRead.{SheetRead}

@@ -4,7 +4,7 @@ use answer::Verdict;
 use answer::Written;
 use codec::Field;
 use codec::Reading;
-use vector::Kind;
+use kind::Kind;
 use vector::Vector;
 ghost use mathlib.Core.Path.{_≡_};
 ghost use Prim.Native.Nat.{_≤_};
@@ -17,8 +17,8 @@ ghost use Rattle.answer.specs.Refusals.{bytesLeft};
 ghost use Rattle.codec.specs.Fields.{top};
 ghost use Rattle.codec.specs.Reading.{numberAt};
 ghost use Rattle.vector.specs.Held.{entryCells, entriesOf, heldRefusal};
-ghost use Rattle.vector.specs.Kinds.{kindOf, kindRefusal};
-ghost use Rattle.vector.specs.Vectors.{vectorRefusal, countsRefusal};
+ghost use Rattle.kind.specs.Kinds.{kindOf, kindRefusal};
+ghost use Rattle.conversion.specs.Vectors.{vectorRefusal, countsRefusal};
 ghost use Rattle.sheet.specs.Answers.{sheetRead, receivedOutcome, received};
 ghost use Rattle.sheet.specs.Sheets.{coded, decoded, Refused, sheetBytes, sheetOf, afterNumber};
 ghost use Rattle.sheet.specs.Steps.{ended, entered, numbered};
@@ -40,7 +40,7 @@ pub struct Received {
 pub fn write_sheet(kind: Kind, n: usize, entries: &[i64], buffer: &mut [u8]) -> Written
     ensures { λ r. ⌜ outcome r (now (buffer .exit)) ≡ delivered (vectorRefusal kind n (now (entries .entry))) (sheetBytes kind n (now (entries .entry))) (now (buffer .entry)) ⌝ }
 {
-    let verdict = vector::judge(kind, n, entries);
+    let verdict = conversion::judge(kind, n, entries);
     match verdict {
         Verdict::Refused(refusal) => Written::Refused(refusal),
         Verdict::Accepted => {
@@ -61,8 +61,8 @@ pub fn write_sheet(kind: Kind, n: usize, entries: &[i64], buffer: &mut [u8]) -> 
 pub fn write_sheet_numbered(kind: u8, n: usize, entries: &[i64], buffer: &mut [u8]) -> Written
     ensures { λ r. ⌜ outcome r (now (buffer .exit)) ≡ delivered (kindRefusal kind (vectorRefusal (kindOf kind) n (now (entries .entry)))) (sheetBytes (kindOf kind) n (now (entries .entry))) (now (buffer .entry)) ⌝ }
 {
-    if vector::is_kind(kind) {
-        return write_sheet(vector::kind_of(kind), n, entries, buffer);
+    if kind::is_kind(kind) {
+        return write_sheet(kind::kind_of(kind), n, entries, buffer);
     }
     Written::Refused(Refusal {
         number: answer::WRONG_KIND,
@@ -100,7 +100,7 @@ pub fn vector_of_sheet(bytes: &[u8]) -> SheetRead
             if 4 < value {
                 return refused_sheet(answer::WRONG_KIND, 0);
             }
-            read_parts(bytes, vector::kind_of(value as u8), next)
+            read_parts(bytes, kind::kind_of(value as u8), next)
         }
     }
 }
@@ -217,7 +217,7 @@ fn judged_sheet(bytes: &[u8], vector: Vector, end: usize) -> SheetRead
     let kind = vector.kind;
     let length = vector.length;
     let entries = vector.entries;
-    let counted = vector::judge(kind, vector.n, &entries[..length]);
+    let counted = conversion::judge(kind, vector.n, &entries[..length]);
     let verdict = first_of(left, counted);
     match verdict {
         Verdict::Refused(refusal) => refused_sheet(refusal.number, refusal.place),

@@ -8,8 +8,8 @@ use denote.Ref.{now}
 use lib.IntN.{ℤ, pos}
 use lib.ListN.{length, drop}
 use Rattle.numbers.proofs.Tables.{tabulate-unique, filled, filled-none, filled-again, filled-length}
-use Rattle.vector.specs.Vectors.{entryAt}
-use Rattle.vector.proofs.CountAt.{entry-read}
+use Rattle.conversion.specs.Vectors.{entryAt}
+use Rattle.conversion.proofs.CountAt.{entry-read}
 use Rattle.sheet.proofs.copy.Statement.{statement}
 use Rattle.sheet.proofs.copy.Tie as tie
 

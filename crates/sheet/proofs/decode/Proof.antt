@@ -6,7 +6,7 @@ use lib.IntN.{pos}
 use mir.Facts.{toZ-pos, toZ-ofZ}
 use mir.Syntax.{w64}
 use mir.Val.{toZ}
-use Rattle.vector.specs.declared.Kind.{Kind}
+use Rattle.kind.specs.declared.Kind.{Kind}
 use Rattle.sheet.specs.Sheets.{decoded}
 use borrow.Author.Needs.{needs}
 use Rattle.sheet.proofs.decode.Statement.{statement}

@@ -12,7 +12,7 @@ use Rattle.answer.specs.Refusals.{wrongPartCount}
 use Rattle.codec.specs.Reading.{numberAt}
 use Rattle.codec.specs.declared.Field.the-variants as field
 use Rattle.codec.specs.declared.Reading.{Reading}
-use Rattle.vector.specs.declared.Kind.{Kind}
+use Rattle.kind.specs.declared.Kind.{Kind}
 use Rattle.sheet.specs.Answers.{sheetRead}
 use Rattle.sheet.specs.Sheets.{Refused, refuse, afterNumber}
 use Rattle.sheet.specs.Steps.{entered, numbered}

@@ -11,8 +11,8 @@ use Rattle.answer.specs.declared.Verdict.{Verdict}
 use Rattle.answer.specs.declared.Verdict.the-variants.{Accepted}
 use Rattle.answer.specs.declared.Written.the-variants.{Refused}
 use Rattle.answer.proofs.Outcomes.{short-delivered}
-use Rattle.vector.specs.Vectors.{vectorRefusal}
-use Rattle.vector.proofs.Acceptance.{AcceptedVector, accepted-vector}
+use Rattle.conversion.specs.Vectors.{vectorRefusal}
+use Rattle.conversion.proofs.Acceptance.{AcceptedVector, accepted-vector}
 use Rattle.sheet.specs.Sheets.{sheetBytes}
 use Rattle.sheet.proofs.Codes.{length-few}
 use borrow.Author.Needs.{needs}

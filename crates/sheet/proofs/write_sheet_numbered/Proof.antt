@@ -4,10 +4,10 @@ use mathlib.Core.Path.{sym, ap, _∙_}
 use denote.Ref.{now}
 use Rattle.answer.specs.Outcome.{delivered}
 use Rattle.answer.specs.declared.Verdict.{Verdict}
-use Rattle.vector.specs.Kinds.{kindOf}
-use Rattle.vector.specs.Vectors.{vectorRefusal}
-use Rattle.vector.specs.declared.Kind.{Kind}
-use Rattle.vector.proofs.KindNumbers.{kind-passed, kind-refused}
+use Rattle.kind.specs.Kinds.{kindOf}
+use Rattle.conversion.specs.Vectors.{vectorRefusal}
+use Rattle.kind.specs.declared.Kind.{Kind}
+use Rattle.kind.proofs.KindNumbers.{kind-passed, kind-refused}
 use Rattle.sheet.specs.Sheets.{sheetBytes}
 use borrow.Author.Needs.{needs}
 use Rattle.sheet.proofs.write_sheet_numbered.Statement.{statement}

@@ -3,12 +3,12 @@
 use mathlib.Core.Path.{_≡_, sym, ap, ap₂, _∙_, subst}
 use mathlib.Core.List.{List, [], _++_, append-assoc, append-nil}
 use Prim.Native.Nat.{ℕ, _+_, _≤_}
-use native.Mathlib.Nat.{add-zero}
+use native.Mathlib.Nat.{add-zero, zero-add}
 use native.Mathlib.Omega.{arith}
 use lib.ListN.{length, take, drop, length-append, take-append-drop}
-use lib.Seq.{length-take-le}
+use lib.Seq.{length-take-le, take-append-seam}
 use Rattle.answer.proofs.Outcomes.{InFront, in-front-length}
-use Rattle.codec.specs.ByteForm.{leaves, placed}
+use Rattle.codec.specs.ByteForm.{Placement, leaves, placed}
 use Rattle.codec.proofs.Placing.{placed-fits, in-front-more}
 
 -- where two forms fit, the first does
@@ -102,3 +102,18 @@ module _ {buffer : List ℕ} {start : ℕ} {form : List ℕ} {most : ℕ} {entry
 
   pub wrote-length : length entry ≡ length buffer
   wrote-length = placed-length buffer start form wrote-fits entry position (before .wrote)
+
+  -- there is room for so many bytes more behind it
+  pub wrote-room : (again : ℕ) → start + (most + again) ≤ length buffer → position + again ≤ length entry
+  wrote-room again room = omega (arith, wrote-next, wrote-length, before .short)
+
+-- what was put in front of a buffer is all that its first bytes are
+module _ {buffer form : List ℕ} {most : ℕ} {exit : List ℕ} {next : ℕ} (whole : Wrote buffer 0 form most exit next) where
+  pub wrote-front : take next exit ≡ form
+  wrote-front =
+      let all : leaves next exit ≡ leaves (0 + length form) (form ++ drop (0 + length form) buffer) = whole .wrote ∙ placed-fits buffer 0 form (wrote-fits whole) in
+      ap₂ (λ (k : ℕ) (text : List ℕ). take k text) (ap (λ (l : Placement). l .next) all ∙ zero-add (length form)) (ap (λ (l : Placement). l .buffer) all)
+      ∙ take-append-seam form (drop (0 + length form) buffer)
+
+  pub wrote-inside : next ≤ length exit
+  wrote-inside = omega (arith, wrote-next whole, wrote-length whole, wrote-fits whole)

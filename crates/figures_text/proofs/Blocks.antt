@@ -60,6 +60,9 @@ module _ (text : List ℕ) (start : ℕ) (line : ℕ → List ℕ) where
 
 -- ---- the whole text
 
+pub blocks-joined : (a b c d : List ℕ) → a ++ b ++ c ++ d ≡ a ++ (b ++ (c ++ d))
+blocks-joined a b c d = simp append-assoc
+
 module _ (list : PartList) (sets : ℕ) (orders dominations : List ℤ) (parts : List ℕ) where
   pub few-parts : list .count ≤ 16 → textBy list sets orders dominations parts ≡ linesBy list sets orders dominations parts
   unfolding textBy

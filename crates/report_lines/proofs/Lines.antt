@@ -45,9 +45,15 @@ numbers-joined a b c d e f g = simp append-assoc
 pub head-few : (parts sets mark : ℕ) → Fits w64 parts → Fits w64 sets → Fits w64 mark → length (headLine parts sets mark) ≤ 79
 unfolding headLine
 head-few parts sets mark parts-fit sets-fit mark-fits =
-    omega (arith, decimal-few parts parts-fit, decimal-few sets sets-fit, decimal-few mark mark-fits,
-    length-append (decimal parts) (ascii " sets " ++ (decimal sets ++ (ascii " mark " ++ (decimal mark ++ ascii "\n")))),
-    length-append (decimal sets) (ascii " mark " ++ (decimal mark ++ ascii "\n")), length-append (decimal mark) (ascii "\n"))
+    omega (
+      arith,
+      decimal-few parts parts-fit,
+      decimal-few sets sets-fit,
+      decimal-few mark mark-fits,
+      length-append (decimal parts) (ascii " sets " ++ (decimal sets ++ (ascii " mark " ++ (decimal mark ++ ascii "\n")))),
+      length-append (decimal sets) (ascii " mark " ++ (decimal mark ++ ascii "\n")),
+      length-append (decimal mark) (ascii "\n"),
+    )
 
 pub rest-few : (number : ℕ) (figure : List ℕ) → Fits w64 number → length figure ≤ 21 → length (restOfLine number figure) ≤ 44
 unfolding restOfLine

@@ -13,7 +13,6 @@ use borrow.Author.Needs.{needs}
 use Rattle.report_lines.proofs.hand_out.Statement.{statement}
 use Rattle.report_lines.proofs.hand_out.Tie as tie
 
-
 short-requires : tie.Need-short-requires
 short-requires c κs = search needs
 

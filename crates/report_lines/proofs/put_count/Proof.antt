@@ -9,7 +9,6 @@ use lib.ListN.{replicate}
 use lib.Seq.{length-take-le}
 use Rattle.codec.specs.ByteForm.{placed}
 use Rattle.text.specs.Texts.{ascii, decimal}
-
 use Rattle.report_lines.specs.Lines.{restOfLine}
 use Rattle.report_lines.proofs.Forms.{Wrote, wrote-more, wrote-same, wrote-room, wrote-front, wrote-inside}
 use Rattle.report_lines.proofs.Lines.{number-first, number-more}
@@ -29,7 +28,6 @@ whole c =
     let s2 = number-more (ascii " ") _ (w1 .before .before .before .before .fits .count) (numbered w1) _ _ (omega arith) (w2 .put-number2 .ensures) in
     let s3 = wrote-more s2 (ascii "\n") 1 _ _ (omega arith) (omega arith) (c .put .ensures) in
     wrote-same s3 _ (simp append-assoc)
-
 
 slice-aggregate-put-number : tie.Need-slice-aggregate-put-number
 slice-aggregate-put-number c = search needs

@@ -9,7 +9,6 @@ use lib.ListN.{replicate}
 use lib.Seq.{length-take-le}
 use Rattle.codec.specs.ByteForm.{placed}
 use Rattle.text.specs.Texts.{ascii, signed}
-
 use lib.IntN.{ℤ}
 use mir.Syntax.{w64}
 use mir.Val.{toZ, ofZ}
@@ -37,7 +36,6 @@ whole c =
     (w3 .put-signed .ensures ∙ ap (λ (z : ℤ). placed (w2 .put .last .0) (w2 .put .result) (signed z)) held) in
     let s4 = wrote-more s3 (ascii "\n") 1 _ _ (omega arith) (omega arith) (c .put2 .ensures) in
     wrote-same s4 _ (simp append-assoc)
-
 
 slice-aggregate-put-number : tie.Need-slice-aggregate-put-number
 slice-aggregate-put-number c = search needs

@@ -9,7 +9,6 @@ use lib.ListN.{replicate}
 use lib.Seq.{length-take-le}
 use Rattle.codec.specs.ByteForm.{placed}
 use Rattle.text.specs.Texts.{ascii, decimal}
-
 use Rattle.report_lines.specs.Lines.{headLine}
 use Rattle.report_lines.proofs.Forms.{Wrote, wrote-more, wrote-same, wrote-room, wrote-front, wrote-inside}
 use Rattle.report_lines.proofs.Lines.{number-first, number-more, numbers-joined}
@@ -35,7 +34,6 @@ whole c =
     let s3 = number-more (ascii " mark ") _ (w2 .before .before .before .before .before .before .before .before .fits .mark) (sets w2) _ _ (omega arith) (w3 .put-number3 .ensures) in
     let s4 = wrote-more s3 (ascii "\n") 1 _ _ (omega arith) (omega arith) (c .put .ensures) in
     wrote-same s4 _ (numbers-joined (ascii "parts ") (decimal (a .parts)) (ascii " sets ") (decimal (a .sets)) (ascii " mark ") (decimal (a .mark)) (ascii "\n"))
-
 
 slice-aggregate-put-number : tie.Need-slice-aggregate-put-number
 slice-aggregate-put-number c = search needs

@@ -6,7 +6,6 @@ use borrow.Author.Needs.{needs}
 use Rattle.report_lines.proofs.put_number.Statement.{statement}
 use Rattle.report_lines.proofs.put_number.Tie as tie
 
-
 put-requires : tie.Need-put-requires
 put-requires c κs = search needs
 

@@ -28,7 +28,6 @@ line c =
     let few = rest-few (a .number) (decimal (a .place)) (omega (arith, start .fits .number)) (omega (arith, decimal-few (a .place) (start .fits .place))) in
     wrote-same (wrote-more s1 (restOfLine (a .number) (decimal (a .place))) 44 _ _ few (omega arith) (c .put-count .ensures)) _ (refused-parts (a .number) (a .place))
 
-
 slice-aggregate-put : tie.Need-slice-aggregate-put
 slice-aggregate-put c = search needs
 

@@ -1,0 +1,29 @@
+-- `figures_text::cell_of` meets its contract: there is no cell behind the last.
+-- Assumes nothing.
+use mathlib.Core.Path.{sym}
+use native.Mathlib.Omega.{arith}
+use denote.Ref.{now}
+use lib.IntN.{pos}
+use lib.ListN.{List·getD-eq-default}
+use borrow.Author.Needs.{needs}
+use Rattle.figures_text.proofs.cell_of.Statement.{statement}
+use Rattle.figures_text.proofs.cell_of.Tie as tie
+
+returns : tie.Need-returns
+returns c = sym (List·getD-eq-default (now (c .before .args .cells)) (pos 0) (omega arith))
+
+sub-result : tie.Need-sub-result
+sub-result c = search needs
+
+mul-result : tie.Need-mul-result
+mul-result c = search needs
+
+shared-slice-copy-out-result : tie.Need-shared-slice-copy-out-result
+shared-slice-copy-out-result c = search needs
+
+returns-2 : tie.Need-returns-2
+returns-2 c = search needs
+
+pub cell-of-spec : {M : Type 1} → statement M
+cell-of-spec =
+    tie.close (tie.spec returns sub-result mul-result shared-slice-copy-out-result returns-2)

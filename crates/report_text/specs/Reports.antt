@@ -9,7 +9,7 @@ use Rattle.sets.specs.Structures.{listed}
 use Rattle.orders.specs.Counting.{count}
 use Rattle.orders.specs.Formulas.{pathCount}
 use Rattle.parts.specs.PartLists.{numbersOf}
-use Rattle.signature.specs.Figures.{domination}
+use Rattle.figures.specs.Figures.{domination}
 use Rattle.record.specs.Records.{Read, found, refused, Design, wholeRecord}
 use Rattle.text.specs.Texts.{ascii, decimal, signed, lines}
 

@@ -15,7 +15,7 @@ use Rattle.parts.specs.declared.PartList.{PartList}
 use Rattle.text.specs.Texts.{lines}
 use Rattle.report_lines.specs.Lines.{restOfLine}
 use Rattle.report_lines.proofs.Lines.{rest-few}
-use Rattle.report_lines.proofs.Forms.{Wrote, wrote-none, wrote-more, wrote-same, wrote-most}
+use Rattle.codec.proofs.Forms.{Wrote, wrote-none, wrote-more, wrote-same, wrote-most}
 use Rattle.figures_text.specs.FiguresText.{linesBy, textBy}
 
 -- ---- lines 1 to n

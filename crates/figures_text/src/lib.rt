@@ -62,7 +62,7 @@ fn put_cells(text: &mut [u8], at: usize, word: &[u8], count: usize, cells: &[i64
     let mut next = at;
     for k in 1..count + 1 {
         let worded = text::put(text, next, word);
-        next = report_lines::put_figure(text, worded, k as u64, cell_of(cells, k));
+        next = report_lines::put_figure(text, worded, k as u64, figure_of(cells, k));
     }
     next
 }
@@ -78,7 +78,12 @@ fn put_counts(text: &mut [u8], at: usize, list: PartList, counts: &[u64]) -> usi
     let mut next = at;
     for i in 1..n + 1 {
         let worded = text::put(text, next, b"part");
-        next = report_lines::put_count(text, worded, number_of(list, i), count_of(counts, i));
+        next = report_lines::put_count(
+            text,
+            worded,
+            number_of(list, i),
+            numbers::cell(counts, i - 1),
+        );
     }
     next
 }
@@ -101,23 +106,21 @@ fn number_of(list: PartList, position: usize) -> u64
 }
 
 // Cell k of a vector, counted from 1; there is 0 behind the last.
-fn cell_of(cells: &[i64], k: usize) -> i64
+fn figure_of(cells: &[i64], k: usize) -> i64
     requires { ⌜ 0 < k ⌝ }
     ensures { λ r. ⌜ r ≡ getD (now (cells .entry)) (k - 1) (pos 0) ⌝ }
 {
     if cells.len() < k {
         return 0;
     }
-    cells[k - 1]
+    cell_of(cells, k)
 }
 
-// The count of a position, from 1; there is 0 behind the last.
-fn count_of(counts: &[u64], position: usize) -> u64
-    requires { ⌜ 0 < position ⌝ }
-    ensures { λ r. ⌜ r ≡ getD (now (counts .entry)) (position - 1) 0 ⌝ }
+// A cell that there is.
+fn cell_of(cells: &[i64], k: usize) -> i64
+    requires { ⌜ 0 < k ⌝ }
+    requires { ⌜ k ≤ length (now cells) ⌝ }
+    ensures { λ r. ⌜ r ≡ getD (now (cells .entry)) (k - 1) (pos 0) ⌝ }
 {
-    if counts.len() < position {
-        return 0;
-    }
-    counts[position - 1]
+    cells[k - 1]
 }

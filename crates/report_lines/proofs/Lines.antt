@@ -12,7 +12,7 @@ use Rattle.codec.specs.ByteForm.{leaves, placed}
 use Rattle.text.specs.Texts.{ascii, decimal}
 use Rattle.text.proofs.Decimals.{decimal-few}
 use Rattle.report_lines.specs.Lines.{headLine, restOfLine, refusedLine}
-use Rattle.report_lines.proofs.Forms.{Wrote, placed-more, wrote-first, wrote-more}
+use Rattle.codec.proofs.Forms.{Wrote, placed-more, wrote-first, wrote-more}
 
 -- ---- a word and a number
 

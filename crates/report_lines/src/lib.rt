@@ -1,5 +1,4 @@
 // The lines of a report (01, "The report program"), each built in an array that has room for it and then put whole.
-use answer::Refusal;
 use answer::Verdict;
 use answer::Written;
 ghost use mathlib.Core.Path.{_≡_};
@@ -7,7 +6,6 @@ ghost use mathlib.Core.List.{_++_};
 ghost use Prim.Native.Nat.{_+_, _≤_};
 ghost use lib.ListN.{length};
 ghost use Rattle.answer.specs.Outcome.{at, outcome, delivered};
-ghost use Rattle.answer.specs.Refusals.{shortBuffer};
 ghost use Rattle.codec.specs.ByteForm.{leaves, placed};
 ghost use Rattle.text.specs.Texts.{decimal, signed};
 ghost use Rattle.report_lines.specs.Lines.{headLine, restOfLine, refusedLine};
@@ -72,17 +70,7 @@ fn hand_out(result: &[u8], buffer: &mut [u8]) -> Written
     ensures { λ r. ⌜ outcome r (now (buffer .exit)) ≡ delivered Verdict.Accepted (now (result .entry)) (now (buffer .entry)) ⌝ }
 {
     if buffer.len() < result.len() {
-        return short(result.len());
+        return answer::short(result.len());
     }
     Written::Length(text::put(buffer, 0, result))
-}
-
-// The answer where a lent buffer is short.
-fn short(needed: usize) -> Written
-    ensures { λ r. ⌜ r ≡ Written.Refused (at shortBuffer needed) ⌝ }
-{
-    Written::Refused(Refusal {
-        number: answer::SHORT_BUFFER,
-        place: needed,
-    })
 }

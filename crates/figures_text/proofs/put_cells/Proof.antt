@@ -12,7 +12,7 @@ use mir.Facts.{toZ-ofZ}
 use Rattle.text.specs.Texts.{signed}
 use Rattle.text.proofs.Decimals.{signed-few}
 use Rattle.report_lines.specs.Lines.{restOfLine}
-use Rattle.report_lines.proofs.Forms.{wrote-length}
+use Rattle.codec.proofs.Forms.{wrote-length}
 use Rattle.figures_text.specs.FiguresText.{cellLine}
 use Rattle.figures_text.proofs.Blocks.{Before, before-first, before-next, before-end}
 use borrow.Author.Needs.{needs}
@@ -36,8 +36,8 @@ loop-holds c =
 put-requires : tie.Need-put-requires Inv-loop μ-loop
 put-requires c κs = search needs
 
-cell-of-requires : tie.Need-cell-of-requires Inv-loop μ-loop
-cell-of-requires c κs = omega arith
+figure-of-requires : tie.Need-figure-of-requires Inv-loop μ-loop
+figure-of-requires c κs = omega arith
 
 put-figure-requires : tie.Need-put-figure-requires Inv-loop μ-loop
 put-figure-requires c κs = search needs
@@ -52,7 +52,7 @@ loop-again : tie.Need-loop-again Inv-loop μ-loop
 unfolding cellLine
 loop-again c =
     let w2 = c .before .before in
-    let cell = w2 .before .cell-of in
+    let cell = w2 .before .figure-of in
     let w1 = w2 .before .before .before .before .before in
     let test = w1 .before .before in
     let head = test .before in
@@ -89,7 +89,7 @@ put-cells-spec =
     add-k-end
     loop-holds
     put-requires
-    cell-of-requires
+    figure-of-requires
     put-figure-requires
     add-k
     loop-less

@@ -8,7 +8,7 @@ use denote.Ref.{now}
 use Rattle.text.specs.Texts.{ascii, decimal}
 use Rattle.text.proofs.Decimals.{decimal-few}
 use Rattle.report_lines.specs.Lines.{restOfLine}
-use Rattle.report_lines.proofs.Forms.{wrote-length}
+use Rattle.codec.proofs.Forms.{wrote-length}
 use Rattle.figures_text.specs.FiguresText.{countLine}
 use Rattle.figures_text.proofs.Blocks.{Before, before-first, before-next, before-end}
 use borrow.Author.Needs.{needs}
@@ -38,8 +38,11 @@ put-requires c κs = search needs
 number-of-requires : tie.Need-number-of-requires Inv-loop μ-loop
 number-of-requires c κs = (omega arith, omega arith)
 
-count-of-requires : tie.Need-count-of-requires Inv-loop μ-loop
-count-of-requires c κs = omega arith
+sub-cell : tie.Need-sub-cell Inv-loop μ-loop
+sub-cell c = omega arith
+
+cell-requires : tie.Need-cell-requires Inv-loop μ-loop
+cell-requires c κs = search needs
 
 put-count-requires : tie.Need-put-count-requires Inv-loop μ-loop
 put-count-requires c κs = search needs
@@ -54,7 +57,7 @@ loop-again : tie.Need-loop-again Inv-loop μ-loop
 unfolding countLine
 loop-again c =
     let w2 = c .before .before in
-    let count = w2 .before .count-of in
+    let count = w2 .before .cell in
     let number = w2 .before .before .number-of in
     let w1 = w2 .before .before .before .before .before .before in
     let test = w1 .before .before .before in
@@ -91,7 +94,8 @@ put-counts-spec =
     slice-aggregate-put
     put-requires
     number-of-requires
-    count-of-requires
+    sub-cell
+    cell-requires
     put-count-requires
     add-i
     loop-less

@@ -6,7 +6,7 @@ use denote.Ref.{now}
 use lib.ListN.{length, replicate}
 use lib.Seq.{length-take-le}
 use Rattle.codec.specs.ByteForm.{placed}
-use Rattle.report_lines.proofs.Forms.{Wrote, wrote-none, wrote-first, wrote-same, wrote-front, wrote-inside}
+use Rattle.codec.proofs.Forms.{Wrote, wrote-none, wrote-first, wrote-same, wrote-front, wrote-inside}
 use Rattle.figures_text.specs.FiguresText.{textBy}
 use Rattle.figures_text.proofs.Blocks.{few-parts, many-parts}
 use borrow.Author.Needs.{needs}

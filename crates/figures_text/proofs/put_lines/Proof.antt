@@ -9,7 +9,7 @@ use Rattle.codec.specs.ByteForm.{placed}
 use Rattle.text.specs.Texts.{ascii, lines}
 use Rattle.report_lines.specs.Lines.{headLine}
 use Rattle.report_lines.proofs.Lines.{head-few}
-use Rattle.report_lines.proofs.Forms.{Wrote, wrote-first, wrote-more, wrote-same, wrote-room}
+use Rattle.codec.proofs.Forms.{Wrote, wrote-first, wrote-more, wrote-same, wrote-room}
 use Rattle.figures_text.specs.FiguresText.{cellLine, countLine, linesBy}
 use Rattle.figures_text.proofs.Blocks.{blocks-joined}
 use borrow.Author.Needs.{needs}

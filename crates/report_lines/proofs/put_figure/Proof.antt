@@ -15,7 +15,7 @@ use mir.Val.{toZ, ofZ}
 use mir.Facts.{toZ-ofZ}
 use Rattle.text.proofs.Decimals.{signed-few}
 use Rattle.report_lines.specs.Lines.{restOfLine}
-use Rattle.report_lines.proofs.Forms.{Wrote, wrote-more, wrote-same, wrote-front, wrote-inside}
+use Rattle.codec.proofs.Forms.{Wrote, wrote-more, wrote-same, wrote-front, wrote-inside}
 use Rattle.report_lines.proofs.Lines.{number-first}
 use borrow.Author.Needs.{needs}
 use Rattle.report_lines.proofs.put_figure.Statement.{statement}

@@ -3,7 +3,7 @@
 -- Assumes nothing.
 use mathlib.Core.Path.{_≡_, sym, ap, ap₂, _∙_, fun-ext}
 use mathlib.Core.Bool.{Bool, true, false, cond, not, _&&_}
-use mathlib.Core.List.{List, _++_, append-assoc}
+use mathlib.Core.List.{List, _++_}
 use mathlib.Core.Logic.{_⊎_, inl, inr}
 use Prim.Native.Nat.{ℕ, suc, _+_, _-_, _*_, _^_, _≤_, _<_}
 use native.Mathlib.Omega.{arith}
@@ -38,7 +38,7 @@ use Rattle.figures.proofs.Importances.{importance-is-count}
 use Rattle.record.specs.Records.{Design}
 use Rattle.record.specs.RecordBytes.{DesignRules}
 use Rattle.record.proofs.MinimalSets.{design-table}
-use Rattle.text.specs.Texts.{ascii, decimal, signed, lines}
+use Rattle.text.specs.Texts.{decimal, signed, lines}
 use Rattle.report_text.specs.Reports.{firstLine, orderLine, domLine, partLine, reportOf}
 use Rattle.report_lines.specs.Lines.{headLine, figureLine}
 use Rattle.figures_text.specs.FiguresText.{cellLine, countLine, linesBy, textBy}

@@ -1,10 +1,10 @@
--- `examples::show_named` is safe and ends: it looks at so many sets.
+-- `record_examples::show_named` is safe and ends: it looks at so many sets.
 -- Assumes nothing.
 use Prim.Native.Nat.{_≤_, _-_}
 use native.Mathlib.Omega.{arith}
 use borrow.Author.Needs.{needs}
-use Rattle.examples.proofs.show_named.Statement.{statement}
-use Rattle.examples.proofs.show_named.Tie as tie
+use Rattle.record_examples.proofs.show_named.Statement.{statement}
+use Rattle.record_examples.proofs.show_named.Tie as tie
 
 abbrev Inv-loop : tie.InvT-loop
 Inv-loop «record» list begin count offset₀ t9 t10 counter₀ offset counter = counter ≤ count

@@ -1,10 +1,10 @@
--- `examples::with_sensor` is safe and ends: the part of the buffer that is a record is as long as was asked.
+-- `record_examples::with_sensor` is safe and ends: the part of the buffer that is a record is as long as was asked.
 -- Assumes nothing.
 use mathlib.Core.Path.{sym}
 use lib.Seq.{length-take-le}
 use borrow.Author.Needs.{needs}
-use Rattle.examples.proofs.with_sensor.Statement.{statement}
-use Rattle.examples.proofs.with_sensor.Tie as tie
+use Rattle.record_examples.proofs.with_sensor.Statement.{statement}
+use Rattle.record_examples.proofs.with_sensor.Tie as tie
 
 slice-aggregate-sensor-design : tie.Need-slice-aggregate-sensor-design
 slice-aggregate-sensor-design c = sym (length-take-le _ _ (c .before .if1 .taken))

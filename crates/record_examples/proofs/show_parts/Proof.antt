@@ -1,10 +1,10 @@
--- `examples::show_parts` is safe and ends: there are as many numbers as a list has cells.
+-- `record_examples::show_parts` is safe and ends: there are as many numbers as a list has cells.
 -- Assumes nothing.
 use Prim.Native.Nat.{_≤_, _-_}
 use native.Mathlib.Omega.{arith}
 use borrow.Author.Needs.{needs}
-use Rattle.examples.proofs.show_parts.Statement.{statement}
-use Rattle.examples.proofs.show_parts.Tie as tie
+use Rattle.record_examples.proofs.show_parts.Statement.{statement}
+use Rattle.record_examples.proofs.show_parts.Tie as tie
 
 abbrev Inv-loop : tie.InvT-loop
 Inv-loop list set numbers i₀ t5 i = i ≤ 16

@@ -27,7 +27,8 @@ use Rattle.sets.proofs.Structures.{minimalSets-same}
 use Rattle.structure.proofs.Acceptance.{accepted-table, table-beyond, tableOf-accepted, list-works}
 use Rattle.structure.proofs.Spread.{spread-listed, spread-beyond}
 use Rattle.structure.proofs.Walks.{trimmed-same, spread-same, minimal-walk}
-use Rattle.words.specs.Words.{inWords, wordsOf, among, spread, trimmed}
+use Rattle.words.specs.Words.{inWords, wordsOf, among}
+use Rattle.closure.specs.Closure.{spread, trimmed}
 use Rattle.words.proofs.Words.{inWords-wordsOf}
 use Rattle.changing.specs.Steps.{SomeSets}
 

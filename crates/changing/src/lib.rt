@@ -14,7 +14,8 @@ ghost use lib.ListN.{length};
 ghost use Rattle.answer.specs.Outcome.{at, outcome, delivered};
 ghost use Rattle.codec.specs.ByteForm.{placed, leaves};
 ghost use Rattle.orders.specs.Antichains.{mostSets};
-ghost use Rattle.parts.specs.PartLists.{mostParts, listOf, WellFormed};
+ghost use Rattle.numbering.specs.Numbering.{mostParts};
+ghost use Rattle.parts.specs.PartLists.{listOf, WellFormed};
 ghost use Rattle.record.specs.Records.{design, wholeRecord};
 ghost use Rattle.record.specs.Contents.{stepAt, metIn};
 ghost use Rattle.record.specs.RecordBytes.{formsOf, recordBytes};
@@ -240,8 +241,8 @@ fn minimal_of_sets(n: usize, sets: &[u16], minimal: &mut [u16]) -> Written
     ensures { λ r. ⌜ outcome r (now (minimal .exit)) ≡ delivered Verdict.Accepted (minimalSets n (listed (now (sets .entry)))) (now (minimal .entry)) ⌝ }
 {
     let marks = words::marked(sets);
-    let reached = words::carried(&marks, n);
-    let least = words::trimmed(&reached, n);
+    let reached = closure::carried(&marks, n);
+    let least = closure::trimmed(&reached, n);
     words::list(&least, minimal)
 }
 

@@ -5,7 +5,7 @@ use Prim.Native.Nat.{ℕ, _-_}
 use lib.Dec.{leb}
 use lib.IntN.{ℤ, pos}
 use lib.ListN.{getD}
-use Rattle.parts.specs.PartLists.{mostParts}
+use Rattle.numbering.specs.Numbering.{mostParts}
 use Rattle.parts.specs.declared.PartList.{PartList}
 use Rattle.text.specs.Texts.{ascii, decimal, signed, lines}
 use Rattle.report_lines.specs.Lines.{headLine, restOfLine}

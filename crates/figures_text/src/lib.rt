@@ -5,7 +5,7 @@ ghost use Prim.Native.Nat.{_+_, _-_, _*_, _≤_, _<_};
 ghost use lib.IntN.{pos};
 ghost use lib.ListN.{length, getD};
 ghost use Rattle.codec.specs.ByteForm.{leaves, placed};
-ghost use Rattle.parts.specs.PartLists.{mostParts};
+ghost use Rattle.numbering.specs.Numbering.{mostParts};
 ghost use Rattle.text.specs.Texts.{lines};
 ghost use Rattle.figures_text.specs.FiguresText.{cellLine, countLine, linesBy, textBy};
 

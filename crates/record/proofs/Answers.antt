@@ -21,7 +21,7 @@ use Rattle.record.specs.declared.Ending.the-variants as ending
 use Rattle.record.specs.Records.{Read, found, refused, then, fieldAt, setCountRefusal, setRefusal, partsAt, Head, headAt, setsAt, Design, recordAt, alone, wholeRecord}
 use Rattle.record.specs.Contents.{headingOf, nothing, contentsOf, contentsAt, wholeContents}
 use Rattle.record.specs.Steps.{partsOf, endingOf, passed, Pass, decided}
-use Rattle.parts.specs.PartLists.{mostParts}
+use Rattle.numbering.specs.Numbering.{mostParts}
 use Rattle.record.proofs.Found.{then-found}
 use Rattle.record.proofs.PartNumbers.{parts-few}
 

@@ -10,7 +10,8 @@ ghost use mathlib.Core.List.{[]};
 ghost use Prim.Native.Nat.{_+_, _^_, _≤_, _<_};
 ghost use denote.Ref.{ptr};
 ghost use Rattle.answer.specs.Outcome.{at, outcome, delivered};
-ghost use Rattle.parts.specs.PartLists.{mostParts, listOf};
+ghost use Rattle.numbering.specs.Numbering.{mostParts};
+ghost use Rattle.parts.specs.PartLists.{listOf};
 ghost use Rattle.sets.specs.Structures.{listed};
 ghost use Rattle.sets.specs.Tables.{tableOf, tableLength};
 ghost use Rattle.words.specs.Words.{inWords};
@@ -182,7 +183,7 @@ pub fn table_of_record(bytes: &[u8], table: &mut [u8]) -> Written
             }
             let marked = mark_sets(bytes, contents.begin, n, contents.sets);
             let words = marked.words;
-            let reached = words::carried(&words, n);
+            let reached = closure::carried(&words, n);
             words::store(&reached, &mut table[..needed]);
             Written::Length(needed)
         }
@@ -293,7 +294,7 @@ fn read_part_number(bytes: &[u8], start: usize, previous: u64, mark: u64) -> Rea
     match number {
         Reading::Refused(refusal) => Reading::Refused(refusal),
         Reading::Number { value, next } => {
-            if PartList::misnumbered(previous, mark, value) {
+            if numbering::misnumbered(previous, mark, value) {
                 return refused(answer::WRONG_PART_NUMBER, start);
             }
             Reading::Number { value, next }
@@ -419,8 +420,8 @@ fn read_sets(bytes: &[u8], start: usize, n: usize, count: usize) -> Ending
 {
     let marked = mark_sets(bytes, start, n, count);
     let words = marked.words;
-    let reached = words::carried(&words, n);
-    let minimal = words::trimmed(&reached, n);
+    let reached = closure::carried(&words, n);
+    let minimal = closure::trimmed(&reached, n);
     let nested = first_nested(bytes, start, marked.read, &minimal);
     if let Verdict::Refused(refusal) = nested {
         return Ending::Refused(refusal);

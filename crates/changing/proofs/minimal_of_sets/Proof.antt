@@ -7,7 +7,8 @@ use denote.Ref.{now}
 use Rattle.answer.specs.Outcome.{delivered}
 use Rattle.answer.specs.declared.Verdict.the-variants.{Accepted}
 use Rattle.sets.specs.Masks.{those}
-use Rattle.words.specs.Words.{inWords, wordsOf, spread, trimmed}
+use Rattle.words.specs.Words.{inWords, wordsOf}
+use Rattle.closure.specs.Closure.{spread, trimmed}
 use Rattle.changing.proofs.ListSets.{sets-walk}
 use borrow.Author.Needs.{needs}
 use Rattle.changing.proofs.minimal_of_sets.Statement.{statement}

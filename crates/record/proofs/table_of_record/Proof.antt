@@ -18,7 +18,8 @@ use Rattle.sets.specs.Structures.{listed}
 use Rattle.sets.specs.Tables.{packed, tableOf, tableLength}
 use Rattle.sets.proofs.Tables.{tableOf-length}
 use Rattle.structure.proofs.Walks.{listed-walk}
-use Rattle.words.specs.Words.{inWords, wordsOf, among, spread}
+use Rattle.words.specs.Words.{inWords, wordsOf, among}
+use Rattle.closure.specs.Closure.{spread}
 use Rattle.record.specs.declared.Contents.{Contents}
 use Rattle.record.specs.declared.Marked.{Marked}
 use Rattle.record.specs.Contents.{designIn}

@@ -85,6 +85,7 @@ fn refused_lists() {
 fn figures() {
     say(b"figures\n");
     small_systems();
+    bridge();
     systems_with_the_same_figures();
     systems_of_remark_4();
     modules();
@@ -95,6 +96,9 @@ fn small_systems() {
     figures_of_list(b"n = 2, {1} {2} (001, example 1)", 2, &[1, 2]);
     figures_of_list(b"n = 2, {1,2}", 2, &[3]);
     figures_of_list(b"n = 2, {1}", 2, &[1]);
+}
+
+fn bridge() {
     figures_of_list(
         b"the bridge (000, examples 1 to 4; 001, example 2; 003, examples 2 and 3)",
         5,
@@ -138,15 +142,38 @@ fn figures_of_front(n: usize, bytes: &[u8], length: usize) {
 }
 
 fn figures_of_table(n: usize, bytes: &[u8]) {
+    path_counts_of_table(n, bytes);
+    tail_of_table(n, bytes);
+    signature_of_table(n, bytes);
+    domination_of_table(n, bytes);
+    importances_of_table(n, bytes);
+}
+
+fn path_counts_of_table(n: usize, bytes: &[u8]) {
     let mut cells = [0i64; 9];
     let counted = signature::path_counts(n, bytes, &mut cells);
     vector(b"  path counts", counted, &cells);
+}
+
+fn tail_of_table(n: usize, bytes: &[u8]) {
+    let mut cells = [0i64; 9];
     let tailed = signature::tail(n, bytes, &mut cells);
     vector(b"  tail", tailed, &cells);
+}
+
+fn signature_of_table(n: usize, bytes: &[u8]) {
+    let mut cells = [0i64; 9];
     let signed = signature::signature(n, bytes, &mut cells);
     vector(b"  signature", signed, &cells);
+}
+
+fn domination_of_table(n: usize, bytes: &[u8]) {
+    let mut cells = [0i64; 9];
     let dominated = signature::domination(n, bytes, &mut cells);
     vector(b"  domination", dominated, &cells);
+}
+
+fn importances_of_table(n: usize, bytes: &[u8]) {
     let mut counts = [0u64; 8];
     let weighed = signature::importance(n, bytes, &mut counts);
     importances(weighed, &counts);
@@ -185,12 +212,26 @@ fn shares_of_group(name: &[u8], group: usize) {
     say(name);
     say(b":\n");
     let bridge = [0x00u8, 0xEA, 0xEC, 0xEE];
+    shares_by_sets(&bridge, group);
+    shares_through_h(&bridge, group);
+    coefficients_of_h(&bridge, group);
+}
+
+fn shares_by_sets(table: &[u8], group: usize) {
     let mut cells = [0i64; 12];
-    let by_sets = subsignature::shares_by_sets(5, &bridge, group, &mut cells);
+    let by_sets = subsignature::shares_by_sets(5, table, group, &mut cells);
     vector(b"  set by set", by_sets, &cells);
-    let through = subsignature::shares_by_reliability(5, &bridge, group, &mut cells);
+}
+
+fn shares_through_h(table: &[u8], group: usize) {
+    let mut cells = [0i64; 12];
+    let through = subsignature::shares_by_reliability(5, table, group, &mut cells);
     vector(b"  through h", through, &cells);
-    let coefficients = subsignature::reliability(5, &bridge, group, &mut cells);
+}
+
+fn coefficients_of_h(table: &[u8], group: usize) {
+    let mut cells = [0i64; 12];
+    let coefficients = subsignature::reliability(5, table, group, &mut cells);
     vector(b"  h", coefficients, &cells);
 }
 
@@ -265,28 +306,36 @@ fn table(name: &[u8], n: usize, bytes: &[u8]) {
 fn list(name: &[u8], n: usize, masks: &[u16]) {
     say(name);
     say(b": ");
+    table_and_minimal(n, masks);
+    say(b"\n");
+}
+
+fn table_and_minimal(n: usize, masks: &[u16]) {
     let mut bytes = [0u8; 4];
     let wrote = forms::table_of_list(n, masks, &mut bytes);
     match wrote {
         Written::Refused(refusal) => refused(refusal.number, refusal.place),
         Written::Length(length) => {
             show_bytes(&bytes, length);
-            say(b"; minimal");
             minimal(n, &bytes, length);
         }
     }
-    say(b"\n");
 }
 
 // The minimal sets of the table in front of a buffer.
 fn minimal(n: usize, bytes: &[u8], length: usize) {
-    let mut sets = [0u16; 8];
+    say(b"; minimal");
     if length <= bytes.len() {
-        let wrote = forms::minimal_sets(n, &bytes[..length], &mut sets);
-        match wrote {
-            Written::Refused(refusal) => refused(refusal.number, refusal.place),
-            Written::Length(count) => show_sets(&sets, count),
-        }
+        minimal_of_table(n, &bytes[..length]);
+    }
+}
+
+fn minimal_of_table(n: usize, bytes: &[u8]) {
+    let mut sets = [0u16; 8];
+    let wrote = forms::minimal_sets(n, bytes, &mut sets);
+    match wrote {
+        Written::Refused(refusal) => refused(refusal.number, refusal.place),
+        Written::Length(count) => show_sets(&sets, count),
     }
 }
 

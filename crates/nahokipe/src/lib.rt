@@ -4,7 +4,7 @@ use answer::Written;
 use record::Contents;
 use record::Cursor;
 use record::Step;
-use sheet_reading::Received;
+use sheet_entries::Received;
 ghost use mathlib.Core.Path.{_≡_};
 ghost use Rattle.answer.specs.Outcome.{delivered};
 ghost use Rattle.sets.specs.Structures.{listed, minimalSets};
@@ -22,7 +22,7 @@ ghost use Rattle.answer.specs.Outcome.{at};
 ghost use Rattle.changes.specs.Changes.{addPart, takeOut, addSet};
 ghost use Rattle.changes.specs.Records.{firstRecord, changedRecord};
 ghost use Rattle.sheet.specs.Sheets.{sheetBytes, sheetOf};
-ghost use Rattle.sheet_reading.specs.Answers.{received};
+ghost use Rattle.sheet_entries.specs.Answers.{received};
 ghost use Rattle.report_lines.specs.Lines.{refusedLine};
 ghost use Rattle.report_text.specs.Reporting.{reported};
 ghost use Prim.Native.Nat.{_-_};
@@ -247,7 +247,7 @@ pub extern "C" fn nahokipe_write_sheet(
 pub extern "C" fn nahokipe_read_sheet(bytes: &[u8], cells: &mut [i64]) -> Sheet
     ensures { λ r. ⌜ LeavesSheet (received (sheetOf (now (bytes .entry))) (now (cells .entry))) r (now (cells .exit)) ⌝ }
 {
-    of_received(sheet_reading::read_sheet(bytes, cells))
+    of_received(sheet_entries::read_sheet(bytes, cells))
 }
 
 // What stands in the record that the bytes are.

@@ -1,19 +1,13 @@
--- What a sheet in a struct says of the sheet, and what goes into a lent buffer. Assumes nothing.
+-- What a sheet in a struct says of the sheet. Assumes nothing.
 use mathlib.Core.Path.{_≡_, refl, sym, ap, subst}
-use mathlib.Core.List.{List, _++_}
-use Prim.Native.Nat.{ℕ, _-_, _≤_, _<_}
+use Prim.Native.Nat.{ℕ, _-_, _≤_}
 use native.Mathlib.Omega.{arith}
-use lib.IntN.{ℤ, pos}
-use lib.ListN.{length, drop, replicate, length-append}
-use borrow.Author.Tests.{le-leb, lt-leb}
-use Rattle.answer.specs.Outcome.{at}
-use Rattle.answer.specs.Refusals.{shortBuffer}
+use lib.IntN.{pos}
+use lib.ListN.{length, replicate, length-append}
 use Rattle.answer.specs.declared.Refusal.{Refusal}
 use Rattle.answer.specs.declared.Verdict.the-variants as verdict
-use Rattle.answer.specs.declared.Written.the-variants.{Length}
 use Rattle.vector.specs.Held.{mostEntries, entryCells, entriesOf}
-use Rattle.vector.specs.declared.Kind.{Kind}
-use Rattle.sheet_reading.specs.Answers.{sheetRead, receivedOutcome, notReceived, received}
+use Rattle.sheet_reading.specs.Answers.{sheetRead}
 use Rattle.sheet.specs.Sheets.{Sheet, Given, Refused}
 use Rattle.sheet_reading.specs.declared.SheetRead.{SheetRead}
 use Rattle.sheet_reading.proofs.Walk.{entries-held}
@@ -40,11 +34,3 @@ pub sheet-refused : (sheet : Sheet) (read : SheetRead) (why : Refusal) → read 
 sheet-refused (Refused other) read why e refused = cc (ap (λ (r : SheetRead). r .verdict) e)
 sheet-refused (Given kind n entries) read why e refused =
     let clash : _≡_ {A = ℕ} 0 1 = cc (ap (λ (r : SheetRead). r .verdict) e) in absurd (omega arith)
-
-module _ (kind : Kind) (n : ℕ) (entries cells : List ℤ) where
-  pub received-short : length cells < length entries → notReceived (at shortBuffer (length entries)) cells ≡ received (Given kind n entries) cells
-  received-short short = simp (lt-leb (length entries) (length cells) short)
-
-  pub received-long : length entries ≤ length cells
-      → receivedOutcome (record { kind = kind; n = n; answer = Length (length entries) }) (entries ++ drop (length entries) cells) ≡ received (Given kind n entries) cells
-  received-long fits = simp (le-leb (length entries) (length cells) fits)

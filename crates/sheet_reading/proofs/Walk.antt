@@ -9,7 +9,7 @@ use native.Mathlib.Omega.{arith}
 use lib.IntN.{ℤ, pos}
 use lib.Dec.{ltb}
 use lib.ListN.{length, take, set, replicate, length-append}
-use lib.Seq.{set-at, take-append-seam}
+use lib.Seq.{take-append-seam}
 use borrow.Author.Tests.{le-leb, eq-eqb}
 use Rattle.answer.specs.Outcome as answer
 use Rattle.answer.specs.Refusals.{wrongPartCount, wrongVectorLength, bytesLeft}
@@ -17,6 +17,7 @@ use Rattle.answer.specs.declared.Verdict.the-variants.{Accepted}
 use Rattle.answer.proofs.Outcomes.{refuse-passed}
 use Rattle.sets.proofs.Bools.{and-both}
 use Rattle.answer.specs.declared.Refusal.{Refusal}
+use Rattle.answer.proofs.FixedCells.{cells-more}
 use Rattle.codec.specs.Reading.{numberAt}
 use Rattle.codec.specs.declared.Field.the-variants as field
 use Rattle.codec.specs.declared.Reading.{Reading}
@@ -27,13 +28,6 @@ use Rattle.vector.specs.Vectors.{countsRefusal, vectorRefusal}
 use Rattle.vector.specs.declared.Kind.{Kind}
 use Rattle.sheet.specs.Sheets.{decoded, Sheet, Given, Refused, refuse, afterNumber, afterEntries, judged}
 use Rattle.sheet_reading.specs.Steps.{ended}
-
--- one more entry behind some fills the first spare cell
-cells-more : (entries : List ℤ) (count : ℕ) (entry : ℤ) → length entries ≡ count → count < mostEntries → set (entryCells entries) count entry ≡ entryCells (entries ++ (entry ∷ []))
-cells-more entries count entry counted few =
-    let spare : mostEntries - length entries ≡ suc (mostEntries - length (entries ++ (entry ∷ []))) =
-    simp length-append (omega arith) in
-    rw spare (set-at entries (pos 0) _ entry count counted ∙ sym (append-assoc entries (entry ∷ []) _))
 
 pub record EntriesWalk (bytes : List ℕ) (kind : Kind) (count start : ℕ) (later : List ℤ → ℕ → Sheet) (cells : List ℤ) (next index : ℕ) : Type 0 where
   pub earlier : List ℤ
@@ -70,7 +64,7 @@ module _ {bytes : List ℕ} {kind : Kind} {count start : ℕ} {later : List ℤ 
         earlier = walk .earlier ++ (entry ∷ []);
         within = omega arith;
         counted = length-append (walk .earlier) (entry ∷ []) ∙ ap (λ (k : ℕ). k + 1) (walk .counted);
-        stands = ap (λ (l : List ℤ). set l index entry) (walk .stands) ∙ cells-more (walk .earlier) index entry (walk .counted) (omega arith);
+        stands = ap (λ (l : List ℤ). set l index entry) (walk .stands) ∙ cells-more mostEntries (pos 0) (walk .earlier) index entry (walk .counted) (omega arith);
         rest = ap (λ (f : List ℤ → ℕ → Sheet). afterEntries bytes kind (count - (index + 1)) after f)
             (fun-ext (λ entries. fun-ext (λ end. ap (λ (l : List ℤ). later l end) (append-assoc (walk .earlier) (entry ∷ []) entries))))
             ∙ sym (step h ∙ ap (λ (r : Reading). afterNumber r onward) e);

@@ -1,15 +1,13 @@
 // Vector sheets (01, "Records on disk"), read as a vector.
 use answer::Verdict;
-use answer::Written;
 use codec::Field;
 use codec::Reading;
 use vector::Kind;
 use vector::Vector;
 ghost use mathlib.Core.Path.{_≡_};
-ghost use mathlib.Core.List.{_++_};
 ghost use Prim.Native.Nat.{_≤_};
 ghost use lib.Dec.{ltb};
-ghost use lib.ListN.{length, drop};
+ghost use lib.ListN.{length};
 ghost use Rattle.answer.specs.Outcome.{at, refuse, andThen};
 ghost use Rattle.answer.specs.Refusals.{bytesLeft};
 ghost use Rattle.codec.specs.Fields.{top};
@@ -17,20 +15,13 @@ ghost use Rattle.codec.specs.Reading.{numberAt};
 ghost use Rattle.vector.specs.Held.{entryCells, entriesOf};
 ghost use Rattle.vector.specs.Vectors.{vectorRefusal, countsRefusal};
 ghost use Rattle.sheet.specs.Sheets.{decoded, Refused, sheetOf, afterNumber};
-ghost use Rattle.sheet_reading.specs.Answers.{sheetRead, receivedOutcome, received};
+ghost use Rattle.sheet_reading.specs.Answers.{sheetRead};
 ghost use Rattle.sheet_reading.specs.Steps.{ended, entered, numbered};
 
 // What reading a sheet finds: its vector, or why there is none, and then a vector of no entries.
 pub struct SheetRead {
     pub vector: Vector,
     pub verdict: Verdict,
-}
-
-// What reading a sheet into a lent buffer answers: its kind, n and the number of its entries; of a refused sheet path counts and 0.
-pub struct Received {
-    pub kind: Kind,
-    pub n: usize,
-    pub answer: Written,
 }
 
 // The vector of a sheet.
@@ -52,32 +43,6 @@ pub fn vector_of_sheet(bytes: &[u8]) -> SheetRead
     }
 }
 
-// The entries of a sheet, into a lent buffer.
-pub fn read_sheet(bytes: &[u8], cells: &mut [i64]) -> Received
-    ensures { λ r. ⌜ receivedOutcome r (now (cells .exit)) ≡ received (sheetOf (now (bytes .entry))) (now (cells .entry)) ⌝ }
-{
-    let read = vector_of_sheet(bytes);
-    let verdict = read.verdict;
-    match verdict {
-        Verdict::Refused(refusal) => not_received(refusal.number, refusal.place),
-        Verdict::Accepted => {
-            let vector = read.vector;
-            let length = vector.length;
-            if cells.len() < length {
-                return not_received(answer::SHORT_BUFFER, length);
-            }
-            let entries = vector.entries;
-            copy(&entries[..length], cells);
-            let kind = vector.kind;
-            Received {
-                kind,
-                n: vector.n,
-                answer: Written::Length(length),
-            }
-        }
-    }
-}
-
 // A refused sheet.
 fn refused_sheet(number: u8, place: usize) -> SheetRead
     ensures { λ r. ⌜ r ≡ sheetRead (Refused (at number place)) ⌝ }
@@ -90,17 +55,6 @@ fn refused_sheet(number: u8, place: usize) -> SheetRead
             entries: [0i64; 17],
         },
         verdict: answer::refused(number, place),
-    }
-}
-
-// A sheet that is not received.
-fn not_received(number: u8, place: usize) -> Received
-    ensures { λ r. ⌜ r ≡ record { kind = Kind.PathCounts; n = 0; answer = Written.Refused (at number place) } ⌝ }
-{
-    Received {
-        kind: Kind::PathCounts,
-        n: 0,
-        answer: answer::unwritten(number, place),
     }
 }
 
@@ -192,16 +146,6 @@ fn first_of(first: Verdict, later: Verdict) -> Verdict
     match first {
         Verdict::Refused(refusal) => Verdict::Refused(refusal),
         Verdict::Accepted => later,
-    }
-}
-
-// Copies entries to the front of a buffer that has room for them.
-fn copy(entries: &[i64], cells: &mut [i64])
-    requires { ⌜ length (now entries) ≤ length (now cells) ⌝ }
-    ensures { λ _. ⌜ now (cells .exit) ≡ now (entries .entry) ++ drop (length (now (entries .entry))) (now (cells .entry)) ⌝ }
-{
-    for i in 0..entries.len() {
-        cells[i] = entries[i];
     }
 }
 

@@ -19,9 +19,9 @@ use Rattle.report_text.specs.Reporting.{handedOut, reportedRead, reporte
 use Rattle.report_text.specs.Steps.{tableText}
 use Rattle.codec.proofs.Forms.{Wrote, wrote-first, wrote-same, wrote-front, wrote-inside}
 use Rattle.report_text.proofs.Figures.{design-text}
-use Rattle.report_text.proofs.Built.{designTable, Built, built-given, built-refused}
+use Rattle.report_text.proofs.Built.{designTable, Built, built-given, built-refused, design-in}
 use borrow.Author.Needs.{needs}
-use Rattle.report_text.proofs.Printed.{design-in, no-report}
+use Rattle.report_text.proofs.Printed.{no-report}
 use Rattle.report_text.proofs.report.Statement.{statement}
 use Rattle.report_text.proofs.report.Tie as tie
 

@@ -1,12 +1,12 @@
--- `sheet_reading::not_received` meets its contract: its answer is the refusal.
+-- `sheet_entries::not_received` meets its contract: its answer is the refusal.
 -- Assumes nothing.
 use mathlib.Core.Path.{ap}
 use Rattle.answer.specs.declared.Written.{Written}
 use Rattle.vector.specs.declared.Kind.the-variants.{PathCounts}
-use Rattle.sheet_reading.specs.declared.Received.{Received}
+use Rattle.sheet_entries.specs.declared.Received.{Received}
 use borrow.Author.Needs.{needs}
-use Rattle.sheet_reading.proofs.not_received.Statement.{statement}
-use Rattle.sheet_reading.proofs.not_received.Tie as tie
+use Rattle.sheet_entries.proofs.not_received.Statement.{statement}
+use Rattle.sheet_entries.proofs.not_received.Tie as tie
 
 unwritten-requires : tie.Need-unwritten-requires
 unwritten-requires c κs = search needs

@@ -1,4 +1,4 @@
--- `sheet_reading::read_sheet` meets its contract: a refused sheet and a short buffer leave the cells alone, and else the entries are copied.
+-- `sheet_entries::read_sheet` meets its contract: a refused sheet and a short buffer leave the cells alone, and else the entries are copied.
 -- Assumes nothing.
 use mathlib.Core.Path.{sym, ap, ap₂, _∙_}
 use mathlib.Core.List.{List}
@@ -10,13 +10,14 @@ use Rattle.answer.specs.Outcome.{at}
 use Rattle.answer.specs.Refusals.{shortBuffer}
 use Rattle.answer.specs.declared.Written.the-variants.{Length}
 use Rattle.vector.specs.Held.{entriesOf}
-use Rattle.sheet_reading.specs.Answers.{receivedOutcome, notReceived, received}
+use Rattle.sheet_entries.specs.Answers.{receivedOutcome, notReceived, received}
 use Rattle.sheet.specs.Sheets.{Sheet, sheetOf}
-use Rattle.sheet_reading.specs.declared.Received.{Received}
-use Rattle.sheet_reading.proofs.Reading.{GivenAs, sheet-given, sheet-refused, received-short, received-long}
+use Rattle.sheet_entries.specs.declared.Received.{Received}
+use Rattle.sheet_reading.proofs.Reading.{GivenAs, sheet-given, sheet-refused}
+use Rattle.sheet_entries.proofs.Receiving.{received-short, received-long}
 use borrow.Author.Needs.{needs}
-use Rattle.sheet_reading.proofs.read_sheet.Statement.{statement}
-use Rattle.sheet_reading.proofs.read_sheet.Tie as tie
+use Rattle.sheet_entries.proofs.read_sheet.Statement.{statement}
+use Rattle.sheet_entries.proofs.read_sheet.Tie as tie
 
 -- the sheet is given
 accepted : (c : tie.After-enum-told) → GivenAs (sheetOf (now (c .before .before .before .before .args .bytes))) (c .before .before .vector-of-sheet .result)

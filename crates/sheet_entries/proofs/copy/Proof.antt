@@ -1,4 +1,4 @@
--- `sheet_reading::copy` meets its contract: the cells are filled from the front, and the rest is as it was.
+-- `sheet_entries::copy` meets its contract: the cells are filled from the front, and the rest is as it was.
 -- Assumes nothing.
 use mathlib.Core.Path.{_≡_, refl, sym, ap, _∙_}
 use mathlib.Core.List.{List, _++_}
@@ -10,8 +10,8 @@ use lib.ListN.{length, drop}
 use Rattle.numbers.proofs.Tables.{tabulate-unique, filled, filled-none, filled-again, filled-length}
 use Rattle.vector.specs.Vectors.{entryAt}
 use Rattle.vector.proofs.CountAt.{entry-read}
-use Rattle.sheet_reading.proofs.copy.Statement.{statement}
-use Rattle.sheet_reading.proofs.copy.Tie as tie
+use Rattle.sheet_entries.proofs.copy.Statement.{statement}
+use Rattle.sheet_entries.proofs.copy.Tie as tie
 
 abbrev Inv-loop : tie.InvT-loop
 Inv-loop entries cells₀ i₀ i-end cells i = (i ≤ length entries) × (cells ≡ filled (entryAt entries) cells₀ i)

@@ -15,7 +15,8 @@ use Rattle.answer.specs.declared.Verdict.the-variants as verdict
 use Rattle.answer.specs.declared.Written.the-variants as written
 use Rattle.codec.proofs.WriteAfterRead.{Bytes}
 use Rattle.structure.specs.Checks.{listRefusal}
-use Rattle.record.specs.Records.{Read, found, refused, Design, wholeRecord}
+use Rattle.heading.specs.Headings.{Read, found, refused}
+use Rattle.record.specs.Records.{Design, wholeRecord}
 use Rattle.record.specs.RecordBytes.{recordBytes, DesignRules}
 use Rattle.record.proofs.RoundTrip.{whole-written, whole-read}
 use Rattle.changes.specs.Changes.{Change, changeRefusal, changed, firstDesign}

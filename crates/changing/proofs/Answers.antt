@@ -27,7 +27,8 @@ use Rattle.parts.proofs.OneChange.{added-whole, taken-out-whole, take-out-accep
 use Rattle.sets.specs.Masks.{has}
 use Rattle.sets.specs.Structures.{listed, minimalSets}
 use Rattle.sets.proofs.Structures.{minimalSets-same}
-use Rattle.record.specs.Records.{Read, found, refused, Design, design, wholeRecord}
+use Rattle.heading.specs.Headings.{Read, found, refused}
+use Rattle.record.specs.Records.{Design, design, wholeRecord}
 use Rattle.record.specs.RecordBytes.{recordBytes, DesignRules}
 use Rattle.record.proofs.RoundTrip.{whole-written}
 use Rattle.changes.specs.Changes.{Change, addPart, takeOut, addSet, every, setsWithout, changeRefusal, changed}

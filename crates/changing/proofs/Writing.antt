@@ -14,7 +14,8 @@ use Rattle.codec.proofs.Placing.{placed-fits, in-front-more}
 use Rattle.parts.specs.PartLists.{listOf}
 use Rattle.parts.proofs.WellFormed.{numbers-of-list}
 use Rattle.record.specs.Records.{design}
-use Rattle.record.specs.RecordBytes.{formsOf, partsBytes, headBytes, recordBytes}
+use Rattle.heading.specs.HeadingBytes.{formsOf, partsBytes, headBytes}
+use Rattle.record.specs.RecordBytes.{recordBytes}
 
 pub forms-append : (front behind : List ℕ) → formsOf (front ++ behind) ≡ formsOf front ++ formsOf behind
 unfolding formsOf

@@ -4,7 +4,8 @@ use Prim.Native.Nat.{ℕ, _^_, _≤_, _<_}
 use lib.ListN.{length, drop, replicate}
 use Rattle.answer.specs.declared.Verdict.the-variants.{Accepted, Refused}
 use Rattle.parts.specs.PartLists.{listOf}
-use Rattle.record.specs.Records.{Read, found, refused, Design}
+use Rattle.heading.specs.Headings.{Read, found, refused}
+use Rattle.record.specs.Records.{Design}
 use Rattle.changing.specs.declared.Opened.{Opened}
 
 -- sets in front of an array that has room for one more than a record can have; the cells behind them hold 0

@@ -10,7 +10,8 @@ use Rattle.orders.specs.Counting.{count}
 use Rattle.orders.specs.Formulas.{pathCount}
 use Rattle.parts.specs.PartLists.{numbersOf}
 use Rattle.signature.specs.Figures.{domination}
-use Rattle.record.specs.Records.{Read, found, refused, Design, wholeRecord}
+use Rattle.heading.specs.Headings.{Read, found, refused}
+use Rattle.record.specs.Records.{Design, wholeRecord}
 use Rattle.text.specs.Texts.{ascii, decimal, signed, lines}
 
 -- n, the count of minimal sets and the mark

@@ -9,7 +9,7 @@ use denote.Ref.{now}
 use lib.ListN.{length, getD, take}
 use lib.Seq.{take-all}
 use Rattle.codec.specs.ByteForm.{bytesOf, leaves, placed}
-use Rattle.record.specs.RecordBytes.{formsOf}
+use Rattle.heading.specs.HeadingBytes.{formsOf}
 use Rattle.changing.proofs.Writing.{forms-next, forms-part, placed-none, placed-length, placed-two}
 use borrow.Author.Needs.{needs}
 use Rattle.changing.proofs.write_numbers.Statement.{statement}

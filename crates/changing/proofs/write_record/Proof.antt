@@ -16,7 +16,8 @@ use Rattle.codec.specs.ByteForm.{bytesOf}
 use Rattle.codec.proofs.Placing.{in-front-more}
 use Rattle.parts.specs.PartLists.{listOf}
 use Rattle.record.specs.Records.{design}
-use Rattle.record.specs.RecordBytes.{formsOf, recordBytes}
+use Rattle.heading.specs.HeadingBytes.{formsOf}
+use Rattle.record.specs.RecordBytes.{recordBytes}
 use Rattle.changing.proofs.Writing.{pieces, record-pieces, record-length}
 use borrow.Author.Needs.{needs}
 use Rattle.changing.proofs.write_record.Statement.{statement}

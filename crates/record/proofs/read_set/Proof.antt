@@ -8,8 +8,9 @@ use borrow.Author.Tests.{eq-eqb, ne-eqb, le-leb, lt-leb}
 use Rattle.answer.specs.Refusals.{unknownPart, emptySet, wrongSet}
 use Rattle.answer.specs.Outcome.{at}
 use Rattle.answer.proofs.Outcomes.{refuse-held, refuse-passed}
-use Rattle.record.specs.Steps.{asRead, risingRefusal}
-use Rattle.record.proofs.Found.{field-ended, field-passed, field-held}
+use Rattle.heading.specs.Steps.{asRead}
+use Rattle.record.specs.Steps.{risingRefusal}
+use Rattle.heading.proofs.Found.{field-ended, field-passed, field-held}
 use Rattle.record.proofs.read_set.Statement.{statement}
 use Rattle.record.proofs.read_set.Tie as tie
 

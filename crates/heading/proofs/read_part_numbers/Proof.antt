@@ -1,4 +1,4 @@
--- `record::read_part_numbers` meets its contract. The loop's invariant: it walks along the part numbers (`NumbersWalk`), those so far in the
+-- `heading::read_part_numbers` meets its contract. The loop's invariant: it walks along the part numbers (`NumbersWalk`), those so far in the
 -- cells. The measure is the numbers left.
 -- Assumes nothing.
 use mathlib.Core.Path.{_≡_, sym, ap, ap₂, _∙_}
@@ -11,11 +11,11 @@ use borrow.Author.Needs.{needs}
 use lib.ListN.{length}
 use Rattle.answer.specs.declared.Verdict.the-variants.{Accepted}
 use Rattle.parts.specs.PartLists.{listOf}
-use Rattle.record.specs.Records.{Read, found, then}
-use Rattle.record.specs.Steps.{asRead, partsOf}
-use Rattle.record.proofs.PartWalk.{NumbersWalk, numbers-walk-none, numbers-walk-more, numbers-walk-refused, numbers-walk-end}
-use Rattle.record.proofs.read_part_numbers.Statement.{statement}
-use Rattle.record.proofs.read_part_numbers.Tie as tie
+use Rattle.heading.specs.Headings.{Read, found, then}
+use Rattle.heading.specs.Steps.{asRead, partsOf}
+use Rattle.heading.proofs.PartWalk.{NumbersWalk, numbers-walk-none, numbers-walk-more, numbers-walk-refused, numbers-walk-end}
+use Rattle.heading.proofs.read_part_numbers.Statement.{statement}
+use Rattle.heading.proofs.read_part_numbers.Tie as tie
 
 abbrev Inv-loop : tie.InvT-loop
 Inv-loop bytes start count mark numbers₀ previous₀ next₀ index₀ numbers previous next index =

@@ -9,8 +9,8 @@ use lib.ListN.{length, set, replicate, length-append}
 use Rattle.answer.specs.declared.Refusal.{Refusal}
 use Rattle.parts.specs.PartLists.{mostParts, cellsOf}
 use Rattle.parts.proofs.InCells.{cells-more}
-use Rattle.record.specs.Records.{Read, found, refused, then, fieldAt, lastOf, partNumberRefusal, numbersAt}
-use Rattle.record.proofs.PartNumbers.{last-more}
+use Rattle.heading.specs.Headings.{Read, found, refused, then, fieldAt, lastOf, partNumberRefusal, numbersAt}
+use Rattle.heading.proofs.PartNumbers.{last-more}
 
 pub record NumbersWalk (bytes : List ℕ) (mark count start : ℕ) (cells : List ℕ) (previous next index : ℕ) : Type 0 where
   pub earlier : List ℕ

@@ -1,14 +1,13 @@
--- `record::read_heading` meets its contract: the part list, and then the count of sets behind it.
+-- `heading::read_heading` meets its contract: the part list, and then the count of sets behind it.
 -- Assumes nothing.
 use mathlib.Core.Path.{_≡_, sym, ap, _∙_}
 use denote.Ref.{now}
 use borrow.Author.Needs.{needs}
-use Rattle.record.specs.Records.{found, partsAt}
-use Rattle.record.specs.Contents.{headingOf}
-use Rattle.record.specs.Steps.{asRead}
-use Rattle.record.proofs.Answers.{parts-given, parts-refused, head-no-parts, head-no-count, head-given}
-use Rattle.record.proofs.read_heading.Statement.{statement}
-use Rattle.record.proofs.read_heading.Tie as tie
+use Rattle.heading.specs.Headings.{found, partsAt, headingOf}
+use Rattle.heading.specs.Steps.{asRead}
+use Rattle.heading.proofs.Answers.{parts-given, parts-refused, head-no-parts, head-no-count, head-given}
+use Rattle.heading.proofs.read_heading.Statement.{statement}
+use Rattle.heading.proofs.read_heading.Tie as tie
 
 read-parts-requires : tie.Need-read-parts-requires
 read-parts-requires c κs = search needs

@@ -1,4 +1,4 @@
--- `record::read_part_number` meets its contract: 21 and 22 come from the number, and then 23 is asked.
+-- `heading::read_part_number` meets its contract: 21 and 22 come from the number, and then 23 is asked.
 -- Assumes nothing.
 use mathlib.Core.Path.{sym, ap, _∙_}
 use denote.Ref.{now}
@@ -6,11 +6,11 @@ use borrow.Author.Needs.{needs}
 use Rattle.answer.specs.Refusals.{wrongPartNumber}
 use Rattle.answer.specs.Outcome.{at}
 use Rattle.answer.proofs.Outcomes.{refuse-held, refuse-passed}
-use Rattle.record.specs.Steps.{asRead}
-use Rattle.record.specs.Records.{partNumberRefusal}
-use Rattle.record.proofs.Found.{field-ended, field-passed, field-held}
-use Rattle.record.proofs.read_part_number.Statement.{statement}
-use Rattle.record.proofs.read_part_number.Tie as tie
+use Rattle.heading.specs.Steps.{asRead}
+use Rattle.heading.specs.Headings.{partNumberRefusal}
+use Rattle.heading.proofs.Found.{field-ended, field-passed, field-held}
+use Rattle.heading.proofs.read_part_number.Statement.{statement}
+use Rattle.heading.proofs.read_part_number.Tie as tie
 
 read-number-requires : tie.Need-read-number-requires
 read-number-requires c κs = search needs

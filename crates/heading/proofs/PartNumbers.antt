@@ -20,9 +20,9 @@ use Rattle.parts.specs.declared.PartList.{PartList}
 use Rattle.parts.specs.PartLists.{mostParts, topNumber, listOf, numbersOf, Rising, Rules, WellFormed}
 use Rattle.parts.proofs.Rules.{right-number, number-right}
 use Rattle.parts.proofs.WellFormed.{numbers-of-list, list-well-formed, well-formed-counted, well-formed-list}
-use Rattle.record.specs.Records.{Read, found, refused, then, fieldAt, partCountRefusal, markRefusal, lastOf, partNumberRefusal, numbersAt, partsAt}
-use Rattle.record.specs.RecordBytes.{formsOf, partsBytes}
-use Rattle.record.proofs.Found.{then-found, Stands, stands-none, stands-both, behind, field-found, field-checked, field-read}
+use Rattle.heading.specs.Headings.{Read, found, refused, then, fieldAt, partCountRefusal, markRefusal, lastOf, partNumberRefusal, numbersAt, partsAt}
+use Rattle.heading.specs.HeadingBytes.{formsOf, partsBytes}
+use Rattle.heading.proofs.Found.{then-found, Stands, stands-none, stands-both, behind, field-found, field-checked, field-read}
 
 pub last-more : (before : ℕ) (earlier : List ℕ) (number : ℕ) → lastOf before (earlier ++ (number ∷ [])) ≡ number
 last-more before [] number = refl

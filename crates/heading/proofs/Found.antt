@@ -19,7 +19,7 @@ use Rattle.codec.specs.ByteForm.{bytesOf}
 use Rattle.codec.specs.Reading.{numberAt}
 use Rattle.codec.proofs.ReadAfterWrite.{form-read}
 use Rattle.codec.proofs.WriteAfterRead.{Bytes, read-form}
-use Rattle.record.specs.Records.{Read, found, refused, then, unless, judged, fieldAt}
+use Rattle.heading.specs.Headings.{Read, found, refused, then, unless, judged, fieldAt}
 
 -- what is found after something is found after what that is
 pub then-found : {A B : Type 0} (first : Read A) (later : A → ℕ → Read B) (b : B) (end : ℕ) → then first later ≡ found b end → (a : A) × (next : ℕ) × (first ≡ found a next) × (later a next ≡ found b end)

@@ -1,14 +1,14 @@
--- `record::read_parts` meets its contract: n, the mark and the part numbers, each read after the one before it.
+-- `heading::read_parts` meets its contract: n, the mark and the part numbers, each read after the one before it.
 -- Assumes nothing.
 use mathlib.Core.Path.{_≡_, refl, sym, ap, _∙_}
 use denote.Ref.{now}
 use borrow.Author.Needs.{needs}
-use Rattle.record.specs.Records.{found, fieldAt, partCountRefusal, markRefusal}
-use Rattle.record.specs.Steps.{asRead, partsOf}
-use Rattle.record.proofs.Found.{field-ended, field-passed}
-use Rattle.record.proofs.PartNumbers.{count-few, parts-no-count, parts-no-mark, parts-numbers}
-use Rattle.record.proofs.read_parts.Statement.{statement}
-use Rattle.record.proofs.read_parts.Tie as tie
+use Rattle.heading.specs.Headings.{found, fieldAt, partCountRefusal, markRefusal}
+use Rattle.heading.specs.Steps.{asRead, partsOf}
+use Rattle.heading.proofs.Found.{field-ended, field-passed}
+use Rattle.heading.proofs.PartNumbers.{count-few, parts-no-count, parts-no-mark, parts-numbers}
+use Rattle.heading.proofs.read_parts.Statement.{statement}
+use Rattle.heading.proofs.read_parts.Tie as tie
 
 read-part-count-requires : tie.Need-read-part-count-requires
 read-part-count-requires c κs = search needs

@@ -1,4 +1,7 @@
 // What every entry point answers: given, or refused by one of 01's numbers at a place.
+ghost use mathlib.Core.Path.{_≡_};
+ghost use Rattle.answer.specs.Refusals.{shortBuffer};
+ghost use Rattle.answer.specs.Outcome.{at};
 
 // A refusal of 01: its number and the place that it reports.
 pub struct Refusal {
@@ -70,3 +73,24 @@ pub const WRONG_SET: u8 = 24;
 pub const BYTES_LEFT: u8 = 25;
 
 pub const WRONG_KIND: u8 = 26;
+
+// A refusal by its number and place, as a verdict.
+pub fn refused(number: u8, place: usize) -> Verdict
+    ensures { λ r. ⌜ r ≡ Verdict.Refused (at number place) ⌝ }
+{
+    Verdict::Refused(Refusal { number, place })
+}
+
+// The same as the answer of a call that writes.
+pub fn unwritten(number: u8, place: usize) -> Written
+    ensures { λ r. ⌜ r ≡ Written.Refused (at number place) ⌝ }
+{
+    Written::Refused(Refusal { number, place })
+}
+
+// The answer where a lent buffer is shorter than needed.
+pub fn short(needed: usize) -> Written
+    ensures { λ r. ⌜ r ≡ Written.Refused (at shortBuffer needed) ⌝ }
+{
+    unwritten(SHORT_BUFFER, needed)
+}

@@ -10,7 +10,7 @@ ghost use Rattle.answer.specs.Outcome.{delivered};
 ghost use Rattle.sets.specs.Structures.{listed, minimalSets};
 ghost use Rattle.sets.specs.Tables.{inTable, tableOf};
 ghost use Rattle.structure.specs.Checks.{listRefusal, tableRefusal};
-ghost use Rattle.signature.specs.Figures.{pathCounts, tails, signatures, dominations, importances};
+ghost use Rattle.figures.specs.Figures.{pathCounts, tails, signatures, dominations, importances};
 ghost use Rattle.signature.specs.All.{buffersOf, allFigures};
 ghost use Rattle.shares.specs.Refusals.{sharesRefusal};
 ghost use Rattle.shares.specs.Shares.{sharesBySets, sharesByReliability, reliabilityCells, groupCounts};

@@ -82,3 +82,8 @@ tabulate-unique n f xs d len same =
 pub tabulate-agree : {A : Type 0} (n : ℕ) (f g : ℕ → A) → tabulate n f ≡ tabulate n g → (k : ℕ) → k < n → f k ≡ g k
 tabulate-agree {A} n f g same k h =
     sym (tabulate-at n f k (f k) h) ∙ ap (λ (xs : List A). getD xs k (f k)) same ∙ tabulate-at n g k (f k) h
+
+-- the tables of two functions that agree are the same
+pub tabulate-same : {A : Type 0} (n : ℕ) (f g : ℕ → A) → ((k : ℕ) → k < n → f k ≡ g k) → tabulate n f ≡ tabulate n g
+tabulate-same n f g same =
+    tabulate-unique n g (tabulate n f) (f 0) (tabulate-length n f) (λ k h. tabulate-at n f k (f 0) h ∙ same k h)

@@ -1,5 +1,8 @@
-// Factorials and binomials up to 16, as fixed numbers. Callers use what the functions mean, not the tables.
+// Factorials and binomials up to 16, as fixed numbers, powers of 2, and the numbers of a list. Callers use what the functions mean, not the
+// tables.
 ghost use mathlib.Core.Path.{_≡_};
+ghost use Prim.Native.Nat.{_^_};
+ghost use lib.ListN.{getD};
 ghost use Rattle.numbers.specs.Counts.{factorial as «n!», choose, upTo16};
 
 const FACTORIALS: [u64; 17] = [
@@ -185,4 +188,18 @@ pub fn binomial(n: usize, k: usize) -> u32
     } else {
         0
     }
+}
+
+// 2^n for n up to 16, and 0 above.
+pub fn power(n: usize) -> usize
+    ensures { λ r. ⌜ r ≡ upTo16 n (2 ^ n) ⌝ }
+{
+    if n <= 16 { 1 << n } else { 0 }
+}
+
+// The number at an index of a list, and 0 beyond the last.
+pub fn cell(list: &[u64], at: usize) -> u64
+    ensures { λ r. ⌜ r ≡ getD (now (list .entry)) at 0 ⌝ }
+{
+    if at < list.len() { list[at] } else { 0 }
 }

@@ -13,7 +13,7 @@ use Rattle.orders.specs.Orders.{placed, orders, mask}
 use Rattle.orders.specs.Counting.{entries, stops, inGroup, stopsAsKth, count}
 use Rattle.orders.specs.Formulas.{pathCount}
 use Rattle.codec.specs.Reading.{numberIn, numberAt}
-use Rattle.signature.specs.Figures.{domination}
+use Rattle.figures.specs.Figures.{domination}
 use Rattle.heading.specs.Headings.{fieldAt, numbersAt, partsAt, headAt}
 use Rattle.record.specs.Records.{misplaced, setsAt, recordAt, wholeRecord}
 use Rattle.text.specs.Texts.{ascii, spelled, decimal, signed, lines}

@@ -30,11 +30,11 @@ use Rattle.answer.specs.declared.Verdict.the-variants.{Accepted}
 use Rattle.structure.specs.Checks.{tableRefusal}
 use Rattle.structure.proofs.Acceptance.{accepted-table, list-works}
 use Rattle.parts.specs.declared.PartList.{PartList}
-use Rattle.signature.specs.Figures.{signature, domination, importance, signatures, dominations, importances}
+use Rattle.figures.specs.Figures.{signature, domination, importance, signatures, dominations, importances}
 use Rattle.signature.specs.All.{buffersOf, roomRefusal, deliveredAll, allFigures}
 use Rattle.signature.proofs.Rooms.{room-enough}
-use Rattle.signature.proofs.Tails.{signature-is-count}
-use Rattle.signature.proofs.Importances.{importance-is-count}
+use Rattle.figures.proofs.Tails.{signature-is-count}
+use Rattle.figures.proofs.Importances.{importance-is-count}
 use Rattle.record.specs.Records.{Design}
 use Rattle.record.specs.RecordBytes.{DesignRules}
 use Rattle.record.proofs.MinimalSets.{design-table}

@@ -9,7 +9,7 @@ use Rattle.sets.specs.Structures.{listed}
 use Rattle.orders.specs.Counting.{count}
 use Rattle.orders.specs.Formulas.{pathCount}
 use Rattle.parts.specs.PartLists.{numbersOf}
-use Rattle.signature.specs.Figures.{domination}
+use Rattle.figures.specs.Figures.{domination}
 use Rattle.heading.specs.Headings.{Read, found, refused}
 use Rattle.record.specs.Records.{Design, wholeRecord}
 use Rattle.text.specs.Texts.{ascii, decimal, signed, lines}

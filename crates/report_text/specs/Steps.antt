@@ -6,7 +6,7 @@ use lib.IntN.{ℤ, pos}
 use lib.ListN.{getD}
 use Rattle.orders.specs.Formulas.{pathCount}
 use Rattle.parts.specs.declared.PartList.{PartList}
-use Rattle.signature.specs.Figures.{signature, domination, importance}
+use Rattle.figures.specs.Figures.{signature, domination, importance}
 use Rattle.text.specs.Texts.{ascii, decimal, signed, lines}
 
 -- a word and a number, each with a space behind it

@@ -20,9 +20,9 @@ use Rattle.sets.specs.Masks.{has, size, holds}
 use Rattle.sets.proofs.Bools.{and-left, and-right, and-swap, true-or-false}
 use Rattle.sets.proofs.Ranges.{below-or-above}
 use Rattle.orders.proofs.Sizes.{size-bits, size-rest, size-last}
-use Rattle.signature.specs.Figures.{sign, setDomination}
-use Rattle.signature.proofs.Holding.{holds-more, holds-never, holds-last}
-use Rattle.signature.proofs.Supersets.{opposite, having, having-without, having-with}
+use Rattle.figures.specs.Figures.{sign, setDomination}
+use Rattle.figures.proofs.Holding.{holds-more, holds-never, holds-last}
+use Rattle.figures.proofs.Supersets.{opposite, having, having-without, having-with}
 use Rattle.shares.specs.Shares.{inside, outside, reliability, reliabilityCells, inCells}
 use Rattle.shares.specs.Steps.{typeCount, Bounded}
 use Rattle.shares.proofs.Cells.{in-cells}

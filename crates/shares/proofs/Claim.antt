@@ -19,8 +19,8 @@ use Rattle.sets.specs.Masks.{size}
 use Rattle.sets.specs.Structures.{Semicoherent}
 use Rattle.sets.specs.Tables.{inTable}
 use Rattle.orders.specs.Counting.{count}
-use Rattle.signature.proofs.Rows.{tabulate-same}
-use Rattle.signature.proofs.Deliveries.{delivered-whole}
+use Rattle.numbers.proofs.Tables.{tabulate-same}
+use Rattle.answer.proofs.Deliveries.{delivered-whole}
 use Rattle.structure.specs.Checks.{tableRefusal}
 use Rattle.structure.proofs.Acceptance.{accepted-table}
 use Rattle.shares.specs.Polynomials.{shareFrom}
@@ -80,7 +80,7 @@ counts-given : (n : ℕ) (works : ℕ → Bool) (group : ℕ) (verdict : Verdict
 unfolding groupCounts
 counts-given n works group verdict result buffer accepted counts long =
     subst (GivesCounts n works group)
-    (delivered-whole verdict accepted result buffer (size group) (sym result-length) (result ++ drop (size group) buffer) refl long)
+    (delivered-whole verdict result buffer accepted (size group) (sym result-length) (result ++ drop (size group) buffer) refl long)
     (record {
       given = refl;
       shares = λ k some most.

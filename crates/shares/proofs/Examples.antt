@@ -14,7 +14,7 @@ use Rattle.algebra.specs.Sums.{sumBelow, sumBelowℤ}
 use Rattle.sets.specs.Masks.{holds}
 use Rattle.sets.specs.Structures.{listed}
 use Rattle.orders.specs.Formulas.{added, taken}
-use Rattle.signature.specs.Figures.{setDomination}
+use Rattle.figures.specs.Figures.{setDomination}
 use Rattle.shares.specs.Polynomials.{derivative, reflected, shifted, coefficient, integral, shareFrom}
 use Rattle.shares.specs.Shares.{shareOf, sharesBySets, reliability, reliabilityCells, inCells, sharesFromCells}
 

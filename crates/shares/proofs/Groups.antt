@@ -26,14 +26,14 @@ use Rattle.orders.specs.Counting.{count}
 use Rattle.orders.specs.Formulas.{pathCount, byParts}
 use Rattle.orders.proofs.Counting.{count-is-byParts}
 use Rattle.orders.proofs.Sizes.{outside-meet}
-use Rattle.signature.specs.Figures.{signatures, setDomination, domination, dominations, importance}
-use Rattle.signature.proofs.Binomials.{choose-factorials, factorial-suc}
-use Rattle.signature.proofs.IntegerSums.{sumBelow-pos}
-use Rattle.signature.proofs.Sizes.{sumBelow-only, size-meet-all}
-use Rattle.signature.proofs.Rows.{tabulate-same}
-use Rattle.signature.proofs.Tails.{signature-is-count}
-use Rattle.signature.proofs.Importances.{size-single, importance-is-count}
-use Rattle.signature.proofs.Dominations.{domination-of-sets}
+use Rattle.figures.specs.Figures.{signatures, setDomination, domination, dominations, importance}
+use Rattle.figures.proofs.Binomials.{choose-factorials, factorial-suc}
+use Rattle.algebra.proofs.IntegerSums.{sumBelow-pos}
+use Rattle.figures.proofs.Sizes.{sumBelow-only, size-meet-all}
+use Rattle.numbers.proofs.Tables.{tabulate-same}
+use Rattle.figures.proofs.Tails.{signature-is-count}
+use Rattle.figures.proofs.Importances.{size-single, importance-is-count}
+use Rattle.figures.proofs.Dominations.{domination-of-sets}
 use Rattle.shares.specs.Shares.{shareOf, sharesBySets, inside, outside, reliability, rowLength, reliabilityCells, sharesByReliability, groupCounts}
 use Rattle.shares.proofs.Routes.{share-is-count}
 use Rattle.shares.proofs.Claim.{by-sets-counts, by-reliability-counts}

@@ -6,7 +6,7 @@ use native.Mathlib.Nat.{mul-div-cancel, mul-pos}
 use native.Mathlib.Omega.{arith}
 use Rattle.numbers.specs.Counts.{factorial, choose}
 use Rattle.numbers.proofs.Counts.{factorial-pos}
-use Rattle.signature.proofs.Binomials.{factor-same, factorial-suc, choose-factorials}
+use Rattle.figures.proofs.Binomials.{factor-same, factorial-suc, choose-factorials}
 use Rattle.shares.specs.Polynomials.{integral}
 
 -- the division leaves nothing over

@@ -7,7 +7,7 @@ use native.Mathlib.Omega.{arith}
 use lib.Dec.{ltb}
 use lib.IntN.{ℤ, pos, negsuc, negℤ, _+ℤ_, _*ℤ_, natAbs, pow, one}
 use Rattle.algebra.specs.Sums.{sumBelow, sumBelowℤ}
-use Rattle.signature.specs.Figures.{sign}
+use Rattle.figures.specs.Figures.{sign}
 
 natAbs-neg : (x : ℤ) → natAbs (negℤ x) ≡ natAbs x
 natAbs-neg (pos zero) = refl

@@ -14,7 +14,7 @@ use Rattle.algebra.proofs.IntegerSums.{sumBelowℤ-same, sumBelowℤ-mul}
 use Rattle.sets.specs.Masks.{any}
 use Rattle.sets.proofs.Bools.{not-not}
 use Rattle.sets.proofs.Ranges.{any-none}
-use Rattle.signature.proofs.Binomials.{factor-same}
+use Rattle.figures.proofs.Binomials.{factor-same}
 use Rattle.shares.specs.Polynomials.{integral, shareFrom}
 use Rattle.shares.specs.Steps.{common, powerWeight, powerSum, regrouped}
 use Rattle.shares.proofs.Integrals.{integral-choose}

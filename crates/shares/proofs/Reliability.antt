@@ -14,9 +14,9 @@ use Rattle.algebra.proofs.Integers.{*ℤ-unit, unit-*ℤ, ring}
 use Rattle.algebra.proofs.IntegerSums.{sumBelowℤ-same}
 use Rattle.algebra.proofs.Differences.{power-same, power-other}
 use Rattle.sets.specs.Masks.{size}
-use Rattle.signature.specs.Figures.{sign, domination}
-use Rattle.signature.proofs.IntegerSums.{sumBelowℤ-only, sumBelow-pos}
-use Rattle.signature.proofs.Dominations.{expansion-terms, domination-coefficient}
+use Rattle.figures.specs.Figures.{sign, domination}
+use Rattle.algebra.proofs.IntegerSums.{sumBelowℤ-only, sumBelow-pos}
+use Rattle.figures.proofs.Dominations.{expansion-terms, domination-coefficient}
 use Rattle.shares.specs.Shares.{inside, outside, reliability}
 use Rattle.shares.specs.Steps.{typeCount}
 use Rattle.shares.proofs.Types.{sumOfType, sum-types, sum-reliability}

@@ -22,7 +22,7 @@ use Rattle.sets.proofs.Bools.{true-or-false}
 use Rattle.orders.specs.Counting.{count}
 use Rattle.orders.specs.Formulas.{added, taken}
 use Rattle.orders.proofs.Counting.{count-and-taken}
-use Rattle.signature.proofs.IntegerSums.{sumBelow-pos}
+use Rattle.algebra.proofs.IntegerSums.{sumBelow-pos}
 use Rattle.shares.specs.Polynomials.{integral, shareFrom}
 use Rattle.shares.specs.Shares.{shareOf, inside, outside, reliability}
 use Rattle.shares.proofs.Integrals.{integral-last}

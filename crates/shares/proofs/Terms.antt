@@ -18,7 +18,7 @@ use Rattle.algebra.proofs.Sums.{sumBelow-same, sumBelow-le, sumBelow-zero, sumB
 use Rattle.sets.specs.Masks.{any}
 use Rattle.sets.proofs.Bools.{not-not}
 use Rattle.sets.proofs.Ranges.{any-none, below-or-above}
-use Rattle.signature.proofs.Binomials.{factor-same, factorial-suc, choose-factorials}
+use Rattle.figures.proofs.Binomials.{factor-same, factorial-suc, choose-factorials}
 use Rattle.shares.specs.Steps.{common, powerWeight, powerTerm, powerSum, Bounded, limit}
 use Rattle.shares.proofs.Magnitudes.{natAbs-product, natAbs-sum}
 use Rattle.shares.proofs.Regrouped.{powerWeight-whole}

@@ -15,10 +15,10 @@ use Rattle.algebra.proofs.IntegerSums.{sumBelowℤ-same, sumBelowℤ-mul, sumBe
 use Rattle.sets.specs.Masks.{has, size}
 use Rattle.sets.proofs.Bools.{and-swap}
 use Rattle.orders.proofs.Sizes.{size-bits, size-rest, size-meet, outside-meet}
-use Rattle.signature.specs.Figures.{setDomination}
-use Rattle.signature.proofs.IntegerSums.{sumBelowℤ-only}
-use Rattle.signature.proofs.Supersets.{above-same, opposite, having, lacking, sum-above}
-use Rattle.signature.proofs.Dominations.{sum-dominations}
+use Rattle.figures.specs.Figures.{setDomination}
+use Rattle.algebra.proofs.IntegerSums.{sumBelowℤ-only}
+use Rattle.figures.proofs.Supersets.{above-same, opposite, having, lacking, sum-above}
+use Rattle.figures.proofs.Dominations.{sum-dominations}
 use Rattle.shares.specs.Shares.{inside, outside, reliability}
 
 -- ---- the parts that a set has and lacks

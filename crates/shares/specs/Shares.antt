@@ -11,7 +11,7 @@ use Rattle.algebra.specs.Sums.{sumBelowℤ}
 use Rattle.sets.specs.Masks.{size, meet}
 use Rattle.orders.specs.Counting.{count}
 use Rattle.orders.specs.Formulas.{added, taken}
-use Rattle.signature.specs.Figures.{setDomination}
+use Rattle.figures.specs.Figures.{setDomination}
 use Rattle.shares.specs.Polynomials.{shareFrom}
 
 -- ---- set by set

@@ -15,8 +15,8 @@ use Rattle.numbers.proofs.Tables.{tabulate-at}
 use Rattle.algebra.specs.Sums.{sumBelowℤ}
 use Rattle.codec.specs.Fields.{top}
 use Rattle.codec.specs.declared.Field.the-variants as field
-use Rattle.signature.specs.Figures.{tail, sign, domination}
-use Rattle.signature.proofs.Ranges.{tail-few}
+use Rattle.figures.specs.Figures.{tail, sign, domination}
+use Rattle.figures.proofs.Ranges.{tail-few}
 use Rattle.vector.specs.Kinds.{lengthOf}
 use Rattle.vector.specs.Vectors.{entryAt, countsOf, vectorRefusal, figure}
 use Rattle.vector.specs.declared.Kind.{Kind}

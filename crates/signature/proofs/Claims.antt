@@ -13,10 +13,10 @@ use Rattle.orders.specs.Formulas.{pathCount}
 use Rattle.sets.specs.Tables.{inTable}
 use Rattle.structure.specs.Checks.{tableRefusal}
 use Rattle.structure.proofs.Acceptance.{accepted-table}
-use Rattle.signature.specs.Figures.{signature, importance, signatures, importances}
-use Rattle.signature.proofs.Rows.{tabulate-same}
-use Rattle.signature.proofs.Tails.{signature-is-count}
-use Rattle.signature.proofs.Importances.{importance-is-count}
+use Rattle.figures.specs.Figures.{signature, importance, signatures, importances}
+use Rattle.numbers.proofs.Tables.{tabulate-same}
+use Rattle.figures.proofs.Tails.{signature-is-count}
+use Rattle.figures.proofs.Importances.{importance-is-count}
 
 module _ (n : ℕ) (table : List ℕ) (accepted : tableRefusal n table ≡ Accepted) where
   pub signature-counts : signatures n (inTable table) ≡ tabulate n (λ k. pos (count n (inTable table) (2 ^ n - 1) (suc k)))

@@ -1,16 +1,5 @@
-pub mod Binomials
-pub mod IntegerSums
-pub mod Holding
-pub mod Sizes
-pub mod Tails
-pub mod Supersets
-pub mod Dominations
-pub mod Inversion
-pub mod Importances
-pub mod Ranges
 pub mod Words
 pub mod Rows
-pub mod Signs
 pub mod Machines
 pub mod Deliveries
 pub mod Rooms

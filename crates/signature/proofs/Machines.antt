@@ -21,14 +21,17 @@ use Rattle.sets.specs.Tables.{inTable}
 use Rattle.sets.proofs.Masks.{has-above}
 use Rattle.sets.proofs.Ranges.{below-or-above}
 use Rattle.orders.specs.Formulas.{pathCount}
+use Rattle.numbers.specs.Counts.{factorial}
+use Rattle.figures.proofs.Ranges.{factorials-few}
 use Rattle.words.specs.Words.{inWords, wordOf, wordsOf}
 use Rattle.words.proofs.Words.{inWords-wordsOf}
 use Rattle.structure.proofs.Acceptance.{AcceptedTable, table-beyond}
-use Rattle.signature.specs.Figures.{importance, importances}
+use Rattle.figures.specs.Figures.{importance, importances}
 use Rattle.signature.specs.Steps.{hasPart, Few, countsOf, ways, addedSets, takenSets, Parted, rowsOf, row, importanceBy, Rows}
-use Rattle.signature.proofs.Sizes.{pathCount-few}
-use Rattle.signature.proofs.Rows.{tabulate-same, row-is}
-use Rattle.signature.proofs.Importances.{withPart, withPart-fewer, importance-by-size}
+use Rattle.figures.proofs.Sizes.{pathCount-few}
+use Rattle.numbers.proofs.Tables.{tabulate-same}
+use Rattle.signature.proofs.Rows.{row-is}
+use Rattle.figures.proofs.Importances.{withPart, withPart-fewer, importance-by-size}
 
 -- ---- the words of a table
 
@@ -167,3 +170,10 @@ module _ (n : ℕ) (table : List ℕ) (accepted : AcceptedTable n table) where
 
       pub table-importances : tabulate n (importanceBy n rows) ≡ importances n (inTable table)
       table-importances = tabulate-same n (importanceBy n rows) (λ i. importance n (inTable table) (suc i)) part-is-importance
+
+-- ---- the weight of a set in an importance
+
+-- 15!
+pub ways-few : (n s : ℕ) → n ≤ 16 → s < n → ways n s ≤ 1307674368000
+unfolding ways factorial
+ways-few n s few h = factorials-few s (n - suc s) 15 (omega arith)

@@ -11,7 +11,7 @@ use Rattle.answer.specs.Outcome.{at, refuse}
 use Rattle.answer.specs.Refusals.{shortBuffer}
 use Rattle.answer.specs.declared.Verdict.the-variants.{Accepted, Refused}
 use Rattle.answer.proofs.Outcomes.{refuse-accepted, refuse-passed, refuse-held}
-use Rattle.signature.specs.Figures.{pathCounts, signatures, dominations, importances}
+use Rattle.figures.specs.Figures.{pathCounts, signatures, dominations, importances}
 use Rattle.signature.specs.All.{Buffers, buffersOf, roomRefusal, allOutcome, deliveredAll}
 
 pub record Room (n counts signature domination importance : ℕ) : Type 0 where

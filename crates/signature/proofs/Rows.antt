@@ -17,10 +17,6 @@ use Rattle.signature.specs.Steps.{hasPart, rowsOf}
 
 -- ---- tables and parts of them
 
-pub tabulate-same : {A : Type 0} (n : ℕ) (f g : ℕ → A) → ((k : ℕ) → k < n → f k ≡ g k) → tabulate n f ≡ tabulate n g
-tabulate-same n f g same =
-    tabulate-unique n g (tabulate n f) (f 0) (tabulate-length n f) (λ k h. tabulate-at n f k (f 0) h ∙ same k h)
-
 tabulate-append : {A : Type 0} (m n : ℕ) (f : ℕ → A) → tabulate (m + n) f ≡ tabulate m f ++ tabulate n (λ i. f (m + i))
 tabulate-append {A} m n f =
     sym (tabulate-unique (m + n) f (tabulate m f ++ tabulate n (λ i. f (m + i))) (f 0)

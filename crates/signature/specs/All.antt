@@ -11,7 +11,7 @@ use Rattle.answer.specs.declared.Verdict.{Verdict}
 use Rattle.answer.specs.declared.Verdict.the-variants.{Accepted, Refused}
 use Rattle.sets.specs.Tables.{inTable}
 use Rattle.structure.specs.Checks.{tableRefusal}
-use Rattle.signature.specs.Figures.{pathCounts, signatures, dominations, importances}
+use Rattle.figures.specs.Figures.{pathCounts, signatures, dominations, importances}
 
 -- the four lent buffers
 pub record Buffers : Type 0 where

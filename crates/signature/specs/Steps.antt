@@ -11,7 +11,7 @@ use Rattle.numbers.specs.Tables.{tabulate}
 use Rattle.algebra.specs.Sums.{indicator, sumBelow}
 use Rattle.sets.specs.Masks.{has, size}
 use Rattle.orders.specs.Formulas.{pathCount}
-use Rattle.signature.specs.Figures.{tail, signature, domination}
+use Rattle.figures.specs.Figures.{tail, signature, domination}
 use Rattle.signature.specs.declared.Kind.{Kind}
 use Rattle.signature.specs.declared.Kind.the-variants.{PathCounts, Tail, Signature, Domination}
 

@@ -15,7 +15,7 @@ ghost use Rattle.sets.specs.Tables.{packed, inTable};
 ghost use Rattle.answer.specs.Outcome.{outcome, delivered};
 ghost use Rattle.structure.specs.Checks.{tableRefusal};
 ghost use Rattle.words.specs.Words.{inWords, wordOf};
-ghost use Rattle.signature.specs.Figures.{tail as tailOf, domination as dominationOf, pathCounts, tails, signatures, dominations, importances};
+ghost use Rattle.figures.specs.Figures.{tail as tailOf, domination as dominationOf, pathCounts, tails, signatures, dominations, importances};
 ghost use Rattle.signature.specs.All.{buffersOf, roomRefusal, allOutcome, allFigures};
 ghost use Rattle.signature.specs.Steps.{hasPart, inWord, Few, countsOf, ways as waysOf, addedSets, takenSets, Parted, cellsOf, cellAt, vectorOf, rowsOf, Rows, importanceBy};
 

@@ -24,11 +24,11 @@ use Rattle.sets.specs.Masks.{size}
 use Rattle.sets.specs.Tables.{inTable}
 use Rattle.sets.proofs.Bools.{same-test, and-left, and-right}
 use Rattle.words.specs.Words.{inWords, wordsOf}
-use Rattle.signature.specs.Figures.{sign, domination}
+use Rattle.figures.specs.Figures.{sign, domination}
 use Rattle.signature.specs.Steps.{Few}
 use Rattle.shares.specs.Shares.{inside, outside, rowLength, reliability, reliabilityCells}
 use Rattle.shares.specs.Steps.{typeCount}
-use Rattle.signature.proofs.Rows.{tabulate-same}
+use Rattle.numbers.proofs.Tables.{tabulate-same}
 use Rattle.shares.proofs.Types.{inside-most, outside-most}
 use Rattle.shares.proofs.Reliability.{reliability-by-type}
 use Rattle.subsignature.specs.Steps.{gathered, typeOf, typeTerm, coefficientOf}

@@ -25,9 +25,9 @@ use Rattle.sets.proofs.Ranges.{below-or-above}
 use Rattle.orders.specs.Formulas.{added, taken}
 use Rattle.words.specs.Words.{inWords, wordsOf}
 use Rattle.words.proofs.Words.{inWords-wordsOf}
-use Rattle.signature.proofs.Ranges.{factorials-few}
+use Rattle.figures.proofs.Ranges.{factorials-few}
 use Rattle.shares.specs.Shares.{inside, shareOf, sharesBySets}
-use Rattle.signature.proofs.Rows.{tabulate-same}
+use Rattle.numbers.proofs.Tables.{tabulate-same}
 use Rattle.shares.proofs.Types.{inside-most, inside-and-outside, outside-most}
 use Rattle.subsignature.proofs.Gathering.{gathered-list-few}
 use Rattle.subsignature.specs.Steps.{gathered, weight, Light, addedBy, takenBy}

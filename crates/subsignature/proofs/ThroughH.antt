@@ -16,7 +16,7 @@ use Rattle.shares.specs.Shares.{rowLength, reliabilityCells, inCells, sharesFro
 use Rattle.shares.specs.Steps.{Bounded}
 use Rattle.shares.proofs.Bounds.{cells-bounded}
 use Rattle.shares.proofs.Cells.{shareFrom-same}
-use Rattle.signature.proofs.Rows.{tabulate-same}
+use Rattle.numbers.proofs.Tables.{tabulate-same}
 use Rattle.shares.proofs.Claim.{cells-share}
 use Rattle.shares.proofs.Ranges.{count-most}
 use Rattle.subsignature.specs.Steps.{InRange, shareOfCells}

@@ -9,7 +9,7 @@ use lib.ListN.{getD}
 use Rattle.numbers.specs.Counts.{factorial, choose}
 use Rattle.algebra.specs.Sums.{sumBelow, sumBelowℤ}
 use Rattle.sets.specs.Masks.{size}
-use Rattle.signature.specs.Figures.{sign, domination}
+use Rattle.figures.specs.Figures.{sign, domination}
 use Rattle.shares.specs.Shares.{inside, outside, inCells}
 use Rattle.shares.specs.Polynomials.{shareFrom}
 use Rattle.shares.specs.Steps.{powerWeight}

@@ -19,7 +19,7 @@ use Rattle.algebra.specs.Sums.{indicator}
 use Rattle.sets.specs.Masks.{least}
 use Rattle.sets.proofs.Bools.{and-left, and-right, and-both, clash, true-or-false}
 use Rattle.sets.proofs.Ranges.{any-false, any-none}
-use Rattle.signature.proofs.Binomials.{choose-mirror}
+use Rattle.figures.proofs.Binomials.{choose-mirror}
 use Rattle.vector.specs.Kinds.{lengthOf}
 use Rattle.vector.specs.Vectors.{scaledCount, unitOf, countsOf, leastCount, mostCount, isCount, wrongCount, falls, countsRefusal, vectorRefusal}
 use Rattle.vector.specs.declared.Kind.{Kind}

@@ -15,9 +15,9 @@ use Rattle.numbers.proofs.Tables.{tabulate-length, tabulate-at, tabulate-unique
 use Rattle.algebra.proofs.IntegerSums.{sumBelowℤ-same}
 use Rattle.orders.specs.Formulas.{pathCount}
 use Rattle.sets.specs.Structures.{Semicoherent}
-use Rattle.signature.specs.Figures.{tail, signature, domination, sign, pathCounts, tails, signatures, dominations}
-use Rattle.signature.proofs.Binomials.{factor-le, choose-factorials, choose-mirror}
-use Rattle.signature.proofs.Tails.{tail-proportion, pathCount-empty, pathCount-full, pathCount-most, proportions-rise}
+use Rattle.figures.specs.Figures.{tail, signature, domination, sign, pathCounts, tails, signatures, dominations}
+use Rattle.figures.proofs.Binomials.{factor-le, choose-factorials, choose-mirror}
+use Rattle.figures.proofs.Tails.{tail-proportion, pathCount-empty, pathCount-full, pathCount-most, proportions-rise}
 use Rattle.vector.specs.Kinds.{lengthOf}
 use Rattle.vector.specs.Vectors.{entryAt, unitOf, countsOf, vectorRefusal, figure, vectorOf, converted}
 use Rattle.vector.specs.declared.Kind.{Kind}

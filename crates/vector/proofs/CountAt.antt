@@ -18,8 +18,8 @@ use Rattle.algebra.specs.Sums.{sumBelowℤ}
 use Rattle.algebra.proofs.Integers.{ring}
 use Rattle.algebra.proofs.IntegerSums.{sumBelowℤ-same}
 use Rattle.sets.proofs.Ranges.{below-or-above}
-use Rattle.signature.specs.Figures.{sign, domination}
-use Rattle.signature.proofs.Dominations.{pathCount-back}
+use Rattle.figures.specs.Figures.{sign, domination}
+use Rattle.figures.proofs.Dominations.{pathCount-back}
 use Rattle.vector.specs.Vectors.{entryAt, scaledCount, unitOf, countsOf, leastCount, mostCount, isCount, wrongCount}
 use Rattle.vector.specs.Steps.{pick, countIn, countAt, cellsOf, Found}
 use Rattle.vector.specs.declared.Count.the-variants.{Of, Wrong}

@@ -8,7 +8,7 @@ use Rattle.algebra.specs.Sums.{sumBelowℤ}
 use Rattle.sets.specs.Masks.{any, those}
 use Rattle.answer.specs.Outcome.{at}
 use Rattle.answer.specs.declared.Verdict.the-variants.{Accepted, Refused}
-use Rattle.signature.specs.Figures.{domination}
+use Rattle.figures.specs.Figures.{domination}
 use Rattle.vector.specs.Vectors.{scaledCount, unitOf, wrongCount, falls, countsRefusal, vectorRefusal, figure, converted}
 use Rattle.vector.specs.declared.Kind.the-variants.{PathCounts, Tail, Signature, Domination}
 

@@ -13,7 +13,7 @@ use Rattle.numbers.specs.Counts.{factorial, choose}
 use Rattle.numbers.proofs.Counts.{choose-above}
 use Rattle.sets.specs.Masks.{any}
 use Rattle.sets.proofs.Ranges.{any-none, below-or-above}
-use Rattle.signature.proofs.Ranges.{factorials-few}
+use Rattle.figures.proofs.Ranges.{factorials-few}
 
 -- 16!
 pub ways-few : (n j : ℕ) → n ≤ 16 → j ≤ n → factorial j * factorial (n - j) ≤ 20922789888000

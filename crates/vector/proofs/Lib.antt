@@ -1,4 +1,3 @@
-pub mod Signs
 pub mod KindNumbers
 pub mod Scaled
 pub mod Acceptance

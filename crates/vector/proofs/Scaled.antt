@@ -14,8 +14,8 @@ use Rattle.numbers.proofs.Tables.{tabulate-at, tabulate-unique}
 use Rattle.algebra.specs.Sums.{sumBelowℤ}
 use Rattle.algebra.proofs.Integers.{ring, unit-*ℤ}
 use Rattle.algebra.proofs.IntegerSums.{sumBelowℤ-same}
-use Rattle.signature.specs.Figures.{tail, signature, sign, domination}
-use Rattle.signature.proofs.Dominations.{pathCount-back}
+use Rattle.figures.specs.Figures.{tail, signature, sign, domination}
+use Rattle.figures.proofs.Dominations.{pathCount-back}
 use Rattle.vector.specs.Kinds.{lengthOf}
 use Rattle.vector.specs.Vectors.{entryAt, scaledCount, unitOf, figure, vectorOf}
 use Rattle.vector.specs.declared.Kind.{Kind}

@@ -8,7 +8,7 @@ use lib.IntN.{ℤ, pos, natAbs, _-ℤ_, _*ℤ_}
 use lib.ListN.{getD}
 use Rattle.numbers.specs.Counts.{choose}
 use Rattle.algebra.specs.Sums.{sumBelowℤ}
-use Rattle.signature.specs.Figures.{sign}
+use Rattle.figures.specs.Figures.{sign}
 use Rattle.answer.specs.declared.Verdict.{Verdict}
 use Rattle.answer.specs.declared.Verdict.the-variants.{Accepted}
 use Rattle.vector.specs.Held.{mostEntries}

@@ -14,7 +14,7 @@ use Rattle.answer.specs.Refusals.{wrongVectorLength, wrongPathCount, fallingPro
 use Rattle.answer.specs.declared.Verdict.{Verdict}
 use Rattle.answer.specs.declared.Verdict.the-variants.{Accepted}
 use Rattle.structure.specs.Checks.{partsRefusal}
-use Rattle.signature.specs.Figures.{tail, signature, domination}
+use Rattle.figures.specs.Figures.{tail, signature, domination}
 use Rattle.vector.specs.Kinds.{lengthOf}
 use Rattle.vector.specs.declared.Kind.{Kind}
 use Rattle.vector.specs.declared.Kind.the-variants.{PathCounts, Tail, Signature, Domination}

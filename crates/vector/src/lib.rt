@@ -9,7 +9,7 @@ ghost use lib.IntN.{pos, _+ℤ_, _-ℤ_};
 ghost use lib.ListN.{length, drop};
 ghost use Rattle.numbers.specs.Counts.{factorial};
 ghost use Rattle.answer.specs.Outcome.{outcome, delivered};
-ghost use Rattle.signature.specs.Figures.{tail as tailOf, domination as dominationOf};
+ghost use Rattle.figures.specs.Figures.{tail as tailOf, domination as dominationOf};
 ghost use Rattle.vector.specs.Kinds.{kindNumber, lengthOf, entryCount, isKind, kindOf, kindRefusal};
 ghost use Rattle.vector.specs.Held.{heldRefusal, heldConverted};
 ghost use Rattle.vector.specs.Vectors.{leastCount, mostCount, vectorRefusal, figure as figureOf, vectorOf, converted};

@@ -9,7 +9,7 @@ use Rattle.algebra.specs.Sums.{sumBelow, sumBelowℤ}
 use Rattle.sets.specs.Masks.{has, holds, any, those}
 use Rattle.sets.specs.Structures.{listed}
 use Rattle.orders.specs.Formulas.{pathCount, added, taken}
-use Rattle.signature.specs.Figures.{tail, signature, domination, setDomination, importance}
+use Rattle.figures.specs.Figures.{tail, signature, domination, setDomination, importance}
 use Rattle.shares.specs.Polynomials.{derivative, reflected, shifted, coefficient, integral, shareFrom}
 use Rattle.shares.specs.Shares.{shareOf, sharesBySets, reliability, reliabilityCells, inCells, sharesFromCells, sharesByReliability}
 use Rattle.vector.specs.Vectors.{scaledCount, unitOf, wrongCount, falls, countsRefusal, vectorRefusal}

@@ -8,7 +8,7 @@ use Rattle.answer.specs.Refusals.{wrongPathCount, fallingProportion}
 use Rattle.answer.specs.declared.Verdict.{Verdict}
 use Rattle.answer.specs.declared.Verdict.the-variants.{Accepted, Refused}
 use Rattle.sets.specs.Structures.{listed}
-use Rattle.signature.specs.Figures.{importance, pathCounts, tails, signatures, dominations}
+use Rattle.figures.specs.Figures.{importance, pathCounts, tails, signatures, dominations}
 use Rattle.shares.specs.Shares.{sharesBySets, reliabilityCells, sharesByReliability}
 use Rattle.vector.specs.Vectors.{vectorRefusal}
 use Rattle.vector.specs.declared.Kind.{Kind}

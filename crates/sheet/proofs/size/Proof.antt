@@ -3,7 +3,7 @@
 use mathlib.Core.Path.{ap}
 use native.Mathlib.Omega.{arith}
 use lib.IntN.{natAbs}
-use Rattle.vector.proofs.Signs.{less-found, less-small, less-fits, less-same, less-cast, whole-cast}
+use Rattle.integers.proofs.Signs.{less-found, less-small, less-fits, less-same, less-cast, whole-cast}
 use borrow.Author.Needs.{needs}
 use Rattle.sheet.proofs.size.Statement.{statement}
 use Rattle.sheet.proofs.size.Tie as tie

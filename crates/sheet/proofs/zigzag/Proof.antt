@@ -7,7 +7,7 @@ use lib.IntN.{negsuc, natAbs}
 use mir.Facts.{toZ-ofZ}
 use mir.Syntax.{w64}
 use Rattle.vector.specs.declared.Kind.the-variants.{Domination}
-use Rattle.vector.proofs.Signs.{less-found, less-small, whole-found, whole-small}
+use Rattle.integers.proofs.Signs.{less-found, less-small, whole-found, whole-small}
 use Rattle.sheet.specs.Sheets.{coded}
 use borrow.Author.Needs.{needs}
 use Rattle.sheet.proofs.zigzag.Statement.{statement}

@@ -13,7 +13,8 @@ use Rattle.numbers.proofs.Tables.{filled, filled-none, filled-all, filled-lengt
 use Rattle.sets.specs.Masks.{size, meet}
 use Rattle.words.specs.Words.{wordOf}
 use Rattle.signature.specs.Steps.{hasPart, inWord}
-use Rattle.signature.proofs.Rows.{tabulate-same, row-length, row-few, row-old, row-back}
+use Rattle.numbers.proofs.Tables.{tabulate-same}
+use Rattle.signature.proofs.Rows.{row-length, row-few, row-old, row-back}
 use Rattle.signature.proofs.add_rows.Statement.{statement}
 use Rattle.signature.proofs.add_rows.Tie as tie
 

@@ -10,10 +10,10 @@ use lib.IntN.{pos, _-ℤ_}
 use mir.Facts.{toZ-ofZ}
 use mir.Syntax.{w64}
 use borrow.Author.Needs.{needs}
-use Rattle.signature.specs.Figures.{tail, signature}
+use Rattle.figures.specs.Figures.{tail, signature}
 use Rattle.signature.specs.Steps.{countsOf, cellsOf, cellAt}
 use Rattle.signature.specs.declared.Kind.{Kind}
-use Rattle.signature.proofs.Ranges.{tail-few}
+use Rattle.figures.proofs.Ranges.{tail-few}
 use Rattle.signature.proofs.cell_at.Statement.{statement}
 use Rattle.signature.proofs.cell_at.Tie as tie
 

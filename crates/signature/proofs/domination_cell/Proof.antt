@@ -14,7 +14,7 @@ use borrow.Author.Needs.{needs}
 use Rattle.numbers.specs.Counts.{choose}
 use Rattle.numbers.proofs.Counts.{upTo16-given}
 use Rattle.signature.specs.Steps.{countsOf}
-use Rattle.signature.proofs.Signs.{termsBelow, terms-none, terms-added, terms-taken, terms-all}
+use Rattle.figures.proofs.Signs.{termsBelow, terms-none, terms-added, terms-taken, terms-all}
 use Rattle.signature.proofs.domination_cell.Statement.{statement}
 use Rattle.signature.proofs.domination_cell.Tie as tie
 

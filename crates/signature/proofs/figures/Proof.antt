@@ -18,7 +18,7 @@ use Rattle.sets.specs.Tables.{inTable}
 use Rattle.words.specs.Words.{inWords}
 use Rattle.structure.specs.Checks.{tableRefusal}
 use Rattle.structure.proofs.Acceptance.{AcceptedTable, accepted-table}
-use Rattle.signature.specs.Figures.{importances}
+use Rattle.figures.specs.Figures.{importances}
 use Rattle.signature.specs.All.{Buffers, buffersOf, roomRefusal, deliveredAll, allFigures}
 use Rattle.signature.specs.Steps.{countsOf, cellAt, Few, row, importanceBy, Rows}
 use Rattle.signature.specs.declared.Kind.the-variants.{PathCounts, Signature, Domination}

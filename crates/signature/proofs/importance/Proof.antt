@@ -15,7 +15,7 @@ use Rattle.numbers.proofs.Tables.{tabulate-length}
 use Rattle.sets.specs.Tables.{inTable}
 use Rattle.structure.specs.Checks.{tableRefusal}
 use Rattle.structure.proofs.Acceptance.{AcceptedTable, accepted-table}
-use Rattle.signature.specs.Figures.{importance, importances}
+use Rattle.figures.specs.Figures.{importance, importances}
 use Rattle.signature.proofs.Deliveries.{delivered-short, delivered-whole}
 use Rattle.signature.proofs.Machines.{table-rows, table-importances}
 use Rattle.signature.proofs.importance.Statement.{statement}

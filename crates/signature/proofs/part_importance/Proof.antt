@@ -12,7 +12,7 @@ use lib.ListN.{getD}
 use borrow.Author.Needs.{needs}
 use Rattle.algebra.specs.Sums.{sumBelow}
 use Rattle.signature.specs.Steps.{ways, addedSets, takenSets}
-use Rattle.signature.proofs.Ranges.{ways-few}
+use Rattle.signature.proofs.Machines.{ways-few}
 use Rattle.signature.proofs.part_importance.Statement.{statement}
 use Rattle.signature.proofs.part_importance.Tie as tie
 

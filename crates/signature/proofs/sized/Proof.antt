@@ -16,7 +16,7 @@ use Rattle.sets.specs.Masks.{has, size}
 use Rattle.words.specs.Words.{inWords}
 use Rattle.words.proofs.Words.{inWords-at}
 use Rattle.signature.specs.Steps.{inWord, Few}
-use Rattle.signature.proofs.Rows.{tabulate-same}
+use Rattle.numbers.proofs.Tables.{tabulate-same}
 use Rattle.signature.proofs.Words.{sizes, sizes-most, sizes-next, sizes-all, tabulate-few}
 use Rattle.signature.proofs.sized.Statement.{statement}
 use Rattle.signature.proofs.sized.Tie as tie

@@ -9,8 +9,8 @@ use lib.ListN.{getD}
 use borrow.Author.Needs.{needs}
 use Rattle.numbers.specs.Counts.{factorial}
 use Rattle.numbers.proofs.Counts.{upTo16-given, factorial-pos}
-use Rattle.signature.specs.Figures.{tail}
-use Rattle.signature.proofs.Ranges.{factorials-few, product-few}
+use Rattle.figures.specs.Figures.{tail}
+use Rattle.figures.proofs.Ranges.{factorials-few, product-few}
 use Rattle.signature.proofs.tail_cell.Statement.{statement}
 use Rattle.signature.proofs.tail_cell.Tie as tie
 

@@ -16,7 +16,7 @@ use Rattle.sets.proofs.Masks.{has-meet}
 use Rattle.words.specs.Words.{inWords, wordOf}
 use Rattle.words.proofs.Words.{inWords-at, has-wordOf}
 use Rattle.signature.specs.Steps.{hasPart, inWord, Few, rowsOf}
-use Rattle.signature.proofs.Rows.{tabulate-same}
+use Rattle.numbers.proofs.Tables.{tabulate-same}
 use Rattle.signature.proofs.Words.{sizes, sizes-most, sizes-next, sizes-all, tabulate-few}
 use Rattle.signature.proofs.tally.Statement.{statement}
 use Rattle.signature.proofs.tally.Tie as tie

@@ -7,7 +7,7 @@ use borrow.Author.Needs.{needs}
 use Rattle.numbers.specs.Counts.{factorial}
 use Rattle.numbers.proofs.Counts.{upTo16-given}
 use Rattle.signature.specs.Steps.{ways}
-use Rattle.signature.proofs.Ranges.{ways-few}
+use Rattle.signature.proofs.Machines.{ways-few}
 use Rattle.signature.proofs.ways.Statement.{statement}
 use Rattle.signature.proofs.ways.Tie as tie
 

@@ -12,7 +12,7 @@ use mir.Val.{toZ, ofZ}
 use Rattle.vector.specs.Steps.{countIn}
 use Rattle.vector.proofs.Conversions.{difference-positive}
 use Rattle.vector.proofs.CountIn.{difference-negative, count-negative}
-use Rattle.vector.proofs.Signs.{less-found, less-fits, less-same, less-cast, whole-found, whole-small, whole-cast}
+use Rattle.integers.proofs.Signs.{less-found, less-fits, less-same, less-cast, whole-found, whole-small, whole-cast}
 use borrow.Author.Needs.{needs}
 use Rattle.vector.proofs.count_of.Statement.{statement}
 use Rattle.vector.proofs.count_of.Tie as tie

@@ -10,12 +10,12 @@ use lib.IntN.{pos, _-ℤ_}
 use mir.Facts.{toZ-ofZ}
 use mir.Syntax.{w64}
 use borrow.Author.Needs.{needs}
-use Rattle.signature.specs.Figures.{tail, signature}
+use Rattle.figures.specs.Figures.{tail, signature}
 use Rattle.vector.specs.Kinds.{lengthOf}
 use Rattle.vector.specs.Vectors.{figure}
 use Rattle.vector.specs.Steps.{cellsOf}
 use Rattle.vector.specs.declared.Kind.{Kind}
-use Rattle.signature.proofs.Ranges.{tail-few}
+use Rattle.figures.proofs.Ranges.{tail-few}
 use Rattle.vector.proofs.figure.Statement.{statement}
 use Rattle.vector.proofs.figure.Tie as tie
 

@@ -10,7 +10,7 @@ use lib.IntN.{pos, _-ℤ_}
 use borrow.Author.Needs.{needs}
 use Rattle.numbers.specs.Counts.{choose}
 use Rattle.numbers.proofs.Counts.{upTo16-given}
-use Rattle.signature.proofs.Signs.{termsBelow, terms-none, terms-added, terms-taken}
+use Rattle.figures.proofs.Signs.{termsBelow, terms-none, terms-added, terms-taken}
 use Rattle.vector.specs.Steps.{cellsOf}
 use Rattle.vector.proofs.signed_terms.Statement.{statement}
 use Rattle.vector.proofs.signed_terms.Tie as tie

@@ -6,7 +6,7 @@ use native.Mathlib.Nat.{le-trans, le-of-eq, mul-le-mul, mul-assoc}
 use native.Mathlib.Omega.{arith}
 use denote.Ref.{now}
 use Rattle.numbers.specs.Counts.{factorial}
-use Rattle.signature.specs.Figures.{tail}
+use Rattle.figures.specs.Figures.{tail}
 use Rattle.vector.specs.Steps.{cellsOf}
 use Rattle.vector.proofs.Fits.{ways-few}
 use borrow.Author.Needs.{needs}

@@ -20,11 +20,11 @@ use Rattle.sets.specs.Masks.{has, size, holds}
 use Rattle.orders.specs.Formulas.{pathCount}
 use Rattle.orders.proofs.Orders.{eqb-comm}
 use Rattle.orders.proofs.Sizes.{size-bits, size-rest}
-use Rattle.signature.specs.Figures.{sign, domination, setDomination}
-use Rattle.signature.proofs.Binomials.{choose-mirror}
-use Rattle.signature.proofs.IntegerSums.{sumBelowℤ-beyond, sumBelowℤ-only}
-use Rattle.signature.proofs.Sizes.{sum-by-sizeℤ}
-use Rattle.signature.proofs.Supersets.{above, above-same, opposite, having, lacking, sum-above}
+use Rattle.figures.specs.Figures.{sign, domination, setDomination}
+use Rattle.figures.proofs.Binomials.{choose-mirror}
+use Rattle.algebra.proofs.IntegerSums.{sumBelowℤ-beyond, sumBelowℤ-only}
+use Rattle.figures.proofs.Sizes.{sum-by-sizeℤ}
+use Rattle.figures.proofs.Supersets.{above, above-same, opposite, having, lacking, sum-above}
 
 -- ---- the reliability polynomial
 

@@ -24,10 +24,10 @@ use Rattle.orders.specs.Formulas.{pathCount, added, taken}
 use Rattle.orders.proofs.Counting.{count-and-taken}
 use Rattle.orders.proofs.Pairs.{pairs}
 use Rattle.orders.proofs.Totals.{counts-total}
-use Rattle.signature.specs.Figures.{tail, signature}
-use Rattle.signature.proofs.Binomials.{factor-same, factor-le, factorial-suc, choose-factorials, choose-mirror, choose-next}
-use Rattle.signature.proofs.IntegerSums.{sumBelow-pos}
-use Rattle.signature.proofs.Sizes.{size-none, size-meet-all}
+use Rattle.figures.specs.Figures.{tail, signature}
+use Rattle.figures.proofs.Binomials.{factor-same, factor-le, factorial-suc, choose-factorials, choose-mirror, choose-next}
+use Rattle.algebra.proofs.IntegerSums.{sumBelow-pos}
+use Rattle.figures.proofs.Sizes.{size-none, size-meet-all}
 
 -- ---- the tail by proportions
 

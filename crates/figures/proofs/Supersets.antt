@@ -21,9 +21,9 @@ use Rattle.sets.proofs.Bools.{true-or-false}
 use Rattle.sets.proofs.Masks.{has-above}
 use Rattle.sets.proofs.Ranges.{below-or-above}
 use Rattle.orders.proofs.Sizes.{size-last, has-last, has-others}
-use Rattle.signature.specs.Figures.{sign}
-use Rattle.signature.proofs.IntegerSums.{sumBelowℤ-masks}
-use Rattle.signature.proofs.Holding.{size-holds, holds-more, holds-never, holds-last}
+use Rattle.figures.specs.Figures.{sign}
+use Rattle.algebra.proofs.IntegerSums.{sumBelowℤ-masks}
+use Rattle.figures.proofs.Holding.{size-holds, holds-more, holds-never, holds-last}
 
 -- ---- the sum by the last part
 

@@ -1,4 +1,4 @@
--- The numbers that a figure is worked out from stay in range: products of factorials and counts, and a difference of two. Assumes nothing.
+-- The numbers that a figure is worked out from stay in range: products of factorials and counts. Assumes nothing.
 use mathlib.Core.Path.{_≡_, refl, sym, ap, _∙_}
 use mathlib.Core.Bool.{Bool, true, false, cond}
 use mathlib.Core.Logic.{_⊎_, inl, inr}
@@ -11,9 +11,8 @@ use lib.IntN.{pos, negsuc, _-ℤ_}
 use lib.Signed.{mag}
 use Rattle.numbers.specs.Counts.{factorial, choose}
 use Rattle.numbers.proofs.Counts.{factorial-pos}
-use Rattle.signature.specs.Figures.{tail}
-use Rattle.signature.specs.Steps.{ways}
-use Rattle.signature.proofs.Binomials.{choose-factorials}
+use Rattle.figures.specs.Figures.{tail}
+use Rattle.figures.proofs.Binomials.{choose-factorials}
 
 -- ---- factorials
 
@@ -58,18 +57,3 @@ unfolding tail factorial
 tail-few n φ k few h small =
     product-few (φ (n - k)) (factorial (n - k)) (factorial k) 65536 20922789888000 small
     (factorials-few (n - k) k 16 (omega arith)) (factorial-pos k) .1
-
--- 15!
-pub ways-few : (n s : ℕ) → n ≤ 16 → s < n → ways n s ≤ 1307674368000
-unfolding ways factorial
-ways-few n s few h = factorials-few s (n - suc s) 15 (omega arith)
-
--- ---- a difference
-
-pub mag-difference : (a b m : ℕ) → a < m → b < m → mag (pos a -ℤ pos b) < m
-mag-difference a zero m h l = omega arith
-mag-difference a (suc b) m h l = either (ltb a (suc b))
-  where
-    either : (t : Bool) → mag (cond t (negsuc (suc b - suc a)) (pos (a - suc b))) < m
-    either true = omega arith
-    either false = omega arith

@@ -20,9 +20,9 @@ use Rattle.sets.specs.Masks.{size, holds}
 use Rattle.sets.proofs.Bools.{and-right, true-or-false}
 use Rattle.sets.proofs.Ranges.{below-or-above}
 use Rattle.orders.proofs.Sizes.{size-last}
-use Rattle.signature.specs.Figures.{sign, setDomination}
-use Rattle.signature.proofs.IntegerSums.{sumBelowℤ-masks, sumBelowℤ-only}
-use Rattle.signature.proofs.Holding.{size-holds, holds-more, holds-never, holds-last}
+use Rattle.figures.specs.Figures.{sign, setDomination}
+use Rattle.algebra.proofs.IntegerSums.{sumBelowℤ-masks, sumBelowℤ-only}
+use Rattle.figures.proofs.Holding.{size-holds, holds-more, holds-never, holds-last}
 
 -- ---- the sets between two
 

@@ -7,7 +7,7 @@ use lib.IntN.{ℤ, pos, negsuc, negℤ, _+ℤ_, _-ℤ_, _*ℤ_, pow, one, pos-+�
 use Rattle.numbers.specs.Counts.{choose}
 use Rattle.algebra.specs.Sums.{sumBelowℤ}
 use Rattle.algebra.proofs.Integers.{*ℤ-unit, *ℤ-negℤ, unit-*ℤ, negℤ-*ℤ, ring}
-use Rattle.signature.specs.Figures.{sign, domination}
+use Rattle.figures.specs.Figures.{sign, domination}
 
 twice : (x : ℤ) → x *ℤ negsuc 0 *ℤ negsuc 0 ≡ x
 twice x = ap (λ (u : ℤ). u *ℤ negsuc 0) (minus x) ∙ minus (negℤ x) ∙ simp ring

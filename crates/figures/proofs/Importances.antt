@@ -23,8 +23,8 @@ use Rattle.orders.specs.Formulas.{pathCount, added, taken, byParts}
 use Rattle.orders.proofs.Counting.{count-is-byParts, count-and-taken}
 use Rattle.orders.proofs.Sizes.{size-add, size-meet, size-lacking}
 use Rattle.orders.proofs.Totals.{counts-total}
-use Rattle.signature.specs.Figures.{importance}
-use Rattle.signature.proofs.Sizes.{sumBelow-only, sum-by-size, size-none, size-meet-all}
+use Rattle.figures.specs.Figures.{importance}
+use Rattle.figures.proofs.Sizes.{sumBelow-only, sum-by-size, size-none, size-meet-all}
 
 -- ---- the group of one part
 

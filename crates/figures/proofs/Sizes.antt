@@ -17,7 +17,7 @@ use Rattle.sets.proofs.Bools.{false-of}
 use Rattle.sets.proofs.Masks.{has-full, has-le, has-sub, has-above, same-bits}
 use Rattle.orders.specs.Formulas.{pathCount}
 use Rattle.orders.proofs.Sizes.{size-add, size-bits, size-meet}
-use Rattle.signature.proofs.IntegerSums.{sumBelowℤ-only, sumBelow-pos}
+use Rattle.algebra.proofs.IntegerSums.{sumBelowℤ-only, sumBelow-pos}
 
 -- ---- a sum of which a single term is left
 

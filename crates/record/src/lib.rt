@@ -160,10 +160,7 @@ pub fn table_of_record(bytes: &[u8], table: &mut [u8]) -> Written
             let n = list.count;
             let needed = table_length(n);
             if table.len() < needed {
-                return Written::Refused(Refusal {
-                    number: answer::SHORT_BUFFER,
-                    place: needed,
-                });
+                return answer::short(needed);
             }
             let marked = mark_sets(bytes, contents.begin, n, contents.sets);
             let words = marked.words;
@@ -183,7 +180,7 @@ fn read_set(bytes: &[u8], start: usize, n: usize, previous: u64) -> Reading
     match number {
         Reading::Refused(refusal) => Reading::Refused(refusal),
         Reading::Number { value, next } => {
-            if power(n) <= value {
+            if numbers::power(n) as u64 <= value {
                 return codec::refused(answer::UNKNOWN_PART, start);
             }
             if value == 0 {
@@ -197,20 +194,12 @@ fn read_set(bytes: &[u8], start: usize, n: usize, previous: u64) -> Reading
     }
 }
 
-// 2^n, for the parts that a machine may have.
-fn power(n: usize) -> u64
-    requires { ⌜ n ≤ 16 ⌝ }
-    ensures { λ r. ⌜ r ≡ 2 ^ n ⌝ }
-{
-    1 << n
-}
-
 // The bytes of a table of n parts.
 fn table_length(n: usize) -> usize
     requires { ⌜ n ≤ 16 ⌝ }
     ensures { λ r. ⌜ r ≡ tableLength n ⌝ }
 {
-    if n < 3 { 1 } else { power(n - 3) as usize }
+    if n < 3 { 1 } else { numbers::power(n - 3) }
 }
 
 fn refused_contents(number: u8, place: usize) -> Contents
@@ -299,10 +288,7 @@ fn first_nested(bytes: &[u8], start: usize, count: usize, minimal: &[u64]) -> Ve
             return Verdict::Accepted;
         };
         if !words::works(minimal, value as usize) {
-            return Verdict::Refused(Refusal {
-                number: answer::WRONG_SET,
-                place: next,
-            });
+            return answer::refused(answer::WRONG_SET, next);
         }
         next = after;
         index += 1;

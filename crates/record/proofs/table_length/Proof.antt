@@ -5,6 +5,7 @@ use Prim.Native.Nat.{ℕ, _*_, _-_, _^_}
 use native.Mathlib.Nat.{add-sub-of-le}
 use native.Mathlib.Omega.{arith}
 use lib.Pow.{pow-add}
+use Rattle.numbers.proofs.Counts.{upTo16-given}
 use Rattle.sets.specs.Tables.{tableLength}
 use Rattle.sets.proofs.Tables.{tableLength-small, tableLength-large}
 use borrow.Author.Needs.{needs}
@@ -22,7 +23,7 @@ returns-2 c =
     let n = c .before .before .args .n in
     let whole : 8 * tableLength n ≡ 2 ^ n = tableLength-large n (c .before .if1 .left) in
     let eights : 2 ^ n ≡ 2 ^ 3 * 2 ^ (n - 3) = ap (λ (k : ℕ). 2 ^ k) (sym (add-sub-of-le (c .before .if1 .left))) ∙ pow-add 2 3 (n - 3) in
-    c .power .ensures ∙ omega (arith, whole, eights)
+    c .power .ensures ∙ upTo16-given (n - 3) (2 ^ (n - 3)) (omega (arith, c .before .before .pre)) ∙ omega (arith, whole, eights)
 
 pub table-length-spec : {M : Type 1} → statement M
 table-length-spec = tie.close (tie.spec power-requires returns returns-2)

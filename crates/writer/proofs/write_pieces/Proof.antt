@@ -1,30 +1,27 @@
--- `changing::write_record` meets its contract: the needed length is known before anything is written, and then each piece is placed behind
--- those before it.
+-- `writer::write_pieces` meets its contract: each piece is placed behind those before it.
 -- Assumes nothing.
-use mathlib.Core.Path.{_≡_, sym, ap, _∙_, subst}
+use mathlib.Core.Path.{_≡_, sym, ap, _∙_}
 use mathlib.Core.List.{List, _++_}
-use Prim.Native.Nat.{ℕ, _+_, _≤_, _<_}
+use Prim.Native.Nat.{ℕ, _+_, _≤_}
 use native.Mathlib.Omega.{arith}
 use denote.Ref.{now}
 use lib.ListN.{length, length-append}
-use Rattle.answer.specs.Refusals.{shortBuffer}
-use Rattle.answer.specs.Outcome.{at, outcome, delivered}
+use Rattle.answer.specs.Outcome.{delivered}
 use Rattle.answer.specs.declared.Verdict.the-variants.{Accepted}
-use Rattle.answer.specs.declared.Written.the-variants.{Refused}
-use Rattle.answer.proofs.Outcomes.{InFront, in-front-none, in-front-length, in-front-delivered, short-delivered}
+use Rattle.answer.proofs.Outcomes.{InFront, in-front-none, in-front-length, in-front-delivered}
 use Rattle.codec.specs.ByteForm.{bytesOf}
 use Rattle.codec.proofs.Placing.{in-front-more}
 use Rattle.parts.specs.PartLists.{listOf}
 use Rattle.record.specs.Records.{design}
 use Rattle.heading.specs.HeadingBytes.{formsOf}
 use Rattle.record.specs.RecordBytes.{recordBytes}
-use Rattle.changing.proofs.Writing.{pieces, record-pieces, record-length}
+use Rattle.writer.proofs.Writing.{pieces, record-pieces, record-length}
 use borrow.Author.Needs.{needs}
-use Rattle.changing.proofs.write_record.Statement.{statement}
-use Rattle.changing.proofs.write_record.Tie as tie
+use Rattle.writer.proofs.write_pieces.Statement.{statement}
+use Rattle.writer.proofs.write_pieces.Tie as tie
 
 abbrev start-of : tie.After-write-number → tie.Start
-start-of c = c .before .before .before .before .before .before .before
+start-of c = c .before .before .before .before .before
 
 abbrev count : tie.After-write-number → List ℕ
 count c = bytesOf (length (now (start-of c .args .numbers)))
@@ -48,7 +45,7 @@ lent c = now (start-of c .args .buffer)
 room : (c : tie.After-write-number) → length (count c) + length (mark c) + length (numbers c) + length (set-count c) + length (sets c) ≤ length (lent c)
 room c =
     let a = start-of c .args in
-    omega (arith, record-length (a .mark) (now (a .numbers)) (now (a .sets)), c .before .before .before .record-length .ensures, c .before .before .if1 .left)
+    omega (arith, record-length (a .mark) (now (a .numbers)) (now (a .sets)), start-of c .pre)
 
 -- the first piece stands in front, and each later one behind those before it
 one : (c : tie.After-write-number) → InFront (lent c) (count c) (c .write-number .last .0) (c .write-number .result)
@@ -82,17 +79,6 @@ four c =
     (omega (arith, room w, length-append (count w) (mark w), length-append (count w ++ mark w) (numbers w), length-append (count w ++ mark w ++ numbers w) (set-count w)))
     (c .write-number3 .ensures)
 
-record-length-requires : tie.Need-record-length-requires
-record-length-requires c κs = search needs
-
-returns : tie.Need-returns
-returns c =
-    let a = c .before .before .before .before .before .args in
-    let result = recordBytes (design (listOf (a .mark) (now (a .numbers))) (now (a .sets))) in
-    let long : c .before .record-length .result ≡ length result = c .before .record-length .ensures in
-    ap (λ (k : ℕ). outcome (Refused (at shortBuffer k)) (now (a .buffer))) long
-    ∙ short-delivered (now (a .buffer)) result (subst (λ (k : ℕ). length (now (a .buffer)) < k) long (c .if1 .taken))
-
 write-number-requires : tie.Need-write-number-requires
 write-number-requires c κs = search needs
 
@@ -125,8 +111,8 @@ write-sets-requires c κs =
 same-length : tie.Need-same-length
 same-length c = search needs
 
-returns-2 : tie.Need-returns-2
-returns-2 c =
+returns : tie.Need-returns
+returns c =
     let x = c .before .before in
     let y = x .before .before .before .before in
     let w = first-of-four y in
@@ -138,16 +124,14 @@ returns-2 c =
     in-front-more (four y) (sets w) (x .write-sets .last .0) (x .write-sets .result) fits (x .write-sets .ensures) in
     in-front-delivered (lent w) result (x .write-sets .last .0) (x .write-sets .result) all fits ∙ ap (λ (l : List ℕ). delivered Accepted l (lent w)) (sym same)
 
-pub write-record-spec : {M : Type 1} → statement M
-write-record-spec =
+pub write-pieces-spec : {M : Type 1} → statement M
+write-pieces-spec =
     tie.close
     (tie.spec
-    record-length-requires
-    returns
     write-number-requires
     write-number-requires-2
     write-numbers-requires
     write-number-requires-3
     write-sets-requires
     same-length
-    returns-2)
+    returns)

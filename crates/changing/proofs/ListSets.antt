@@ -1,22 +1,13 @@
 -- From some sets, marked in words, to their minimal sets, however many they are; and the numbers of the first parts.
 -- Assumes nothing.
 use mathlib.Core.Path.{_≡_, refl, sym, ap, _∙_}
-use mathlib.Core.Bool.{Bool, true, false, cond, _||_}
+use mathlib.Core.Bool.{Bool, true, false, _||_}
 use mathlib.Core.List.{List, [], _∷_, _++_, List·Memᴰ}
 use mathlib.Core.Logic.{⊎-elim}
 use Prim.Native.Nat.{ℕ, zero, suc, _+_, _^_, _≤_, _<_, min}
 use native.Mathlib.Nat.{not-suc-le-zero, le-of-suc-le-suc, min-eq-left}
 use native.Mathlib.Omega.{arith}
-use borrow.Author.Tests.{le-leb}
-use lib.ListN.{length, take, drop}
-use Rattle.answer.specs.Refusals.{shortBuffer}
-use Rattle.answer.specs.Outcome.{at, outcome, delivered}
-use Rattle.answer.specs.declared.Refusal.{Refusal}
-use Rattle.answer.specs.declared.Verdict.{Verdict}
-use Rattle.answer.specs.declared.Verdict.the-variants.{Accepted}
-use Rattle.answer.specs.declared.Verdict.the-variants as verdict
-use Rattle.answer.specs.declared.Written.{Written}
-use Rattle.answer.specs.declared.Written.the-variants as written
+use lib.ListN.{length, take}
 use Rattle.numbers.specs.Tables.{tabulate}
 use Rattle.sets.specs.Masks.{holds, those}
 use Rattle.sets.specs.Structures.{Semicoherent, listed, minimalSets}
@@ -70,19 +61,6 @@ listed-behind (y ∷ ys) x a = ap (λ (p : Bool). holds a y || p) (listed-behind
     swap true false = refl
     swap false true = refl
     swap false false = refl
-
--- what is refused for a buffer that is long enough is refused by its verdict
-pub refused-by : (v : Verdict) (result buffer : List ℕ) (r : Refusal) → (v ≡ Accepted → length result ≤ length buffer) → delivered v result buffer .answer ≡ written.Refused r
-    → v ≡ verdict.Refused r
-refused-by (verdict.Refused q) result buffer r fits e = cc
-refused-by verdict.Accepted result buffer r fits e =
-    let given : written.Length (length result) ≡ written.Refused r = sym (ap (λ (p : Bool). choice p) (le-leb (length result) (length buffer) (fits refl))) ∙ e in
-    let z : _≡_ {A = ℕ} 0 1 = cc in
-    absurd (omega arith)
-  where
-    choice : Bool → Written
-    choice p =
-        cond p (outcome (written.Length (length result)) (result ++ drop (length result) buffer)) (outcome (written.Refused (at shortBuffer (length result))) buffer) .answer
 
 -- ---- the first part numbers
 

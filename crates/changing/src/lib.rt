@@ -8,17 +8,14 @@ use parts::PartList;
 use record::Cursor;
 use record::Step;
 ghost use mathlib.Core.Path.{_≡_};
-ghost use Prim.Native.Nat.{ℕ, _+_, _*_, _^_, _≤_, _<_};
+ghost use Prim.Native.Nat.{ℕ, _+_, _*_, _≤_, _<_};
 ghost use mathlib.Core.List.{List·Memᴰ};
 ghost use lib.ListN.{length};
-ghost use Rattle.answer.specs.Outcome.{at, outcome, delivered};
-ghost use Rattle.codec.specs.ByteForm.{placed, leaves};
+ghost use Rattle.answer.specs.Outcome.{outcome, delivered};
 ghost use Rattle.orders.specs.Antichains.{mostSets};
-ghost use Rattle.parts.specs.PartLists.{mostParts, listOf, WellFormed};
 ghost use Rattle.record.specs.Records.{design, wholeRecord};
 ghost use Rattle.record.specs.Contents.{stepAt, metIn};
-ghost use Rattle.heading.specs.HeadingBytes.{formsOf};
-ghost use Rattle.record.specs.RecordBytes.{recordBytes};
+ghost use Rattle.record.specs.RecordBytes.{recordBytes, DesignRules};
 ghost use Rattle.sets.specs.Masks.{has};
 ghost use Rattle.sets.specs.Structures.{listed, minimalSets};
 ghost use Rattle.structure.specs.Checks.{listRefusal};
@@ -77,7 +74,7 @@ pub fn take_out(bytes: &[u8], position: usize, buffer: &mut [u8]) -> Written
     let mut kept = [0u16; 12870];
     let left = sets_without(&sets[..count], position - 1, &mut kept);
     if left == 0 {
-        return refused(answer::IN_EVERY_SET);
+        return answer::unwritten(answer::IN_EVERY_SET, 0);
     }
     write_design(list, &kept[..left], buffer)
 }
@@ -93,11 +90,11 @@ pub fn add_set(bytes: &[u8], set: u16, buffer: &mut [u8]) -> Written
     }
     let list = opened.list;
     let n = list.count;
-    if power(n) <= set as u32 {
-        return refused(answer::UNKNOWN_PART);
+    if numbers::power(n) <= set as usize {
+        return answer::unwritten(answer::UNKNOWN_PART, 0);
     }
     if set == 0 {
-        return refused(answer::EMPTY_SET);
+        return answer::unwritten(answer::EMPTY_SET, 0);
     }
     let mut sets = opened.sets;
     let count = opened.count;
@@ -121,7 +118,7 @@ pub fn first_record(n: usize, list: &[u16], buffer: &mut [u8]) -> Written
         Written::Refused(refusal) => Written::Refused(refusal),
         Written::Length(count) => {
             let numbers: [u64; 16] = [1, 2, 3, 4, 5, 6, 7, 8, 9, 10, 11, 12, 13, 14, 15, 16];
-            write_record(n as u64, &numbers[..n], &sets[..count], buffer)
+            writer::write_record(n as u64, &numbers[..n], &sets[..count], buffer)
         }
     }
 }
@@ -133,16 +130,9 @@ pub fn lowered(set: u16, index: usize) -> u16
     if 16 <= index {
         return set;
     }
-    let unit = power(index);
-    let wide = set as u32;
+    let unit = numbers::power(index);
+    let wide = set as usize;
     (wide / (2 * unit) * unit + wide % unit) as u16
-}
-
-// A refusal of a change, which is at place 0.
-fn refused(number: u8) -> Written
-    ensures { λ r. ⌜ r ≡ Written.Refused (at number 0) ⌝ }
-{
-    Written::Refused(Refusal { number, place: 0 })
 }
 
 // The record that the bytes are, checked whole, and its sets loaded.
@@ -213,15 +203,7 @@ fn has_part(set: u16, index: usize) -> bool
     requires { ⌜ index ≤ 16 ⌝ }
     ensures { λ r. ⌜ r ≡ has set index ⌝ }
 {
-    (set as u32) / power(index) % 2 == 1
-}
-
-// 2 to the index of a part.
-fn power(index: usize) -> u32
-    requires { ⌜ index ≤ 16 ⌝ }
-    ensures { λ r. ⌜ r ≡ 2 ^ index ⌝ }
-{
-    1 << index
+    set as usize / numbers::power(index) % 2 == 1
 }
 
 // The minimal sets of a list of sets, ascending, into a lent buffer.
@@ -248,11 +230,10 @@ fn minimal_of_sets(n: usize, sets: &[u16], minimal: &mut [u16]) -> Written
 
 // Writes the record of this part list and these minimal sets into a lent buffer, or says how many bytes it needs.
 fn write_design(list: PartList, sets: &[u16], buffer: &mut [u8]) -> Written
-    requires { ⌜ WellFormed list ⌝ }
-    requires { ⌜ length (now sets) ≤ mostSets ⌝ }
+    requires { ⌜ DesignRules (design list (now sets)) ⌝ }
     ensures { λ r. ⌜ outcome r (now (buffer .exit)) ≡ delivered Verdict.Accepted (recordBytes (design list (now (sets .entry)))) (now (buffer .entry)) ⌝ }
 {
     let numbers = list.numbers;
     let count = list.count;
-    write_record(list.mark, &numbers[..count], sets, buffer)
+    writer::write_record(list.mark, &numbers[..count], sets, buffer)
 }

@@ -1,7 +1,7 @@
 -- A record that was opened for a change: a refused one refuses the change, and an accepted one has a design, whose sets stand in front of the
 -- array. What the design refuses the change for is then the answer, and else the changed design is written.
 -- Assumes nothing.
-use mathlib.Core.Path.{_≡_, refl, sym, ap, ap₂, _∙_}
+use mathlib.Core.Path.{_≡_, refl, sym, ap, ap₂, _∙_, subst}
 use mathlib.Core.List.{List, [], _∷_, _++_, List·Memᴰ, List·Memᴰ·head, List·Memᴰ·tail, List·Memᴰ·eq-of-singleton, List·Memᴰ·append-cases}
 use mathlib.Core.Logic.{⊎-elim}
 use Prim.Native.Nat.{ℕ, _+_, _-_, _^_, _≤_, _<_}
@@ -34,7 +34,7 @@ use Rattle.record.proofs.RoundTrip.{whole-written}
 use Rattle.changes.specs.Changes.{Change, addPart, takeOut, addSet, every, setsWithout, changeRefusal, changed}
 use Rattle.changes.specs.Records.{changedRead, changedRecord}
 use Rattle.changes.proofs.TakenOut.{without-none, without-some}
-use Rattle.changes.proofs.Rules.{take-out-agrees, with-set-within}
+use Rattle.changes.proofs.Rules.{changed-rules, take-out-agrees, with-set-within}
 use Rattle.changing.specs.declared.Opened.{Opened}
 use Rattle.changing.specs.Steps.{openedOf, SomeSets}
 use Rattle.changing.proofs.ListSets.{listed-behind}
@@ -119,7 +119,11 @@ module _ {bytes : List ℕ} {o : Opened} (w : DesignOpened bytes o) where
   change-refused change why h buffer =
       ap (λ (v : Verdict). delivered v (recordBytes (changed change (w .d))) buffer) (sym h) ∙ ap (λ (r : Read Design). changedRead change r buffer) (sym (w .read))
 
-  -- and else the changed design is written
+  -- and else the changed design keeps the rules and is written
+  pub change-rules : (change : Change) → changeRefusal change (w .d) ≡ Accepted → (list : PartList) (sets : List ℕ) → list ≡ changed change (w .d) .parts → sets ≡ changed change (w .d) .sets
+      → DesignRules (design list sets)
+  change-rules change h list sets lists same = subst DesignRules (sym (ap₂ design lists same)) (changed-rules change (w .d) (w .rules) h)
+
   pub change-made : (change : Change) → changeRefusal change (w .d) ≡ Accepted → (list : PartList) (sets buffer : List ℕ) → list ≡ changed change (w .d) .parts
       → sets ≡ changed change (w .d) .sets → delivered Accepted (recordBytes (design list sets)) buffer ≡ changedRecord change bytes buffer
   unfolding changedRecord

@@ -1,6 +1,5 @@
 // Changes of design records (01, "Records on disk"): a first record, and the three changes of record bytes. The whole record is checked as a
 // reader checks it, then the change, then the new record is written.
-use answer::Refusal;
 use answer::Verdict;
 use answer::Written;
 use parts::Numbered;

@@ -1,7 +1,7 @@
 // What stands before the sets of a design record (01, "Records on disk"): n, the mark, n part numbers and the count of sets, read from a
 // position on.
-use answer::Verdict;
 use answer::Refusal;
+use answer::Verdict;
 use codec::Field;
 use codec::Reading;
 use parts::PartList;

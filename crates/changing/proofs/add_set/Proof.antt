@@ -6,22 +6,21 @@ use Prim.Native.Nat.{ℕ, _+_, _^_, _≤_, _<_}
 use native.Mathlib.Nat.{pos-of-ne-zero}
 use native.Mathlib.Omega.{arith}
 use denote.Ref.{now}
-use lib.ListN.{length, take, set, replicate, length-append, length-replicate, length-set}
+use lib.ListN.{length, set, replicate, length-append, length-replicate, length-set}
 use Rattle.answer.specs.Refusals.{unknownPart, emptySet}
-use Rattle.answer.specs.Outcome.{at, Outcome, outcome, delivered}
+use Rattle.answer.specs.Outcome.{at, outcome, delivered}
 use Rattle.answer.specs.declared.Verdict.the-variants.{Accepted}
 use Rattle.answer.specs.declared.Written.{Written}
 use Rattle.parts.specs.declared.PartList.{PartList}
-use Rattle.parts.specs.PartLists.{WellFormed}
 use Rattle.sets.specs.Structures.{listed, minimalSets}
 use Rattle.record.specs.Records.{Design}
 use Rattle.changes.specs.Changes.{addSet, changeRefusal, changed}
 use Rattle.changes.proofs.Refusals.{add-set-exactly}
 use Rattle.changes.proofs.Rules.{changed-rules}
-use Rattle.changes.proofs.Written.{Given, given}
+use Rattle.answer.proofs.Deliveries.{Given, given, refused-by}
 use Rattle.changing.specs.Steps.{SomeSets}
-use Rattle.changing.proofs.ListSets.{refused-by}
-use Rattle.changing.proofs.Answers.{DesignOpened, opened-design, opened-refused, sets-counted, sets-few, sets-room, set-behind, change-refused, change-made, set-unknown, set-empty, with-set, with-set-sets}
+use Rattle.numbers.proofs.Counts.{upTo16-given}
+use Rattle.changing.proofs.Answers.{DesignOpened, opened-design, opened-refused, sets-counted, sets-few, sets-room, set-behind, change-refused, change-rules, change-made, set-unknown, set-empty, with-set, with-set-sets}
 use borrow.Author.Needs.{needs}
 use Rattle.changing.proofs.add_set.Statement.{statement}
 use Rattle.changing.proofs.add_set.Tie as tie
@@ -39,7 +38,10 @@ counted : (c : tie.After-enum-told) → c .before .before .open-record .result .
 counted c = ap (λ (l : PartList). l .count) (read c .list)
 
 unit : (c : tie.After-power) → c .power .result ≡ 2 ^ (design-of (c .before .before) .parts .count)
-unit c = c .power .ensures ∙ ap (λ (k : ℕ). 2 ^ k) (counted (c .before .before))
+unit c =
+    let n = c .before .before .before .before .open-record .result .list .count in
+    let few : n ≤ 16 = omega (arith, counted (c .before .before), read (c .before .before) .rules .parts .rules .few) in
+    c .power .ensures ∙ upTo16-given n (2 ^ n) few ∙ ap (λ (k : ℕ). 2 ^ k) (counted (c .before .before))
 
 -- behind the tests nothing refuses the set
 abbrev told-of : tie.After-sets → tie.After-enum-told
@@ -72,13 +74,12 @@ found c =
 abbrev sets-before : tie.After-known-told3 → tie.After-sets
 sets-before c = c .before .before .before .before .before .before .before
 
-built : (c : tie.After-known-told3) → Given Accepted (sets-of (sets-before c)) (delivered Accepted (sets-of (sets-before c)) (replicate 12870 0)) (c .before .found2 .given .0 .0)
+built : (c : tie.After-known-told3)
+    → Given Accepted (sets-of (sets-before c)) (replicate 12870 0) (c .before .before .before .before .minimal-of-sets .last .1 .1 .0) (c .before .found2 .given .0 .0)
 built c =
-    given Accepted (sets-of (sets-before c)) (replicate 12870 0) (c .before .found2 .given .0 .0)
-    (sym (ap (λ (o : Outcome ℕ). o .answer) (found (c .before .before .before .before))) ∙ c .before .found2 .given .1)
-
-front : (c : tie.After-known-told3) → take (c .before .found2 .given .0 .0) (c .before .before .before .before .minimal-of-sets .last .1 .1 .0) ≡ sets-of (sets-before c)
-front c = ap (λ (o : Outcome ℕ). take (c .before .found2 .given .0 .0) (o .buffer)) (found (c .before .before .before .before)) ∙ built c .written
+    let w = c .before .before .before .before in
+    given Accepted (sets-of (sets-before c)) (replicate 12870 0) (w .minimal-of-sets .last .1 .1 .0) (c .before .found2 .given .0 .0)
+    (ap (λ (x : Written). outcome x (w .minimal-of-sets .last .1 .1 .0)) (sym (c .before .found2 .given .1)) ∙ found w)
 
 open-record-requires : tie.Need-open-record-requires
 open-record-requires c κs = search needs
@@ -90,10 +91,10 @@ enum-told : tie.Need-enum-told
 enum-told c = search needs
 
 power-requires : tie.Need-power-requires
-power-requires c κs = omega (arith, counted (c .before), read (c .before) .rules .parts .rules .few)
+power-requires c κs = search needs
 
-refused-requires : tie.Need-refused-requires
-refused-requires c κs = search needs
+unwritten-requires : tie.Need-unwritten-requires
+unwritten-requires c κs = search needs
 
 returns-2 : tie.Need-returns-2
 returns-2 c =
@@ -101,12 +102,12 @@ returns-2 c =
     let told = power .before .before in
     let a = told .before .before .before .before .before .args in
     let r = read told in
-    ap (λ (x : Written). outcome x (now (a .buffer))) (c .refused .ensures)
+    ap (λ (x : Written). outcome x (now (a .buffer))) (c .unwritten .ensures)
     ∙ change-refused r (addSet (a .set)) (at unknownPart 0) (set-unknown (r .d) (r .rules) (a .set) (subst (λ (k : ℕ). k ≤ a .set) (unit power) (c .before .if1 .taken)))
     (now (a .buffer))
 
-refused-requires-2 : tie.Need-refused-requires-2
-refused-requires-2 c κs = search needs
+unwritten-requires-2 : tie.Need-unwritten-requires-2
+unwritten-requires-2 c κs = search needs
 
 returns-3 : tie.Need-returns-3
 returns-3 c =
@@ -114,7 +115,7 @@ returns-3 c =
     let told = power .before .before in
     let a = told .before .before .before .before .before .args in
     let r = read told in
-    ap (λ (x : Written). outcome x (now (a .buffer))) (c .refused2 .ensures)
+    ap (λ (x : Written). outcome x (now (a .buffer))) (c .unwritten2 .ensures)
     ∙ change-refused r (addSet (a .set)) (at emptySet 0)
     (set-empty (r .d) (r .rules) (a .set) (subst (λ (k : ℕ). a .set < k) (unit power) (c .before .before .if1 .left)) (c .before .if2 .taken)) (now (a .buffer))
 
@@ -159,13 +160,14 @@ array-share-prefix-minimal : tie.Need-array-share-prefix-minimal
 array-share-prefix-minimal c = omega (arith, built c .counted, most (sets-before c))
 
 slice-aggregate-write-design : tie.Need-slice-aggregate-write-design
-slice-aggregate-write-design c = built (c .before) .counted ∙ ap length (sym (front (c .before)))
+slice-aggregate-write-design c = built (c .before) .counted ∙ ap length (sym (built (c .before) .front))
 
 write-design-requires : tie.Need-write-design-requires
 write-design-requires c κs =
     let k = c .before .before in
-    let r = read (told-of (sets-before k)) in
-    (subst WellFormed (sym (r .list)) (r .rules .parts), omega (arith, ap length (front k), most (sets-before k)))
+    let s = sets-before k in
+    let r = read (told-of s) in
+    change-rules r (addSet (value-of s)) (accepted s) _ _ (r .list) (built k .front)
 
 returns : tie.Need-returns
 returns c =
@@ -178,8 +180,9 @@ returns-4 c =
     let w = c .before .before .before .before in
     let s = w .before .before .before in
     let a = told-of s .before .before .before .before .before .args in
-    let refused = refused-by Accepted (sets-of s) (replicate 12870 0) _ (λ e. subst (λ (k : ℕ). length (sets-of s) ≤ k) (sym (length-replicate {A = ℕ} 12870 0)) (most s))
-    (sym (ap (λ (o : Outcome ℕ). o .answer) (found w)) ∙ c .before .found .given .1) in
+    let refused = refused-by Accepted (sets-of s) (replicate 12870 0) (w .minimal-of-sets .last .1 .1 .0) _
+    (λ e. subst (λ (k : ℕ). length (sets-of s) ≤ k) (sym (length-replicate {A = ℕ} 12870 0)) (most s))
+    (ap (λ (x : Written). outcome x (w .minimal-of-sets .last .1 .1 .0)) (sym (c .before .found .given .1)) ∙ found w) in
     change-refused (read (told-of s)) (addSet (a .set)) _ (accepted s ∙ refused) (now (a .buffer))
 
 same-length : tie.Need-same-length
@@ -191,7 +194,7 @@ returns-5 c =
     let s = sets-before k in
     let r = read (told-of s) in
     let a = told-of s .before .before .before .before .before .args in
-    c .before .before .write-design .ensures ∙ change-made r (addSet (a .set)) (accepted s) _ _ (now (a .buffer)) (r .list) (front k)
+    c .before .before .write-design .ensures ∙ change-made r (addSet (a .set)) (accepted s) _ _ (now (a .buffer)) (r .list) (built k .front)
 
 pub add-set-spec : {M : Type 1} → statement M
 add-set-spec =
@@ -202,9 +205,9 @@ add-set-spec =
     returns
     enum-told
     power-requires
-    refused-requires
+    unwritten-requires
     returns-2
-    refused-requires-2
+    unwritten-requires-2
     returns-3
     mul-sets
     array-write-sets

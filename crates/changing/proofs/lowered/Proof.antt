@@ -1,25 +1,32 @@
 -- `changing::lowered` meets its contract: a mask of 16 bits has none from 16 on, and else the two parts are taken by the unit of the index.
 -- Assumes nothing.
-use mathlib.Core.Path.{_≡_, sym}
+use mathlib.Core.Path.{_≡_, sym, _∙_}
 use Prim.Native.Nat.{_+_, _*_, _/_, _%_, _^_, _≤_, _<_}
 use native.Mathlib.Nat.{lt-of-lt-of-le}
 use native.Mathlib.Omega.{arith}
 use lib.Pow.{pow-lt, pow-pos, pow-mono}
+use Rattle.numbers.proofs.Counts.{upTo16-given}
 use Rattle.changes.specs.Changes.{lowered}
 use Rattle.changes.proofs.MovedDown.{lowered-beyond, lowered-parts}
 use borrow.Author.Needs.{needs}
 use Rattle.changing.proofs.lowered.Statement.{statement}
 use Rattle.changing.proofs.lowered.Tie as tie
 
--- the unit and the parts, once it is known
+-- the unit of the index
+whole : (c : tie.After-power) → c .power .result ≡ 2 ^ (c .before .before .args .index)
+whole c =
+    let index = c .before .before .args .index in
+    c .power .ensures ∙ upTo16-given index (2 ^ index) (omega (arith, c .before .if1 .left))
+
+-- the two parts
 parts : (c : tie.After-power) → (lowered (c .before .before .args .index) (c .before .before .args .set)
     ≡ c .before .before .args .set / (2 * c .power .result) * c .power .result + c .before .before .args .set % c .power .result)
     × (c .before .before .args .set / (2 * c .power .result) * c .power .result + c .before .before .args .set % c .power .result ≤ c .before .before .args .set)
-parts c = lowered-parts (c .before .before .args .index) (c .before .before .args .set) (c .power .result) (c .power .ensures)
+parts c = lowered-parts (c .before .before .args .index) (c .before .before .args .set) (c .power .result) (whole c)
 
 unit : (c : tie.After-power) → (0 < c .power .result) × (c .power .result < 65536)
 unit c =
-    let e = c .power .ensures in
+    let e = whole c in
     let index = c .before .before .args .index in
     let small : index < 16 = c .before .if1 .left in
     (omega (arith, e, pow-pos index), omega (arith, e, pow-lt small))

@@ -24,8 +24,12 @@ numbers-short : (c : tie.After-numbers-length) → c .numbers-length .result ≤
 numbers-short c =
     let start = c .before .before .before .before .before in
     let numbers = now (start .args .numbers) in
-    omega (arith, c .numbers-length .ensures, start .pre .0,
-    forms-most 10 numbers (λ i. bytes-at-most 10 _ (omega arith) (omega (arith, c .before .before .before .before .shared-slice-known .given i))))
+    omega (
+      arith,
+      c .numbers-length .ensures,
+      start .pre .0,
+      forms-most 10 numbers (λ i. bytes-at-most 10 _ (omega arith) (omega (arith, c .before .before .before .before .shared-slice-known .given i))),
+    )
 
 third : (c : tie.After-number-length3) → c .number-length3 .result ≤ 10
 third c =
@@ -37,8 +41,12 @@ sets-short : (c : tie.After-sets-length) → c .sets-length .result ≤ 38610
 sets-short c =
     let start = c .before .before .before .before .before .before .before in
     let sets = now (start .args .sets) in
-    omega (arith, c .sets-length .ensures, start .pre .1,
-    forms-most 3 sets (λ i. bytes-at-most 3 _ (omega arith) (omega (arith, c .before .before .before .before .before .shared-slice-known2 .given i))))
+    omega (
+      arith,
+      c .sets-length .ensures,
+      start .pre .1,
+      forms-most 3 sets (λ i. bytes-at-most 3 _ (omega arith) (omega (arith, c .before .before .before .before .before .shared-slice-known2 .given i))),
+    )
 
 number-length-requires : tie.Need-number-length-requires
 number-length-requires c κs = search needs

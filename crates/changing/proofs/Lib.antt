@@ -1,3 +1,3 @@
-pub mod ListSets
+mod FirstNumbers
 pub mod Loading
 pub mod Answers

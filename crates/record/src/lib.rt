@@ -92,9 +92,9 @@ pub fn whole_record(bytes: &[u8]) -> Contents
     match verdict {
         Verdict::Refused(_) => contents,
         Verdict::Accepted => {
-            let end = contents.end;
-            if end < bytes.len() {
-                return refused_contents(answer::BYTES_LEFT, end);
+            let next = contents.end;
+            if next < bytes.len() {
+                return refused_contents(answer::BYTES_LEFT, next);
             }
             contents
         }

@@ -1,4 +1,4 @@
--- `changing::lowered` meets its contract: a mask of 16 bits has none from 16 on, and else the two parts are taken by the unit of the index.
+-- `lists::lowered` meets its contract: a mask of 16 bits has none from 16 on, and else the two parts are taken by the unit of the index.
 -- Assumes nothing.
 use mathlib.Core.Path.{_≡_, sym, _∙_}
 use Prim.Native.Nat.{_+_, _*_, _/_, _%_, _^_, _≤_, _<_}
@@ -9,8 +9,8 @@ use Rattle.numbers.proofs.Counts.{upTo16-given}
 use Rattle.changes.specs.Changes.{lowered}
 use Rattle.changes.proofs.MovedDown.{lowered-beyond, lowered-parts}
 use borrow.Author.Needs.{needs}
-use Rattle.changing.proofs.lowered.Statement.{statement}
-use Rattle.changing.proofs.lowered.Tie as tie
+use Rattle.lists.proofs.lowered.Statement.{statement}
+use Rattle.lists.proofs.lowered.Tie as tie
 
 -- the unit of the index
 whole : (c : tie.After-power) → c .power .result ≡ 2 ^ (c .before .before .args .index)

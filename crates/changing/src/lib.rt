@@ -7,7 +7,7 @@ use parts::PartList;
 use record::Cursor;
 use record::Step;
 ghost use mathlib.Core.Path.{_≡_};
-ghost use Prim.Native.Nat.{ℕ, _+_, _*_, _≤_, _<_};
+ghost use Prim.Native.Nat.{ℕ, _+_, _≤_, _<_};
 ghost use mathlib.Core.List.{List·Memᴰ};
 ghost use lib.ListN.{length};
 ghost use Rattle.answer.specs.Outcome.{outcome, delivered};
@@ -15,19 +15,16 @@ ghost use Rattle.orders.specs.Antichains.{mostSets};
 ghost use Rattle.record.specs.Records.{design, wholeRecord};
 ghost use Rattle.record.specs.Contents.{stepAt, metIn};
 ghost use Rattle.record.specs.RecordBytes.{recordBytes, DesignRules};
-ghost use Rattle.sets.specs.Masks.{has};
-ghost use Rattle.sets.specs.Structures.{listed, minimalSets};
-ghost use Rattle.structure.specs.Checks.{listRefusal};
-ghost use Rattle.changes.specs.Changes.{addPart, takeOut, addSet, lowered, setsWithout};
+ghost use Rattle.changes.specs.Changes.{addPart, takeOut, addSet, setsWithout};
 ghost use Rattle.changes.specs.Records.{changedRecord, firstRecord};
-ghost use Rattle.changing.specs.Steps.{setCells, openedOf, SomeSets};
+ghost use Rattle.changing.specs.Steps.{setCells, openedOf};
 
-// What a change works on: the part list of a record, the number of its sets, and these sets in front of an array that has room for one more.
+// What a change works on: the part list of a record, the number of its sets, and these sets in front of an array.
 // Of a refused record: a list of no parts and no sets.
 struct Opened {
     list: PartList,
     count: usize,
-    sets: [u16; 12871],
+    sets: [u16; 12870],
     verdict: Verdict,
 }
 
@@ -89,18 +86,10 @@ pub fn add_set(bytes: &[u8], set: u16, buffer: &mut [u8]) -> Written
     }
     let list = opened.list;
     let n = list.count;
-    if numbers::power(n) <= set as usize {
-        return answer::unwritten(answer::UNKNOWN_PART, 0);
-    }
-    if set == 0 {
-        return answer::unwritten(answer::EMPTY_SET, 0);
-    }
-    let mut sets = opened.sets;
+    let sets = opened.sets;
     let count = opened.count;
-    sets[count] = set;
-    let all = count + 1;
     let mut minimal = [0u16; 12870];
-    let found = minimal_of_sets(n, &sets[..all], &mut minimal);
+    let found = lists::minimal_with(n, &sets[..count], set, &mut minimal);
     match found {
         Written::Refused(refusal) => Written::Refused(refusal),
         Written::Length(left) => write_design(list, &minimal[..left], buffer),
@@ -112,7 +101,7 @@ pub fn first_record(n: usize, list: &[u16], buffer: &mut [u8]) -> Written
     ensures { λ r. ⌜ outcome r (now (buffer .exit)) ≡ firstRecord n (now (list .entry)) (now (buffer .entry)) ⌝ }
 {
     let mut sets = [0u16; 12870];
-    let found = minimal_of_list(n, list, &mut sets);
+    let found = lists::minimal_of_list(n, list, &mut sets);
     match found {
         Written::Refused(refusal) => Written::Refused(refusal),
         Written::Length(count) => {
@@ -120,18 +109,6 @@ pub fn first_record(n: usize, list: &[u16], buffer: &mut [u8]) -> Written
             writer::write_record(n as u64, &numbers[..n], &sets[..count], buffer)
         }
     }
-}
-
-// A set without the part at an index: higher positions move down by one.
-pub fn lowered(set: u16, index: usize) -> u16
-    ensures { λ r. ⌜ r ≡ lowered index set ⌝ }
-{
-    if 16 <= index {
-        return set;
-    }
-    let unit = numbers::power(index);
-    let wide = set as usize;
-    (wide / (2 * unit) * unit + wide % unit) as u16
 }
 
 // The record that the bytes are, checked whole, and its sets loaded.
@@ -155,12 +132,12 @@ fn open_record(bytes: &[u8]) -> Opened
 }
 
 // The sets that a walk from a cursor meets.
-fn load_sets(bytes: &[u8], first: Cursor) -> [u16; 12871]
+fn load_sets(bytes: &[u8], first: Cursor) -> [u16; 12870]
     requires { ⌜ first .left ≤ mostSets ⌝ }
     requires { ⌜ ((set : ℕ) → List·Memᴰ set (metIn (first .left) (now bytes) (stepAt (now bytes) first)) → set < 65536) ⌝ }
     ensures { λ r. ⌜ r ≡ setCells (metIn (first .left) (now (bytes .entry)) (stepAt (now (bytes .entry)) first)) ⌝ }
 {
-    let mut sets = [0u16; 12871];
+    let mut sets = [0u16; 12870];
     let count = first.left;
     let mut cursor = first;
     let mut read = 0;
@@ -182,49 +159,14 @@ fn load_sets(bytes: &[u8], first: Cursor) -> [u16; 12871]
 
 // The sets that do not name the part at an index, with higher positions moved down by one, into a local array, and how many they are.
 fn sets_without(sets: &[u16], index: usize, kept: &mut [u16]) -> usize
-    requires { ⌜ index ≤ 16 ⌝ }
     requires { ⌜ length (now sets) ≤ length (now kept) ⌝ }
     ensures { λ r. ⌜ outcome (Written.Length r) (now (kept .exit)) ≡ delivered Verdict.Accepted (setsWithout index (now (sets .entry))) (now (kept .entry)) ⌝ }
 {
-    let mut next = 0;
-    for i in 0..sets.len() {
-        let set = sets[i];
-        if !has_part(set, index) {
-            kept[next] = lowered(set, index);
-            next += 1;
-        }
+    let written = lists::sets_without(sets, index, kept);
+    match written {
+        Written::Refused(_) => 0,
+        Written::Length(left) => left,
     }
-    next
-}
-
-// Whether a set names the part at an index.
-fn has_part(set: u16, index: usize) -> bool
-    requires { ⌜ index ≤ 16 ⌝ }
-    ensures { λ r. ⌜ r ≡ has set index ⌝ }
-{
-    set as usize / numbers::power(index) % 2 == 1
-}
-
-// The minimal sets of a list of sets, ascending, into a lent buffer.
-fn minimal_of_list(n: usize, list: &[u16], sets: &mut [u16]) -> Written
-    ensures { λ r. ⌜ outcome r (now (sets .exit)) ≡ delivered (listRefusal n (now (list .entry))) (minimalSets n (listed (now (list .entry)))) (now (sets .entry)) ⌝ }
-{
-    let verdict = structure::list_verdict(n, list);
-    match verdict {
-        Verdict::Refused(refusal) => Written::Refused(refusal),
-        Verdict::Accepted => minimal_of_sets(n, list, sets),
-    }
-}
-
-// The minimal sets of some sets, ascending, into a local array. These may be one more than a list or a record has.
-fn minimal_of_sets(n: usize, sets: &[u16], minimal: &mut [u16]) -> Written
-    requires { ⌜ SomeSets n (now sets) ⌝ }
-    ensures { λ r. ⌜ outcome r (now (minimal .exit)) ≡ delivered Verdict.Accepted (minimalSets n (listed (now (sets .entry)))) (now (minimal .entry)) ⌝ }
-{
-    let marks = words::marked(sets);
-    let reached = words::carried(&marks, n);
-    let least = words::trimmed(&reached, n);
-    words::list(&least, minimal)
 }
 
 // Writes the record of this part list and these minimal sets into a lent buffer, or says how many bytes it needs.

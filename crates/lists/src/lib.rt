@@ -18,8 +18,8 @@ ghost use Rattle.lists.specs.Steps.{leastOf};
 pub fn minimal_of_list(n: usize, list: &[u16], sets: &mut [u16]) -> Written
     ensures { λ r. ⌜ outcome r (now (sets .exit)) ≡ delivered (listRefusal n (now (list .entry))) (minimalSets n (listed (now (list .entry)))) (now (sets .entry)) ⌝ }
 {
-    let verdict = structure::list_verdict(n, list);
-    match verdict {
+    let checked = structure::list_verdict(n, list);
+    match checked {
         Verdict::Refused(refusal) => Written::Refused(refusal),
         Verdict::Accepted => {
             let marks = words::marked(list);

@@ -22,7 +22,7 @@ use Rattle.record.specs.RecordBytes.{recordBytes}
 use Rattle.record.proofs.MinimalSets.{design-list}
 use Rattle.changes.specs.Changes.{firstDesign}
 use Rattle.changes.specs.Records.{firstRecord}
-use Rattle.changing.proofs.ListSets.{sixteen, first-numbers}
+use Rattle.changing.proofs.FirstNumbers.{sixteen, first-numbers}
 use Rattle.changes.proofs.Rules.{first-rules}
 use borrow.Author.Needs.{needs}
 use Rattle.changing.proofs.first_record.Statement.{statement}

@@ -99,10 +99,8 @@ slice-aggregate-sets-without-2 c = search needs
 
 sets-without-requires : tie.Need-sets-without-requires
 sets-without-requires c κs =
-    let told = c .before .before .before .before in
-    let r = read (told .before .before .before .before) in
-    let left = out-left (r .d) (r .rules) _ _ (number-given told) in
-    (omega (arith, left .1), omega (arith, ap length (sets-front r), sets-counted r, sets-few r, length-replicate {A = ℕ} 12870 0))
+    let r = read (c .before .before .before .before .before .before .before .before) in
+    omega (arith, ap length (sets-front r), sets-counted r, sets-few r, length-replicate {A = ℕ} 12870 0)
 
 unwritten-requires : tie.Need-unwritten-requires
 unwritten-requires c κs = search needs

@@ -19,8 +19,8 @@ use Rattle.lists.proofs.minimal_of_list.Tie as tie
 list-verdict-requires : tie.Need-list-verdict-requires
 list-verdict-requires c κs = search needs
 
-enum-known-verdict : tie.Need-enum-known-verdict
-enum-known-verdict c = search needs
+enum-known-checked : tie.Need-enum-known-checked
+enum-known-checked c = search needs
 
 enum-told : tie.Need-enum-told
 enum-told c = search needs
@@ -42,7 +42,7 @@ returns : tie.Need-returns
 returns c =
     let w = c .before .before .before in
     let a = w .before .before .before .args in
-    refused-kept (listRefusal (a .n) (now (a .list))) (minimalSets (a .n) (listed (now (a .list)))) (now (a .sets)) _ (sym (w .list-verdict .ensures) ∙ c .before .verdict .given .1)
+    refused-kept (listRefusal (a .n) (now (a .list))) (minimalSets (a .n) (listed (now (a .list)))) (now (a .sets)) _ (sym (w .list-verdict .ensures) ∙ c .before .checked .given .1)
 
 same-length : tie.Need-same-length
 same-length c = search needs
@@ -62,7 +62,7 @@ minimal-of-list-spec =
     tie.close
     (tie.spec
     list-verdict-requires
-    enum-known-verdict
+    enum-known-checked
     enum-told
     marked-requires
     slice-aggregate-minimal-of-marks

@@ -3,6 +3,7 @@
 //! tested; that both give the same results is asserted in every round.
 
 mod baseline {
+    mod counts;
     pub mod figures;
     mod table;
 }
@@ -12,7 +13,7 @@ use nahokipe_host::making::six_of_sixteen;
 use nahokipe_host::naive_figures::Buffers;
 use nahokipe_host::Refusal;
 use std::hint::black_box;
-use timing::{print_head, print_row, timed};
+use timing::{print_head, print_row, side_by_side, timed};
 
 const PARTS: usize = 16;
 const ROUNDS: usize = 5_000;
@@ -26,20 +27,12 @@ const BASELINE: Program = baseline::figures::figures;
 
 fn main() {
     let table = six_of_sixteen();
-    let (mut calculator, mut baseline) = (Vec::new(), Vec::new());
-    for number in 0..ROUNDS {
-        // Who goes first changes from round to round.
-        let ((ours, our_time), (theirs, their_time)) = if number % 2 == 0 {
-            let ours = round(CALCULATOR, &table);
-            (ours, round(BASELINE, &table))
-        } else {
-            let theirs = round(BASELINE, &table);
-            (round(CALCULATOR, &table), theirs)
-        };
-        assert!(ours == theirs && is_known(&ours), "results differ");
-        calculator.push(our_time);
-        baseline.push(their_time);
-    }
+    let (calculator, baseline) = side_by_side(
+        ROUNDS,
+        || round(CALCULATOR, &table),
+        || round(BASELINE, &table),
+        |ours, theirs| assert!(ours == theirs && is_known(ours), "results differ"),
+    );
     print_head(
         "all figures of 6 of 16 parts, with the check of the table",
         ROUNDS,

@@ -16,7 +16,7 @@ use nahokipe_host::records::Record;
 use nahokipe_host::seeded::Seeded;
 use nahokipe_host::{next_set, Refusal};
 use std::hint::black_box;
-use timing::{print_head, print_row, timed};
+use timing::{print_head, print_row, side_by_side, timed};
 
 const ROUNDS: usize = 2_000;
 const STEPS: [&str; 3] = ["record check", "its table", "walk"];
@@ -65,20 +65,12 @@ type Times = [u128; 3];
 fn main() {
     agree();
     let bytes = largest_record();
-    let (mut calculator, mut baseline) = (Vec::new(), Vec::new());
-    for number in 0..ROUNDS {
-        // Who goes first changes from round to round.
-        let ((ours, our_times), (theirs, their_times)) = if number % 2 == 0 {
-            let ours = round(&CALCULATOR, &bytes);
-            (ours, round(&BASELINE, &bytes))
-        } else {
-            let theirs = round(&BASELINE, &bytes);
-            (round(&CALCULATOR, &bytes), theirs)
-        };
-        assert!(ours == theirs && ours.made == Ok(8192), "results differ");
-        calculator.push(our_times);
-        baseline.push(their_times);
-    }
+    let (calculator, baseline) = side_by_side(
+        ROUNDS,
+        || round(&CALCULATOR, &bytes),
+        || round(&BASELINE, &bytes),
+        |ours, theirs| assert!(ours == theirs && ours.made == Ok(8192), "results differ"),
+    );
     print(bytes.len(), &calculator, &baseline);
 }
 

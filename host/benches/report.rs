@@ -5,6 +5,7 @@
 
 mod baseline {
     mod closing;
+    mod counts;
     // The checks of tables are for other benchmarks.
     #[allow(dead_code)]
     mod figures;
@@ -23,7 +24,7 @@ use std::hint::black_box;
 use std::io::{Read, Write};
 use std::path::{Path, PathBuf};
 use std::process::{Command, Stdio};
-use timing::{print_head, print_row, timed};
+use timing::{print_head, print_row, side_by_side, timed};
 
 const ROUNDS: usize = 3_000;
 const PROGRAM_ROUNDS: usize = 500;
@@ -44,8 +45,12 @@ fn main() {
     }
     agree();
     let bytes = largest_record();
-    let call = |call: Call| move |bytes: &[u8]| round(call, bytes);
-    let (ours, theirs) = in_turns(ROUNDS, &bytes, call(CALCULATOR), call(BASELINE));
+    let (ours, theirs) = side_by_side(
+        ROUNDS,
+        || round(CALCULATOR, &bytes),
+        || round(BASELINE, &bytes),
+        same_text,
+    );
     print_head("the report on all sets of 8 of 16 parts", ROUNDS);
     print_row("report", ours, theirs);
     match std::env::var_os("NAHOKIPE_REPORT") {
@@ -57,27 +62,8 @@ fn main() {
 /// What one round gives, and its nanoseconds.
 type Round = (Vec<u8>, u128);
 
-/// The nanoseconds of both in all rounds; who goes first changes from round to round.
-fn in_turns(
-    rounds: usize,
-    bytes: &[u8],
-    ours: impl Fn(&[u8]) -> Round,
-    theirs: impl Fn(&[u8]) -> Round,
-) -> (Vec<u128>, Vec<u128>) {
-    let (mut our_times, mut their_times) = (Vec::new(), Vec::new());
-    for number in 0..rounds {
-        let ((our_text, our_time), (their_text, their_time)) = if number % 2 == 0 {
-            let ours = ours(bytes);
-            (ours, theirs(bytes))
-        } else {
-            let theirs = theirs(bytes);
-            (ours(bytes), theirs)
-        };
-        assert!(our_text == their_text, "results differ");
-        our_times.push(our_time);
-        their_times.push(their_time);
-    }
-    (our_times, their_times)
+fn same_text(ours: &Vec<u8>, theirs: &Vec<u8>) {
+    assert!(ours == theirs, "results differ");
 }
 
 /// The call once, into buffers that are filled with a pattern: the table with the text behind it, or a refusal's line.
@@ -110,9 +96,12 @@ fn agree() {
 
 fn time_programs(bytes: &[u8], program: &Path) {
     let this: PathBuf = std::env::current_exe().expect("this program");
-    let ours = |bytes: &[u8]| program_round(&mut Command::new(program), bytes);
-    let theirs = |bytes: &[u8]| program_round(Command::new(&this).arg(AS_PROGRAM), bytes);
-    let (ours, theirs) = in_turns(PROGRAM_ROUNDS, bytes, ours, theirs);
+    let (ours, theirs) = side_by_side(
+        PROGRAM_ROUNDS,
+        || program_round(&mut Command::new(program), bytes),
+        || program_round(Command::new(&this).arg(AS_PROGRAM), bytes),
+        same_text,
+    );
     println!("as whole programs, from their start to their end, median of {PROGRAM_ROUNDS} rounds");
     print_row("program", ours, theirs);
 }

@@ -3,6 +3,7 @@
 //! the same results, by either route, is asserted in every round.
 
 mod baseline {
+    mod counts;
     pub mod shares;
     mod table;
 }
@@ -11,7 +12,7 @@ mod timing;
 use nahokipe_host::making::six_of_sixteen;
 use nahokipe_host::Refusal;
 use std::hint::black_box;
-use timing::{print_head, print_row, timed};
+use timing::{print_head, print_row, side_by_side, timed};
 
 const PARTS: usize = 16;
 const GROUP: usize = 0x5A5A;
@@ -25,22 +26,16 @@ const BASELINE: Program = baseline::shares::shares_by_both_routes;
 
 fn main() {
     let table = six_of_sixteen();
-    let (mut calculator, mut baseline) = (Vec::new(), Vec::new());
-    for number in 0..ROUNDS {
-        // Who goes first changes from round to round.
-        let ((ours, our_time), (theirs, their_time)) = if number % 2 == 0 {
-            let ours = round(CALCULATOR, &table);
-            (ours, round(BASELINE, &table))
-        } else {
-            let theirs = round(BASELINE, &table);
-            (round(CALCULATOR, &table), theirs)
-        };
-        assert!(ours == theirs && ours[0] == ours[1], "results differ");
-        // Any of the 16 parts may be the one that stops the machine, and the group has half of them.
-        assert_eq!(ours[0].iter().sum::<i64>(), 20_922_789_888_000 / 2);
-        calculator.push(our_time);
-        baseline.push(their_time);
-    }
+    let (calculator, baseline) = side_by_side(
+        ROUNDS,
+        || round(CALCULATOR, &table),
+        || round(BASELINE, &table),
+        |ours, theirs| {
+            assert!(ours == theirs && ours[0] == ours[1], "results differ");
+            // Any of the 16 parts may be the one that stops the machine, and the group has half of them.
+            assert_eq!(ours[0].iter().sum::<i64>(), 20_922_789_888_000 / 2);
+        },
+    );
     print_head(
         "shares of 8 of 16 parts by both routes, with the check of the table",
         ROUNDS,

@@ -10,7 +10,7 @@ mod timing;
 
 use nahokipe_host::Refusal;
 use std::hint::black_box;
-use timing::{print_head, print_row, timed};
+use timing::{print_head, print_row, side_by_side, timed};
 
 const PARTS: usize = 16;
 const ROUNDS: usize = 2_000;
@@ -48,20 +48,12 @@ type Times = [u128; 3];
 
 fn main() {
     let list: Vec<u16> = (0..=u16::MAX).filter(|set| set.count_ones() == 8).collect();
-    let (mut calculator, mut baseline) = (Vec::new(), Vec::new());
-    for number in 0..ROUNDS {
-        // Who goes first changes from round to round.
-        let ((ours, our_times), (theirs, their_times)) = if number % 2 == 0 {
-            let ours = round(&CALCULATOR, &list);
-            (ours, round(&BASELINE, &list))
-        } else {
-            let theirs = round(&BASELINE, &list);
-            (round(&CALCULATOR, &list), theirs)
-        };
-        assert!(ours == theirs && ours.sets == list, "results differ");
-        calculator.push(our_times);
-        baseline.push(their_times);
-    }
+    let (calculator, baseline) = side_by_side(
+        ROUNDS,
+        || round(&CALCULATOR, &list),
+        || round(&BASELINE, &list),
+        |ours, theirs| assert!(ours == theirs && ours.sets == list, "results differ"),
+    );
     print(list.len(), &calculator, &baseline);
 }
 

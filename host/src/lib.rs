@@ -72,86 +72,32 @@ pub fn table_verdict(n: usize, table: &[u8]) -> Result<(), Refusal> {
 
 /// The minimal path sets of a table, ascending, into `sets`: how many were written.
 pub fn minimal_sets(n: usize, table: &[u8], sets: &mut [u16]) -> Result<usize, Refusal> {
-    let answer = unsafe {
-        nahokipe_minimal_sets(
-            n,
-            table.as_ptr(),
-            table.len(),
-            sets.as_mut_ptr(),
-            sets.len(),
-        )
-    };
-    answer.given()
+    of_table(nahokipe_minimal_sets, n, table, sets)
 }
 
 /// The path counts φ(0) to φ(n) of a table, into `cells`: how many were written.
 pub fn path_counts(n: usize, table: &[u8], cells: &mut [i64]) -> Result<usize, Refusal> {
-    let answer = unsafe {
-        nahokipe_path_counts(
-            n,
-            table.as_ptr(),
-            table.len(),
-            cells.as_mut_ptr(),
-            cells.len(),
-        )
-    };
-    answer.given()
+    of_table(nahokipe_path_counts, n, table, cells)
 }
 
 /// The tail T(0) to T(n) of a table, into `cells`: how many were written.
 pub fn tail(n: usize, table: &[u8], cells: &mut [i64]) -> Result<usize, Refusal> {
-    let answer = unsafe {
-        nahokipe_tail(
-            n,
-            table.as_ptr(),
-            table.len(),
-            cells.as_mut_ptr(),
-            cells.len(),
-        )
-    };
-    answer.given()
+    of_table(nahokipe_tail, n, table, cells)
 }
 
 /// The signature N(1) to N(n) of a table, into `cells`: how many were written.
 pub fn signature(n: usize, table: &[u8], cells: &mut [i64]) -> Result<usize, Refusal> {
-    let answer = unsafe {
-        nahokipe_signature(
-            n,
-            table.as_ptr(),
-            table.len(),
-            cells.as_mut_ptr(),
-            cells.len(),
-        )
-    };
-    answer.given()
+    of_table(nahokipe_signature, n, table, cells)
 }
 
 /// The domination d(0) to d(n) of a table, into `cells`: how many were written.
 pub fn domination(n: usize, table: &[u8], cells: &mut [i64]) -> Result<usize, Refusal> {
-    let answer = unsafe {
-        nahokipe_domination(
-            n,
-            table.as_ptr(),
-            table.len(),
-            cells.as_mut_ptr(),
-            cells.len(),
-        )
-    };
-    answer.given()
+    of_table(nahokipe_domination, n, table, cells)
 }
 
 /// The Barlow-Proschan counts of all parts of a table, by position, into `cells`: how many were written.
 pub fn importance(n: usize, table: &[u8], cells: &mut [u64]) -> Result<usize, Refusal> {
-    let answer = unsafe {
-        nahokipe_importance(
-            n,
-            table.as_ptr(),
-            table.len(),
-            cells.as_mut_ptr(),
-            cells.len(),
-        )
-    };
-    answer.given()
+    of_table(nahokipe_importance, n, table, cells)
 }
 
 /// The path counts, the signature, the domination and the importances of a table at once, with one check of the table. Room is asked
@@ -189,17 +135,7 @@ pub fn shares_by_sets(
     group: usize,
     cells: &mut [i64],
 ) -> Result<usize, Refusal> {
-    let answer = unsafe {
-        nahokipe_shares_by_sets(
-            n,
-            table.as_ptr(),
-            table.len(),
-            group,
-            cells.as_mut_ptr(),
-            cells.len(),
-        )
-    };
-    answer.given()
+    of_group(nahokipe_shares_by_sets, n, table, group, cells)
 }
 
 /// The shares of a group through h(x,z), into `cells`: how many were written.
@@ -209,17 +145,7 @@ pub fn shares_by_reliability(
     group: usize,
     cells: &mut [i64],
 ) -> Result<usize, Refusal> {
-    let answer = unsafe {
-        nahokipe_shares_by_reliability(
-            n,
-            table.as_ptr(),
-            table.len(),
-            group,
-            cells.as_mut_ptr(),
-            cells.len(),
-        )
-    };
-    answer.given()
+    of_group(nahokipe_shares_by_reliability, n, table, group, cells)
 }
 
 /// The coefficients of h(x,z) of a group, that of x^i z^j in cell i (n-m+1) + j, into `cells`: how many were written.
@@ -229,17 +155,7 @@ pub fn reliability(
     group: usize,
     cells: &mut [i64],
 ) -> Result<usize, Refusal> {
-    let answer = unsafe {
-        nahokipe_reliability(
-            n,
-            table.as_ptr(),
-            table.len(),
-            group,
-            cells.as_mut_ptr(),
-            cells.len(),
-        )
-    };
-    answer.given()
+    of_group(nahokipe_reliability, n, table, group, cells)
 }
 
 /// The shares of a group set by set into `first` and through h(x,z) into `second`: how many were written into either.
@@ -263,6 +179,33 @@ pub fn shares_by_both_routes(
         )
     };
     answer.given()
+}
+
+/// A call that works on a table and writes into a buffer.
+type OfTable<T> = unsafe extern "C" fn(usize, *const u8, usize, *mut T, usize) -> Answer;
+
+fn of_table<T>(
+    call: OfTable<T>,
+    n: usize,
+    table: &[u8],
+    cells: &mut [T],
+) -> Result<usize, Refusal> {
+    let (room, length) = (cells.as_mut_ptr(), cells.len());
+    unsafe { call(n, table.as_ptr(), table.len(), room, length) }.given()
+}
+
+/// A call that works on a table and a group and writes into a buffer.
+type OfGroup = unsafe extern "C" fn(usize, *const u8, usize, usize, *mut i64, usize) -> Answer;
+
+fn of_group(
+    call: OfGroup,
+    n: usize,
+    table: &[u8],
+    group: usize,
+    cells: &mut [i64],
+) -> Result<usize, Refusal> {
+    let (room, length) = (cells.as_mut_ptr(), cells.len());
+    unsafe { call(n, table.as_ptr(), table.len(), group, room, length) }.given()
 }
 
 /// The answer as it comes through C: number 0 with the length written, or a refusal's number with its place.

@@ -9,8 +9,8 @@ use native.Mathlib.Omega.{arith}
 use lib.ListN.{length, getD}
 use Rattle.answer.specs.declared.Verdict.the-variants.{Accepted}
 use Rattle.parts.specs.declared.Changed.{Changed}
-use Rattle.parts.specs.PartLists.{numbersOf, Rising}
-use Rattle.parts.specs.Changes.{without}
+use Rattle.numbering.specs.Numbering.{RisingWithin, without}
+use Rattle.parts.specs.PartLists.{numbersOf}
 use Rattle.parts.specs.Lines.{In}
 use Rattle.parts.proofs.OneChange.{added-given, added-above, taken-out-given}
 use Rattle.parts.proofs.WellFormed.{numbers-of-list, well-formed-counted}
@@ -65,7 +65,7 @@ added-idle d r accepted set m i =
 
 -- ---- take out
 
-module _ (low high : ℕ) (numbers : List ℕ) (rising : Rising low high numbers) (index : ℕ) (inside : index < length numbers) where
+module _ (low high : ℕ) (numbers : List ℕ) (rising : RisingWithin low high numbers) (index : ℕ) (inside : index < length numbers) where
   names-is-has : (set : ℕ) → names (getD numbers index 0) (named numbers set) ≡ has set index
   names-is-has set =
       same-test (names (getD numbers index 0) (named numbers set)) (has set index)
@@ -126,7 +126,7 @@ module _ (set : ℕ) (d : Design) (r : DesignRules d) (accepted : changeRefusal 
       exactly : (a : ℕ) → List·Memᴰ a (minimalSets (d .parts .count) (listed sets)) ↔ Least sets a
       exactly = minimal-exactly (d .parts .count) sets (λ b m. with-set-within set d r accepted b m .0)
 
-      rising : Rising 0 (d .parts .mark) numbers
+      rising : RisingWithin 0 (d .parts .mark) numbers
       rising = r .parts .rules .rising
 
       there : List·Memᴰ names (map (named numbers) (minimalSets (d .parts .count) (listed sets))) → LeastNamed (map (named numbers) sets) names

@@ -13,8 +13,7 @@ use lib.Dec.{eqb}
 use lib.ListN.{length, getD}
 use lib.Seq.{take-nil}
 use Rattle.algebra.specs.Sums.{some}
-use Rattle.parts.specs.PartLists.{Rising}
-use Rattle.parts.specs.Changes.{without}
+use Rattle.numbering.specs.Numbering.{RisingWithin, without}
 use Rattle.parts.specs.Lines.{In}
 use Rattle.parts.proofs.LeftOut.{in-at}
 use Rattle.parts.proofs.Numbers.{rising-in}
@@ -87,14 +86,14 @@ named-at (p ∷ ps) set (suc i) h k = cases (has set 0) (named-at ps (set / 2) i
     cases false rest = rest
 
 -- Rising numbers stand at one position each, so the number at a position is named exactly if the bit is set.
-rising-once : (low high : ℕ) (numbers : List ℕ) → Rising low high numbers → (i j : ℕ) → i < length numbers → j < length numbers → getD numbers i 0 ≡ getD numbers j 0 → i ≡ j
+rising-once : (low high : ℕ) (numbers : List ℕ) → RisingWithin low high numbers → (i j : ℕ) → i < length numbers → j < length numbers → getD numbers i 0 ≡ getD numbers j 0 → i ≡ j
 rising-once low high [] r i j hi hj e = absurd (omega arith)
 rising-once low high (p ∷ ps) r zero zero hi hj e = refl
 rising-once low high (p ∷ ps) r zero (suc j) hi hj e = absurd (omega (arith, rising-in p high ps (r .2) (in-at j ps (le-of-suc-le-suc hj)) .0))
 rising-once low high (p ∷ ps) r (suc i) zero hi hj e = absurd (omega (arith, rising-in p high ps (r .2) (in-at i ps (le-of-suc-le-suc hi)) .0))
 rising-once low high (p ∷ ps) r (suc i) (suc j) hi hj e = ap suc (rising-once p high ps (r .2) i j (le-of-suc-le-suc hi) (le-of-suc-le-suc hj) e)
 
-module _ (low high : ℕ) (numbers : List ℕ) (rising : Rising low high numbers) where
+module _ (low high : ℕ) (numbers : List ℕ) (rising : RisingWithin low high numbers) where
   pub named-has : (set index : ℕ) → index < length numbers → In (getD numbers index 0) (named numbers set) → has set index ≡ true
   named-has set index h i =
       let at = named-position numbers set i in

@@ -13,7 +13,7 @@ use Rattle.answer.specs.Outcome.{delivered}
 use Rattle.answer.specs.declared.Verdict.{Verdict}
 use Rattle.answer.specs.declared.Verdict.the-variants.{Accepted}
 use Rattle.answer.specs.declared.Written.the-variants.{Length}
-use Rattle.parts.specs.PartLists.{mostParts, topNumber}
+use Rattle.numbering.specs.Numbering.{mostParts, topNumber}
 use Rattle.sets.specs.Masks.{has}
 use Rattle.sets.proofs.Bools.{clash, false-of}
 use Rattle.heading.specs.Headings.{Read, found}

@@ -20,7 +20,8 @@ use Rattle.numbers.specs.Tables.{tabulate}
 use Rattle.numbers.proofs.Tables.{tabulate-length, tabulate-suc}
 use Rattle.parts.specs.declared.PartList.{PartList}
 use Rattle.parts.specs.declared.Changed.{Changed}
-use Rattle.parts.specs.PartLists.{mostParts, topNumber, numbersOf, Rising, WellFormed}
+use Rattle.numbering.specs.Numbering.{mostParts, topNumber, RisingWithin}
+use Rattle.parts.specs.PartLists.{numbersOf, WellFormed}
 use Rattle.parts.specs.Changes.{added, takenOut, addRefusal}
 use Rattle.parts.specs.Changes as parts
 use Rattle.parts.specs.Lines as lines
@@ -172,11 +173,11 @@ changed-rules (addSet set) d r accepted =
 -- ---- a first design
 
 -- 1 to n rise to n
-first-rising : (n : ℕ) → Rising 0 n (tabulate n (λ i. i + 1))
+first-rising : (n : ℕ) → RisingWithin 0 n (tabulate n (λ i. i + 1))
 unfolding tabulate
 first-rising zero = tt
 first-rising (suc n) =
-    subst (Rising 0 (suc n)) (sym (tabulate-suc n (λ i. i + 1)))
+    subst (RisingWithin 0 (suc n)) (sym (tabulate-suc n (λ i. i + 1)))
     (rising-append 0 n (suc n) (tabulate n (λ i. i + 1)) ((n + 1) ∷ []) (omega arith) (omega arith) (first-rising n) (omega arith, omega arith, tt))
 
 pub first-rules : (n : ℕ) (list : List ℕ) → listRefusal n list ≡ Accepted → DesignRules (firstDesign n list)

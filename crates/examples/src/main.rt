@@ -128,7 +128,7 @@ fn figures_of_list(name: &[u8], n: usize, masks: &[u16]) {
     say(name);
     say(b":\n");
     let mut bytes = [0u8; 32];
-    let wrote = structure::table_of_list(n, masks, &mut bytes);
+    let wrote = forms::table_of_list(n, masks, &mut bytes);
     match wrote {
         Written::Refused(refusal) => refused(refusal.number, refusal.place),
         Written::Length(length) => figures_of_front(n, &bytes, length),
@@ -392,7 +392,7 @@ fn list(name: &[u8], n: usize, masks: &[u16]) {
     say(name);
     say(b": ");
     let mut bytes = [0u8; 4];
-    let wrote = structure::table_of_list(n, masks, &mut bytes);
+    let wrote = forms::table_of_list(n, masks, &mut bytes);
     match wrote {
         Written::Refused(refusal) => refused(refusal.number, refusal.place),
         Written::Length(length) => {
@@ -408,7 +408,7 @@ fn list(name: &[u8], n: usize, masks: &[u16]) {
 fn minimal(n: usize, bytes: &[u8], length: usize) {
     let mut sets = [0u16; 8];
     if length <= bytes.len() {
-        let wrote = structure::minimal_sets(n, &bytes[..length], &mut sets);
+        let wrote = forms::minimal_sets(n, &bytes[..length], &mut sets);
         match wrote {
             Written::Refused(refusal) => refused(refusal.number, refusal.place),
             Written::Length(count) => show_sets(&sets, count),

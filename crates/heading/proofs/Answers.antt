@@ -12,7 +12,7 @@ use Rattle.heading.specs.declared.Parts.{Parts}
 use Rattle.heading.specs.declared.Heading.{Heading}
 use Rattle.heading.specs.Headings.{Read, found, refused, fieldAt, setCountRefusal, partsAt, Head, headAt, headingOf}
 use Rattle.heading.specs.Steps.{partsOf}
-use Rattle.parts.specs.PartLists.{mostParts}
+use Rattle.numbering.specs.Numbering.{mostParts}
 use Rattle.heading.proofs.Found.{then-found}
 use Rattle.heading.proofs.PartNumbers.{parts-few}
 

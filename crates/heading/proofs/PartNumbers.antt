@@ -17,8 +17,9 @@ use Rattle.answer.proofs.Outcomes.{refuse-accepted}
 use Rattle.codec.specs.ByteForm.{bytesOf}
 use Rattle.codec.proofs.WriteAfterRead.{Bytes}
 use Rattle.parts.specs.declared.PartList.{PartList}
-use Rattle.parts.specs.PartLists.{mostParts, topNumber, listOf, numbersOf, Rising, Rules, WellFormed}
-use Rattle.parts.proofs.Rules.{right-number, number-right}
+use Rattle.numbering.specs.Numbering.{mostParts, topNumber, RisingWithin, Rules}
+use Rattle.parts.specs.PartLists.{listOf, numbersOf, WellFormed}
+use Rattle.numbering.proofs.Rules.{right-number, number-right}
 use Rattle.parts.proofs.WellFormed.{numbers-of-list, list-well-formed, well-formed-counted, well-formed-list}
 use Rattle.heading.specs.Headings.{Read, found, refused, then, fieldAt, partCountRefusal, markRefusal, lastOf, partNumberRefusal, numbersAt, partsAt}
 use Rattle.heading.specs.HeadingBytes.{formsOf, partsBytes}
@@ -35,7 +36,7 @@ pub record NumbersRead (bytes : List ℕ) (mark more : ℕ) (earlier : List ℕ)
   pub rest : List ℕ
   pub behind-earlier : numbers ≡ earlier ++ rest
   pub counted : length rest ≡ more
-  pub rising : Rising (lastOf 0 earlier) mark rest
+  pub rising : RisingWithin (lastOf 0 earlier) mark rest
   pub stands : Stands bytes start end (formsOf rest)
 
 pub numbers-found : (bytes : List ℕ) (mark more : ℕ) (earlier : List ℕ) (start : ℕ) (numbers : List ℕ) (end : ℕ) → Bytes bytes → start ≤ length bytes
@@ -62,12 +63,12 @@ numbers-found bytes mark (suc more) earlier start numbers end small inside e =
       rest = v ∷ later .rest;
       behind-earlier = later .behind-earlier ∙ append-assoc earlier (v ∷ []) (later .rest);
       counted = ap suc (later .counted);
-      rising = (right .0, right .1, subst (λ (low : ℕ). Rising low mark (later .rest)) (last-more 0 earlier v) (later .rising));
+      rising = (right .0, right .1, subst (λ (low : ℕ). RisingWithin low mark (later .rest)) (last-more 0 earlier v) (later .rising));
       stands = stands-both (f .stands) (later .stands);
     }
 
 pub numbers-read : (bytes : List ℕ) (mark : ℕ) (numbers earlier : List ℕ) (start : ℕ) (rest : List ℕ) → mark ≤ topNumber
-    → Rising (lastOf 0 earlier) mark numbers → drop start bytes ≡ formsOf numbers ++ rest
+    → RisingWithin (lastOf 0 earlier) mark numbers → drop start bytes ≡ formsOf numbers ++ rest
     → numbersAt bytes mark (length numbers) earlier start ≡ found (earlier ++ numbers) (start + length (formsOf numbers))
 unfolding numbersAt formsOf
 numbers-read bytes mark [] earlier start rest top r e = rw (append-nil, add-zero)
@@ -80,7 +81,7 @@ numbers-read bytes mark (v ∷ numbers) earlier start rest top r e =
     (simp (number-right (lastOf 0 earlier) mark v (r .0) (r .1) top)) in
     ap (λ (f : Read ℕ). then f (λ number after. numbersAt bytes mark (length numbers) (earlier ++ (number ∷ [])) after)) first
     ∙ numbers-read bytes mark numbers (earlier ++ (v ∷ [])) next rest top
-    (subst (λ (low : ℕ). Rising low mark numbers) (sym (last-more 0 earlier v)) (r .2)) (behind bytes start (bytesOf v) (formsOf numbers ++ rest) forms)
+    (subst (λ (low : ℕ). RisingWithin low mark numbers) (sym (last-more 0 earlier v)) (r .2)) (behind bytes start (bytesOf v) (formsOf numbers ++ rest) forms)
     ∙ rw (append-assoc, ends)
 
 -- ---- the part list

@@ -7,8 +7,8 @@ use native.Mathlib.Nat.{sub-zero}
 use native.Mathlib.Omega.{arith}
 use lib.ListN.{length, set, replicate, length-append}
 use Rattle.answer.specs.declared.Refusal.{Refusal}
-use Rattle.parts.specs.PartLists.{mostParts, cellsOf}
-use Rattle.parts.proofs.InCells.{cells-more}
+use Rattle.numbering.specs.Numbering.{mostParts, cellsOf}
+use Rattle.answer.proofs.FixedCells.{cells-more}
 use Rattle.heading.specs.Headings.{Read, found, refused, then, fieldAt, lastOf, partNumberRefusal, numbersAt}
 use Rattle.heading.proofs.PartNumbers.{last-more}
 
@@ -45,7 +45,7 @@ module _ {bytes : List ℕ} {mark count start : ℕ} {cells : List ℕ} {previou
     earlier = walk .earlier ++ (value ∷ []);
     within = omega arith;
     counted = length-append (walk .earlier) (value ∷ []) ∙ ap (λ (k : ℕ). k + 1) (walk .counted);
-    stands = ap (λ (l : List ℕ). set l index value) (walk .stands) ∙ cells-more (walk .earlier) index value (walk .counted) (omega arith);
+    stands = ap (λ (l : List ℕ). set l index value) (walk .stands) ∙ cells-more mostParts 0 (walk .earlier) index value (walk .counted) (omega arith);
     last = sym (last-more 0 (walk .earlier) value);
     rest = sym (step h ∙ ap (λ (r : Read ℕ). then r (λ number after. numbersAt bytes mark (count - (index + 1)) (walk .earlier ++ (number ∷ [])) after)) (sym e));
   }

@@ -14,7 +14,8 @@ use Rattle.codec.specs.declared.Reading.the-variants as reading
 use Rattle.codec.specs.Reading.{numberAt}
 use Rattle.orders.specs.Antichains.{mostSets}
 use Rattle.parts.specs.declared.PartList.{PartList}
-use Rattle.parts.specs.PartLists.{mostParts, listOf, misnumbered}
+use Rattle.numbering.specs.Numbering.{mostParts, misnumbered}
+use Rattle.parts.specs.PartLists.{listOf}
 use Rattle.heading.specs.declared.Heading.{Heading}
 
 -- ---- reading from a position

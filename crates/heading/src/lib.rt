@@ -9,7 +9,8 @@ ghost use mathlib.Core.Path.{_≡_};
 ghost use mathlib.Core.List.{[]};
 ghost use Prim.Native.Nat.{_≤_};
 ghost use Rattle.answer.specs.Outcome.{at};
-ghost use Rattle.parts.specs.PartLists.{mostParts, listOf};
+ghost use Rattle.numbering.specs.Numbering.{mostParts};
+ghost use Rattle.parts.specs.PartLists.{listOf};
 ghost use Rattle.heading.specs.Headings.{found, then, fieldAt, partCountRefusal, partNumberRefusal, setCountRefusal, numbersAt, partsAt, headAt, headingOf};
 ghost use Rattle.heading.specs.Steps.{asRead, partsOf};
 
@@ -133,7 +134,7 @@ fn read_part_number(bytes: &[u8], start: usize, previous: u64, mark: u64) -> Rea
     match number {
         Reading::Refused(refusal) => Reading::Refused(refusal),
         Reading::Number { value, next } => {
-            if PartList::misnumbered(previous, mark, value) {
+            if numbering::misnumbered(previous, mark, value) {
                 return codec::refused(answer::WRONG_PART_NUMBER, start);
             }
             Reading::Number { value, next }

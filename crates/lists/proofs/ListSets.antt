@@ -26,7 +26,8 @@ use Rattle.structure.specs.Checks.{listRefusal}
 use Rattle.structure.proofs.Acceptance.{accepted-list, accepted-table, table-beyond, tableOf-accepted, list-works}
 use Rattle.structure.proofs.Spread.{spread-listed, spread-beyond}
 use Rattle.structure.proofs.Walks.{trimmed-same, spread-same, minimal-walk}
-use Rattle.words.specs.Words.{inWords, wordsOf, among, spread, trimmed}
+use Rattle.closure.specs.Closure.{spread, trimmed}
+use Rattle.words.specs.Words.{inWords, wordsOf, among}
 use Rattle.words.proofs.Words.{inWords-wordsOf}
 use Rattle.lists.specs.Lists.{withSetRefusal}
 use Rattle.lists.specs.Steps.{SomeSets, leastOf}

@@ -3,7 +3,8 @@ use mathlib.Core.List.{List, List·Memᴰ}
 use Prim.Native.Nat.{ℕ, _^_, _≤_, _<_, min}
 use lib.ListN.{length}
 use Rattle.sets.specs.Masks.{those}
-use Rattle.words.specs.Words.{inWords, wordsOf, spread, trimmed}
+use Rattle.closure.specs.Closure.{spread, trimmed}
+use Rattle.words.specs.Words.{inWords, wordsOf}
 
 -- some sets of n parts, none of them empty
 pub record SomeSets (n : ℕ) (sets : List ℕ) : Type 0 where

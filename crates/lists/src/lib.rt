@@ -98,8 +98,8 @@ fn marked_with(list: &[u16], set: u16) -> [u64; 1024]
 fn minimal_of_marks(n: usize, marks: &[u64], sets: &mut [u16]) -> Written
     ensures { λ r. ⌜ outcome r (now (sets .exit)) ≡ delivered Verdict.Accepted (leastOf n (now (marks .entry))) (now (sets .entry)) ⌝ }
 {
-    let reached = words::carried(marks, n);
-    let least = words::trimmed(&reached, n);
+    let reached = closure::carried(marks, n);
+    let least = closure::trimmed(&reached, n);
     words::list(&least, sets)
 }
 

@@ -88,7 +88,7 @@ pub extern "C" fn nahokipe_table_verdict(n: usize, table: &[u8]) -> Answer
 pub extern "C" fn nahokipe_table_of_list(n: usize, list: &[u16], table: &mut [u8]) -> Answer
     ensures { λ r. ⌜ Leaves (delivered (listRefusal n (now (list .entry))) (tableOf n (listed (now (list .entry)))) (now (table .entry))) r (now (table .exit)) ⌝ }
 {
-    of_written(structure::table_of_list(n, list, table))
+    of_written(forms::table_of_list(n, list, table))
 }
 
 // The minimal path sets of a table.
@@ -96,7 +96,7 @@ pub extern "C" fn nahokipe_table_of_list(n: usize, list: &[u16], table: &mut [u8
 pub extern "C" fn nahokipe_minimal_sets(n: usize, table: &[u8], sets: &mut [u16]) -> Answer
     ensures { λ r. ⌜ Leaves (delivered (tableRefusal n (now (table .entry))) (minimalSets n (inTable (now (table .entry)))) (now (sets .entry))) r (now (sets .exit)) ⌝ }
 {
-    of_written(structure::minimal_sets(n, table, sets))
+    of_written(forms::minimal_sets(n, table, sets))
 }
 
 // The path counts φ(0) to φ(n) of a table.

@@ -11,11 +11,12 @@ use Rattle.answer.specs.declared.Verdict.the-variants.{Accepted, Refused}
 use Rattle.parts.specs.declared.PartList.{PartList}
 use Rattle.parts.specs.declared.Changed.{Changed}
 use Rattle.parts.specs.declared.Numbered.the-variants as numbered
-use Rattle.parts.specs.PartLists.{mostParts, numbersOf, Rules}
+use Rattle.numbering.specs.Numbering.{mostParts, Rules}
+use Rattle.parts.specs.PartLists.{numbersOf}
 use Rattle.parts.specs.Changes.{changed, unless, brokenRefusal, change}
 use Rattle.parts.proofs.PartList.{the-row}
 use Rattle.parts.proofs.InCells.{cells-all, numbers-counted}
-use Rattle.parts.proofs.Rules.{accepted-rules}
+use Rattle.numbering.proofs.Rules.{accepted-rules}
 
 module _ (list : PartList) (refusal : Verdict) (result : Changed) where
   -- a broken list is refused as it would be on being read

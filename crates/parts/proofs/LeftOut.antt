@@ -1,13 +1,13 @@
--- Laws of some numbers with the one at an index left out: how many they are, which they are, and what one more behind them does.
+-- Laws of some numbers with the one at an index left out: how many they are, and which they are.
 -- Assumes nothing.
 use mathlib.Core.Path.{_≡_, refl, ap}
-use mathlib.Core.List.{List, [], _∷_, _++_, List·Memᴰ·head, List·Memᴰ·tail, List·Memᴰ·cases-cons, List·Memᴰ·not-nil}
+use mathlib.Core.List.{List, [], _∷_, List·Memᴰ·head, List·Memᴰ·tail, List·Memᴰ·cases-cons, List·Memᴰ·not-nil}
 use mathlib.Core.Logic.{_⊎_, inl, inr, ⊎-elim}
 use Prim.Native.Nat.{ℕ, zero, suc, _≤_, _<_}
 use native.Mathlib.Omega.{arith}
 use lib.ListN.{length, getD}
 use lib.Seq.{take-nil}
-use Rattle.parts.specs.Changes.{without}
+use Rattle.numbering.specs.Numbering.{without}
 use Rattle.parts.specs.Lines.{In}
 
 -- leaving an index out that is behind all numbers leaves them as they are
@@ -21,26 +21,6 @@ pub length-without : (index : ℕ) (numbers : List ℕ) → index < length numbe
 length-without index [] h = absurd (omega arith)
 length-without zero (n ∷ ns) h = refl
 length-without (suc i) (n ∷ ns) h = ap suc (length-without i ns (omega arith))
-
--- no number more, whatever the index
-pub length-without-le : (index : ℕ) (numbers : List ℕ) → length (without index numbers) ≤ length numbers
-length-without-le index [] = simp take-nil (omega arith)
-length-without-le zero (n ∷ ns) = omega arith
-length-without-le (suc i) (n ∷ ns) = omega (arith, length-without-le i ns)
-
--- the number at the index itself is left out
-pub without-here : (index : ℕ) (numbers : List ℕ) (number : ℕ) → index ≡ length numbers → without index (numbers ++ (number ∷ [])) ≡ without index numbers
-without-here zero [] number e = refl
-without-here (suc i) [] number e = absurd (omega arith)
-without-here zero (n ∷ ns) number e = absurd (omega arith)
-without-here (suc i) (n ∷ ns) number e = ap (λ (l : List ℕ). n ∷ l) (without-here i ns number (omega arith))
-
--- any other stays
-pub without-other : (index : ℕ) (numbers : List ℕ) (number : ℕ) → (index ≡ length numbers → ⊥) → without index (numbers ++ (number ∷ [])) ≡ without index numbers ++ (number ∷ [])
-without-other zero [] number h = absurd (h refl)
-without-other (suc i) [] number h = ap (λ (l : List ℕ). number ∷ (l ++ [])) (take-nil i)
-without-other zero (n ∷ ns) number h = refl
-without-other (suc i) (n ∷ ns) number h = ap (λ (l : List ℕ). n ∷ l) (without-other i ns number (λ e. h (ap suc e)))
 
 -- the number at an index is one of them
 pub in-at : (index : ℕ) (numbers : List ℕ) → index < length numbers → In (getD numbers index 0) numbers

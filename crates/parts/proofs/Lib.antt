@@ -1,9 +1,7 @@
 pub mod LeftOut
 pub mod InCells
-pub mod Refusals
 pub mod Numbers
 pub mod Marks
-pub mod Rules
 pub mod Changing
 pub mod WellFormed
 pub mod OneChange

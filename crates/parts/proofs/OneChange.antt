@@ -14,13 +14,15 @@ use Rattle.answer.specs.declared.Verdict.the-variants.{Accepted, Refused}
 use Rattle.parts.specs.declared.PartList.{PartList}
 use Rattle.parts.specs.declared.Changed.{Changed}
 use Rattle.parts.specs.declared.Numbered.the-variants as numbered
-use Rattle.parts.specs.PartLists.{mostParts, topNumber, numbersOf, listOf, Rules, WellFormed}
-use Rattle.parts.specs.Changes.{changed, unless, brokenRefusal, change, addRefusal, withPart, added, without, takeOutRefusal, withoutPart, takenOut}
+use Rattle.numbering.specs.Numbering.{mostParts, topNumber, Rules, without}
+use Rattle.parts.specs.PartLists.{numbersOf, listOf, WellFormed}
+use Rattle.parts.specs.Changes.{changed, unless, brokenRefusal, change, addRefusal, withPart, added, takeOutRefusal, withoutPart, takenOut}
 use Rattle.parts.specs.Lines.{PartChange, addPart, takeOut, apply, givenNumber, issuedIn, leftIn, In, Line}
 use Rattle.parts.proofs.LeftOut.{length-without, in-at, in-without, without-in}
 use Rattle.parts.proofs.InCells.{numbers-counted}
 use Rattle.parts.proofs.Numbers.{rising-in, rising-append, rising-without, without-gone}
-use Rattle.parts.proofs.Rules.{refuse-none, accepted-rules, rules-accepted}
+use Rattle.answer.proofs.Outcomes.{refuse-accepted}
+use Rattle.numbering.proofs.Rules.{accepted-rules, rules-accepted}
 use Rattle.parts.proofs.Changing.{change-broken}
 use Rattle.parts.proofs.WellFormed.{numbers-of-list, list-well-formed, well-formed-counted}
 
@@ -146,16 +148,16 @@ by-change P list refusal result made refused =
 -- a part is added where there is room and a number is left
 add-accepted : (list : PartList) → Rules (list .count) (list .mark) (numbersOf list) → addRefusal list ≡ Accepted → (list .count < mostParts) × (list .mark < topNumber)
 add-accepted list rules accepted =
-    let s = refuse-none _ _ _ _ accepted in
-    let t = refuse-none _ _ _ _ (s .1) in
+    let s = refuse-accepted _ _ _ _ accepted in
+    let t = refuse-accepted _ _ _ _ (s .1) in
     (omega (arith, eqb-false (list .count) mostParts (s .0)), omega (arith, eqb-false (list .mark) topNumber (t .0)))
 
 -- and taken out at a position of two or more
 pub take-out-accepted : (list : PartList) (position : ℕ) → Rules (list .count) (list .mark) (numbersOf list) → takeOutRefusal list position ≡ Accepted → (1 ≤ position) × (position ≤ list .count) × (2 ≤ list .count)
 take-out-accepted list position rules accepted =
-    let s = refuse-none _ _ _ _ accepted in
-    let t = refuse-none _ _ _ _ (s .1) in
-    let u = refuse-none _ _ _ _ (t .1) in
+    let s = refuse-accepted _ _ _ _ accepted in
+    let t = refuse-accepted _ _ _ _ (s .1) in
+    let u = refuse-accepted _ _ _ _ (t .1) in
     (omega (arith, eqb-false position 0 (s .0)), ltb-false _ _ (t .0), omega (arith, eqb-false (list .count) 1 (u .0)))
 
 -- each change of a well-formed list is a line

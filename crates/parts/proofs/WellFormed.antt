@@ -12,10 +12,11 @@ use lib.Seq.{take-append-seam, length-take-le}
 use Rattle.answer.specs.declared.Verdict.{Verdict}
 use Rattle.answer.specs.declared.Verdict.the-variants.{Accepted, Refused}
 use Rattle.parts.specs.declared.PartList.{PartList}
-use Rattle.parts.specs.PartLists.{mostParts, topNumber, cellsOf, numbersOf, listOf, Rules, WellFormed, listRefusal, highest, listed, made}
+use Rattle.numbering.specs.Numbering.{mostParts, topNumber, cellsOf, Rules, partListRefusal, highest}
+use Rattle.parts.specs.PartLists.{numbersOf, listOf, WellFormed, listed, made}
 use Rattle.parts.proofs.Numbers.{rising-wider}
 use Rattle.parts.proofs.Marks.{rising-highest, highest-below}
-use Rattle.parts.proofs.Rules.{accepted-rules, rules-accepted}
+use Rattle.numbering.proofs.Rules.{accepted-rules, rules-accepted}
 
 -- a list made of numbers has these numbers in use
 pub numbers-of-list : (mark : ℕ) (numbers : List ℕ) → numbersOf (listOf mark numbers) ≡ numbers
@@ -51,8 +52,8 @@ listed-verdict (Refused refusal) list = refl
 pub made-exactly : (mark : ℕ) (numbers : List ℕ) → (made mark numbers .verdict ≡ Accepted) ↔ Rules (length numbers) mark numbers
 unfolding made
 made-exactly mark numbers = (
-  λ e. accepted-rules (length numbers) mark numbers (sym (listed-verdict (listRefusal (length numbers) mark numbers) (listOf mark numbers)) ∙ e),
-  λ r. listed-verdict (listRefusal (length numbers) mark numbers) (listOf mark numbers) ∙ rules-accepted r,
+  λ e. accepted-rules (length numbers) mark numbers (sym (listed-verdict (partListRefusal (length numbers) mark numbers) (listOf mark numbers)) ∙ e),
+  λ r. listed-verdict (partListRefusal (length numbers) mark numbers) (listOf mark numbers) ∙ rules-accepted r,
 )
 
 -- they are then the mark and the numbers of the list that is made

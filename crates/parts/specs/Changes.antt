@@ -1,8 +1,8 @@
 -- Changes of a part list (01, "Records on disk"): add part, and take out the part at a position.
-use mathlib.Core.List.{List, [], _∷_, _++_}
-use Prim.Native.Nat.{ℕ, suc, _+_, _-_}
+use mathlib.Core.List.{[], _∷_, _++_}
+use Prim.Native.Nat.{ℕ, _+_, _-_}
 use lib.Dec.{ltb, eqb}
-use lib.ListN.{take, drop, getD}
+use lib.ListN.{getD}
 use Rattle.answer.specs.Refusals.{unknownPosition, inEverySet, fullMachine, numbersSpent}
 use Rattle.answer.specs.Outcome.{refuse}
 use Rattle.answer.specs.declared.Verdict.{Verdict}
@@ -11,7 +11,8 @@ use Rattle.parts.specs.declared.PartList.{PartList}
 use Rattle.parts.specs.declared.Changed.{Changed}
 use Rattle.parts.specs.declared.Numbered.{Numbered}
 use Rattle.parts.specs.declared.Numbered.the-variants as numbered
-use Rattle.parts.specs.PartLists.{mostParts, topNumber, numbersOf, listOf, listRefusal}
+use Rattle.numbering.specs.Numbering.{mostParts, topNumber, partListRefusal, without}
+use Rattle.parts.specs.PartLists.{numbersOf, listOf}
 
 -- what a change hands back: the list, and the part number that it issued or took out, or the refusal
 abbrev pub changed : PartList → Numbered → Changed
@@ -25,7 +26,7 @@ unless verdict.Accepted list change = change
 -- What refuses a list that breaks the rules, as one built by hand may: the number and the place that reading it would give. Spare cells are
 -- not looked at, and hold 0 after every change that is made.
 abbrev pub brokenRefusal : PartList → Verdict
-brokenRefusal list = listRefusal (list .count) (list .mark) (numbersOf list)
+brokenRefusal list = partListRefusal (list .count) (list .mark) (numbersOf list)
 
 -- A change: a list that breaks the rules is refused before anything else, then the change's own refusals follow.
 abbrev pub change : PartList → Verdict → Changed → Changed
@@ -50,10 +51,6 @@ abbrev pub takeOutRefusal : PartList → ℕ → Verdict
 takeOutRefusal list position =
     refuse (eqb position 0) unknownPosition 0
     (refuse (ltb (list .count) position) unknownPosition 0 (refuse (eqb (list .count) 1) inEverySet 0 verdict.Accepted))
-
--- numbers without the one at an index, in order
-abbrev pub without : ℕ → List ℕ → List ℕ
-without index numbers = take index numbers ++ drop (suc index) numbers
 
 -- the part at a position left out: higher positions move down by one, part numbers and mark stay
 abbrev pub withoutPart : PartList → ℕ → Changed

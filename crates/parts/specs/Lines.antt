@@ -6,7 +6,8 @@ use Rattle.parts.specs.declared.PartList.{PartList}
 use Rattle.parts.specs.declared.Changed.{Changed}
 use Rattle.parts.specs.declared.Numbered.{Numbered}
 use Rattle.parts.specs.declared.Numbered.the-variants.{Number, Refused}
-use Rattle.parts.specs.PartLists.{numbersOf, Rising, WellFormed}
+use Rattle.numbering.specs.Numbering.{RisingWithin}
+use Rattle.parts.specs.PartLists.{numbersOf, WellFormed}
 use Rattle.parts.specs.Changes.{added, takenOut}
 
 -- a change of a part list: one part more, or the part at a position taken out
@@ -58,7 +59,7 @@ pub record Line (first last : PartList) (issued left : List ℕ) : Type 0 where
   pub well-formed : WellFormed last
   pub mark : first .mark ≤ last .mark
   -- each number issued is above the first mark and above every number issued before it, and none is above the last mark
-  pub rising : Rising (first .mark) (last .mark) issued
+  pub rising : RisingWithin (first .mark) (last .mark) issued
   -- a number in use was in use at first, or was issued along the line
   pub origin : (number : ℕ) → In number (numbersOf last) → In number (numbersOf first) ⊎ In number issued
   -- a number that was in use at first, or was issued, is in use or has left

@@ -1,75 +1,27 @@
 -- The part list of a design record (01, "Records on disk"): the part numbers in use, by position, and the mark, which is the highest part
 -- number ever issued.
 use mathlib.Core.Path.{_≡_}
-use mathlib.Core.Bool.{Bool, true, cond}
-use mathlib.Core.List.{List, [], _∷_, _++_}
-use Prim.Native.Nat.{ℕ, suc, _-_, _^_, _≤_, _<_, max}
-use lib.Dec.{leb, ltb, eqb}
-use lib.ListN.{length, take, replicate}
-use Rattle.answer.specs.Refusals.{wrongPartCount, wrongPartNumber}
-use Rattle.answer.specs.Outcome.{refuse}
+use mathlib.Core.List.{List, []}
+use Prim.Native.Nat.{ℕ}
+use lib.ListN.{length, take}
 use Rattle.answer.specs.declared.Verdict.{Verdict}
 use Rattle.answer.specs.declared.Verdict.the-variants.{Accepted, Refused}
+use Rattle.numbering.specs.Numbering.{cellsOf, Rules, partListRefusal}
 use Rattle.parts.specs.declared.PartList.{PartList}
 use Rattle.parts.specs.declared.Listed.{Listed}
-
--- the most parts of a machine
-abbrev pub mostParts : ℕ
-mostParts = 16
-
--- the top part number: record numbers reach 2^32-1
-abbrev pub topNumber : ℕ
-topNumber = 2 ^ 32 - 1
 
 -- the part numbers in use, by position
 abbrev pub numbersOf : PartList → List ℕ
 numbersOf list = take (list .count) (list .numbers)
 
--- the cells of a list of these numbers: the spare ones behind the last number hold 0
-abbrev pub cellsOf : List ℕ → List ℕ
-cellsOf numbers = numbers ++ replicate (mostParts - length numbers) 0
-
 -- the list with this mark and these numbers
 abbrev pub listOf : ℕ → List ℕ → PartList
 listOf mark numbers = record { count = length numbers; mark = mark; numbers = cellsOf numbers }
-
--- strictly rising, each above `low` and none above `high`
-abbrev pub Rising : ℕ → ℕ → List ℕ → Type 0
-Rising low high [] = Unit
-Rising low high (number ∷ numbers) = (low < number) × (number ≤ high) × Rising number high numbers
-
--- What 01 asks of a part list: 1 to 16 part numbers, strictly rising, 1 or more, none above the mark, and the mark no higher than the top
--- number.
-pub record Rules (count mark : ℕ) (numbers : List ℕ) : Type 0 where
-  pub some : 1 ≤ count
-  pub few : count ≤ mostParts
-  pub rising : Rising 0 mark numbers
-  pub top : mark ≤ topNumber
 
 -- a part list that keeps the rules, with 0 in its spare cells
 pub record WellFormed (list : PartList) : Type 0 where
   pub rules : Rules (list .count) (list .mark) (numbersOf list)
   pub spare : list .numbers ≡ cellsOf (numbersOf list)
-
--- a part number that 23 refuses: not above the one before it (0 before the first), or above the mark or the top number
-abbrev pub misnumbered : ℕ → ℕ → ℕ → Bool
-misnumbered previous mark number = cond (leb number previous) true (cond (ltb mark number) true (ltb topNumber number))
-
--- 23 at the index of the first wrong number. Behind the last number the mark, itself a part number, is held against the top number.
-abbrev pub numbersRefusal : ℕ → ℕ → ℕ → List ℕ → Verdict
-numbersRefusal previous mark index [] = refuse (ltb topNumber mark) wrongPartNumber index Accepted
-numbersRefusal previous mark index (number ∷ numbers) =
-    refuse (misnumbered previous mark number) wrongPartNumber index (numbersRefusal number mark (suc index) numbers)
-
--- the first refusal of a part list: 1 for its count, and then 23
-unfoldable pub listRefusal : ℕ → ℕ → List ℕ → Verdict
-listRefusal count mark numbers =
-    refuse (eqb count 0) wrongPartCount 0 (refuse (ltb mostParts count) wrongPartCount 0 (numbersRefusal 0 mark 0 numbers))
-
--- the highest of some numbers
-abbrev pub highest : List ℕ → ℕ
-highest [] = 0
-highest (number ∷ numbers) = max number (highest numbers)
 
 -- What is made of numbers and a mark: the list that has them; or the refusal, with a list of no parts.
 abbrev pub listed : Verdict → PartList → Listed
@@ -77,4 +29,4 @@ listed (Refused refusal) list = record { list = listOf 0 []; verdict = Refused r
 listed Accepted list = record { list = list; verdict = Accepted }
 
 unfoldable pub made : ℕ → List ℕ → Listed
-made mark numbers = listed (listRefusal (length numbers) mark numbers) (listOf mark numbers)
+made mark numbers = listed (partListRefusal (length numbers) mark numbers) (listOf mark numbers)

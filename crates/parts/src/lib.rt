@@ -1,10 +1,10 @@
 // The part list of a design record, with its mark (01, "Records on disk"): made from numbers, a part added, a part taken out.
 ghost use mathlib.Core.Path.{_≡_};
 ghost use Prim.Native.Nat.{_+_, _≤_};
-ghost use lib.ListN.{length};
 ghost use Rattle.answer.specs.Outcome.{at};
-ghost use Rattle.parts.specs.PartLists.{mostParts, topNumber, cellsOf, misnumbered, listRefusal, highest, made};
-ghost use Rattle.parts.specs.Changes.{changed, brokenRefusal, added, without, takenOut};
+ghost use Rattle.numbering.specs.Numbering.{topNumber, highest};
+ghost use Rattle.parts.specs.PartLists.{made};
+ghost use Rattle.parts.specs.Changes.{changed, brokenRefusal, added, takenOut};
 use answer::Refusal;
 use answer::Verdict;
 
@@ -35,22 +35,22 @@ pub struct Changed {
 
 impl PartList {
     // The most parts of a machine, and the top part number.
-    pub const MOST_PARTS: usize = 16;
+    pub const MOST_PARTS: usize = numbering::MOST_PARTS;
 
-    pub const TOP_NUMBER: u64 = 4294967295;
+    pub const TOP_NUMBER: u64 = numbering::TOP_NUMBER;
 
     // The list of a first design: its mark is its highest number.
     pub fn first(numbers: &[u64]) -> Listed
         ensures { λ r. ⌜ r ≡ made (highest (now (numbers .entry))) (now (numbers .entry)) ⌝ }
     {
-        PartList::with_mark(highest(numbers), numbers)
+        PartList::with_mark(numbering::highest(numbers), numbers)
     }
 
     // The list with this mark, as a record has it.
     pub fn with_mark(mark: u64, numbers: &[u64]) -> Listed
         ensures { λ r. ⌜ r ≡ made mark (now (numbers .entry)) ⌝ }
     {
-        let verdict = judge(mark, numbers);
+        let verdict = numbering::judge(mark, numbers);
         match verdict {
             Verdict::Refused(refusal) => Listed {
                 list: PartList {
@@ -61,7 +61,7 @@ impl PartList {
                 verdict: Verdict::Refused(refusal),
             },
             Verdict::Accepted => {
-                let cells = cells(numbers, numbers.len());
+                let cells = numbering::cells(numbers, numbers.len());
                 Listed {
                     list: PartList {
                         count: numbers.len(),
@@ -92,7 +92,7 @@ impl PartList {
         }
         let issued = self.next_number();
         let numbers = self.numbers;
-        let mut cells = cells(&numbers[..count], count);
+        let mut cells = numbering::cells(&numbers[..count], count);
         cells[count] = issued;
         Changed {
             list: PartList {
@@ -124,7 +124,7 @@ impl PartList {
         }
         let numbers = self.numbers;
         let taken = numbers[position - 1];
-        let cells = cells(&numbers[..count], position - 1);
+        let cells = numbering::cells(&numbers[..count], position - 1);
         Changed {
             list: PartList {
                 count: count - 1,
@@ -133,19 +133,6 @@ impl PartList {
             },
             answer: Numbered::Number(taken),
         }
-    }
-
-    // Whether 23 refuses a part number, after the one before it (0 before the first) and under the mark.
-    pub fn misnumbered(previous: u64, mark: u64, number: u64) -> bool
-        ensures { λ r. ⌜ r ≡ misnumbered previous mark number ⌝ }
-    {
-        if number <= previous {
-            return true;
-        }
-        if mark < number {
-            return true;
-        }
-        PartList::TOP_NUMBER < number
     }
 
     // The number that the next part gets: never one that was issued before.
@@ -163,71 +150,10 @@ impl PartList {
         let count = self.count;
         let numbers = self.numbers;
         if PartList::MOST_PARTS < count {
-            return refused(answer::WRONG_PART_COUNT, 0);
+            return answer::refused(answer::WRONG_PART_COUNT, 0);
         }
-        judge(self.mark, &numbers[..count])
+        numbering::judge(self.mark, &numbers[..count])
     }
-}
-
-// Whether these numbers and this mark make a part list.
-fn judge(mark: u64, numbers: &[u64]) -> Verdict
-    ensures { λ r. ⌜ r ≡ listRefusal (length (now (numbers .entry))) mark (now (numbers .entry)) ⌝ }
-{
-    let count = numbers.len();
-    if count == 0 {
-        return refused(answer::WRONG_PART_COUNT, 0);
-    }
-    if PartList::MOST_PARTS < count {
-        return refused(answer::WRONG_PART_COUNT, 0);
-    }
-    let mut previous = 0;
-    let mut index = 0;
-    while index < count {
-        let number = numbers[index];
-        if PartList::misnumbered(previous, mark, number) {
-            return refused(answer::WRONG_PART_NUMBER, index);
-        }
-        previous = number;
-        index += 1;
-    }
-    if PartList::TOP_NUMBER < mark {
-        return refused(answer::WRONG_PART_NUMBER, count);
-    }
-    Verdict::Accepted
-}
-
-// The highest of some numbers.
-fn highest(numbers: &[u64]) -> u64
-    ensures { λ r. ⌜ r ≡ highest (now (numbers .entry)) ⌝ }
-{
-    let mut most = 0;
-    let mut index = 0;
-    while index < numbers.len() {
-        let number = numbers[index];
-        if most < number {
-            most = number;
-        }
-        index += 1;
-    }
-    most
-}
-
-// The cells of a list of these numbers without the one at an index, or of all of them where the index is none of theirs.
-fn cells(numbers: &[u64], left_out: usize) -> [u64; PartList::MOST_PARTS]
-    requires { ⌜ length (now numbers) ≤ mostParts ⌝ }
-    ensures { λ r. ⌜ r ≡ cellsOf (without «left_out» (now (numbers .entry))) ⌝ }
-{
-    let mut cells = [0; PartList::MOST_PARTS];
-    let mut next: usize = 0;
-    let mut index = 0;
-    while index < numbers.len() {
-        if index != left_out {
-            cells[next] = numbers[index];
-            next += 1;
-        }
-        index += 1;
-    }
-    cells
 }
 
 // A refused change leaves the list as it was.
@@ -238,11 +164,4 @@ fn unchanged(list: PartList, number: u8, place: usize) -> Changed
         list,
         answer: Numbered::Refused(Refusal { number, place }),
     }
-}
-
-// The answer where a check refuses.
-fn refused(number: u8, place: usize) -> Verdict
-    ensures { λ r. ⌜ r ≡ Verdict.Refused (at number place) ⌝ }
-{
-    Verdict::Refused(Refusal { number, place })
 }

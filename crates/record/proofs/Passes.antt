@@ -28,7 +28,8 @@ use Rattle.sets.proofs.Lists.{listed-intro, listed-elim, listed-semicoherent}
 use Rattle.sets.proofs.Masks.{holds-refl, holds-trans, holds-le, holds-antisym}
 use Rattle.sets.proofs.Ranges.{any-same, rising-above}
 use Rattle.sets.proofs.Structures.{minimal-least, minimal-intro}
-use Rattle.words.specs.Words.{inWords, wordsOf, among, without, spread, trimmed}
+use Rattle.words.specs.Words.{inWords, wordsOf, among}
+use Rattle.closure.specs.Closure.{without, spread, trimmed}
 use Rattle.words.proofs.Words.{inWords-wordsOf}
 use Rattle.structure.proofs.Spread.{spread-listed}
 use Rattle.structure.proofs.Trimmed.{trimmed-minimal}

@@ -29,7 +29,8 @@ use Rattle.heading.proofs.Found.{then-found, field-number, Stands}
 use Rattle.record.proofs.RoundTrip.{record-found, whole-found}
 use Rattle.record.proofs.MinimalSets.{rules-accepted-list}
 use Rattle.record.proofs.Passes.{passes-decide}
-use Rattle.words.specs.Words.{inWords, wordsOf, among, spread, trimmed}
+use Rattle.words.specs.Words.{inWords, wordsOf, among}
+use Rattle.closure.specs.Closure.{spread, trimmed}
 use Rattle.structure.proofs.Acceptance.{AcceptedList}
 
 -- ---- accepted or refused

@@ -158,13 +158,13 @@ pub fn table_of_record(bytes: &[u8], table: &mut [u8]) -> Written
         Verdict::Accepted => {
             let list = contents.list;
             let n = list.count;
-            let needed = table_length(n);
+            let needed = structure::table_length(n);
             if table.len() < needed {
                 return answer::short(needed);
             }
             let marked = mark_sets(bytes, contents.begin, n, contents.sets);
             let words = marked.words;
-            let reached = words::carried(&words, n);
+            let reached = closure::carried(&words, n);
             words::store(&reached, &mut table[..needed]);
             Written::Length(needed)
         }
@@ -194,14 +194,6 @@ fn read_set(bytes: &[u8], start: usize, n: usize, previous: u64) -> Reading
     }
 }
 
-// The bytes of a table of n parts.
-fn table_length(n: usize) -> usize
-    requires { ⌜ n ≤ 16 ⌝ }
-    ensures { λ r. ⌜ r ≡ tableLength n ⌝ }
-{
-    if n < 3 { 1 } else { numbers::power(n - 3) }
-}
-
 fn refused_contents(number: u8, place: usize) -> Contents
     ensures { λ r. ⌜ r ≡ nothing (at number place) ⌝ }
 {
@@ -226,8 +218,8 @@ fn read_sets(bytes: &[u8], start: usize, n: usize, count: usize) -> Ending
 {
     let marked = mark_sets(bytes, start, n, count);
     let words = marked.words;
-    let reached = words::carried(&words, n);
-    let minimal = words::trimmed(&reached, n);
+    let reached = closure::carried(&words, n);
+    let minimal = closure::trimmed(&reached, n);
     let nested = first_nested(bytes, start, marked.read, &minimal);
     if let Verdict::Refused(refusal) = nested {
         return Ending::Refused(refusal);

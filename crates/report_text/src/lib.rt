@@ -11,7 +11,7 @@ ghost use lib.ListN.{length, getD};
 ghost use Rattle.answer.specs.Outcome.{at, outcome, delivered};
 ghost use Rattle.answer.specs.Refusals.{shortBuffer};
 ghost use Rattle.codec.specs.ByteForm.{leaves, placed};
-ghost use Rattle.parts.specs.PartLists.{mostParts};
+ghost use Rattle.numbering.specs.Numbering.{mostParts};
 ghost use Rattle.record.specs.Contents.{designIn};
 ghost use Rattle.sets.specs.Tables.{inTable};
 ghost use Rattle.structure.specs.Checks.{tableRefusal};

@@ -17,7 +17,8 @@ use Rattle.sets.proofs.Bools.{and-left, and-right, and-both, or-cases, or-left,
 use Rattle.sets.proofs.Lists.{listed-intro, listed-elim}
 use Rattle.sets.proofs.Masks.{has-le, holds-part, holds-refl, holds-trans, holds-sub, holds-without, quotient-half, quotient-odd, quotient-even}
 use Rattle.sets.proofs.Ranges.{any-intro, any-elim}
-use Rattle.words.specs.Words.{among, spread}
+use Rattle.words.specs.Words.{among}
+use Rattle.closure.specs.Closure.{spread}
 
 -- ---- the members of a list by their index
 

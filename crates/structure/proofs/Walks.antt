@@ -20,7 +20,8 @@ use Rattle.sets.proofs.Bools.{true-or-false}
 use Rattle.sets.proofs.Masks.{add-below}
 use Rattle.sets.proofs.Ranges.{any-same, those-same, those-skip, those-empty, least-some, below-or-above}
 use Rattle.sets.proofs.Tables.{packed-same, tableLength-small, tableLength-large}
-use Rattle.words.specs.Words.{inWords, wordsOf, among, without, spread, trimmed}
+use Rattle.words.specs.Words.{inWords, wordsOf, among}
+use Rattle.closure.specs.Closure.{without, spread, trimmed}
 use Rattle.words.proofs.Words.{inWords-wordsOf}
 use Rattle.structure.proofs.Spread.{spread-listed, spread-beyond}
 use Rattle.structure.proofs.Trimmed.{trimmed-minimal}

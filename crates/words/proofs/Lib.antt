@@ -1,4 +1,3 @@
 pub mod Bits
 pub mod Words
-pub mod Parts
 pub mod Runs

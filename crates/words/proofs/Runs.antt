@@ -1,11 +1,12 @@
 -- Runs of bits: a byte of a word, the lowest bit that is set, and how many sets a word adds to those before it.
 -- Assumes nothing.
 use mathlib.Core.Path.{_≡_, sym, ap, ap₂, _∙_, subst}
-use mathlib.Core.Bool.{Bool, true, false, cond, _&&_, _||_}
+use mathlib.Core.Bool.{Bool, true, false, cond}
 use mathlib.Core.List.{List, [], _∷_, _++_}
 use mathlib.Core.Logic.{_⊎_, inl, inr, ⊎-elim}
 use Prim.Native.Nat.{ℕ, zero, suc, _+_, _-_, _*_, _/_, _%_, _^_, _≤_, _<_, zero-le, suc-le-suc}
-use native.Mathlib.Nat.{not-suc-le-zero, le-of-suc-le-suc, le-of-lt, le-refl, lt-of-lt-of-le, lt-of-le-of-lt, zero-lt-suc, mod-lt, pow-succ', add-zero, add-suc, add-comm, add-assoc, mod-one, zero-add, add-sub-of-le, sub-le, sub-self, div-one}
+use native.Mathlib.Decide.{ℕ-discrete}
+use native.Mathlib.Nat.{not-suc-le-zero, le-of-suc-le-suc, le-of-lt, le-refl, zero-lt-suc, mod-lt, pow-succ', add-zero, add-suc, add-comm, add-assoc, mod-one, zero-add, add-sub-of-le, sub-self, div-one}
 use native.Mathlib.Numerals.{one-add, add-one}
 use native.Mathlib.Omega.{arith}
 use lib.Count.{ones, ones-cat, trailingZeros, under}
@@ -16,11 +17,16 @@ use Rattle.sets.specs.Masks.{has, those, least}
 use Rattle.sets.specs.Tables.{packed, inTable}
 use Rattle.sets.proofs.Bools.{true-or-false, clash}
 use Rattle.sets.proofs.Masks.{odd, even, has-suc, has-low, has-above, has-block, has-shift, quotient-odd, quotient-even}
-use Rattle.sets.proofs.Ranges.{below-or-above, least-found, those-skip, those-take, those-fewer}
+use Rattle.sets.proofs.Ranges.{below-or-above, least-none, least-found, those-skip, those-take, those-fewer}
 use Rattle.sets.proofs.Tables.{packed-unique, packed-same, inTable-at}
-use Rattle.words.specs.Words.{inWords, wordOf, wordsOf, without, spread}
-use Rattle.words.specs.Steps.{Lowest}
-use Rattle.words.proofs.Words.{inWords-at, inWords-wordsOf, has-wordOf, wordOf-unique, wordsOf-same}
+use Rattle.words.specs.Words.{inWords, wordOf}
+use Rattle.words.proofs.Words.{inWords-at, wordOf-unique}
+
+-- bit i is the lowest that is set, of 64
+pub record Lowest (word i : ℕ) : Type 0 where
+  pub within : i < 64
+  pub stands : has word i ≡ true
+  pub clear : (k : ℕ) → k < i → has word k ≡ false
 
 pub byte-of : (w i : ℕ) → w / 2 ^ (8 * i) % 256 ≡ packed 8 (λ k. has w (8 * i + k))
 byte-of w i =
@@ -60,10 +66,26 @@ clears (suc k) w i l = cases i l (true-or-false (has w 0)) (clears k (w / 2))
     cases (suc j) l (inr f) rest =
         has-suc w j ∙ rest j (le-of-suc-le-suc (subst (λ (d : ℕ). suc j < under d (trailingZeros k (w / 2))) (even w f) l))
 
-pub lowest-bit : (w : ℕ) → w < 2 ^ 64 → (w ≡ 0 → ⊥) → Lowest w (trailingZeros 64 w)
+lowest-bit : (w : ℕ) → w < 2 ^ 64 → (w ≡ 0 → ⊥) → Lowest w (trailingZeros 64 w)
 lowest-bit w h some =
     let found = ends 64 w h some in
     record { within = found .0; stands = found .1; clear = clears 64 w }
+
+pub lowest-least : (w : ℕ) → w < 2 ^ 64 → trailingZeros 64 w ≡ least (has w) 64
+unfolding trailingZeros
+lowest-least w h = cases (ℕ-discrete w 0)
+  where
+    cases : Dec (w ≡ 0) → trailingZeros 64 w ≡ least (has w) 64
+    cases (yes e) =
+        ap (trailingZeros 64) e
+        ∙ sym (least-none (has w) 64 (λ i l. ap (λ (x : ℕ). has x i) e ∙ has-above 0 0 i (zero-lt-suc 0) zero-le))
+    cases (no some) =
+        let low = lowest-bit w h some in
+        sym (least-found (has w) 64 (trailingZeros 64 w) (low .within) (low .stands) (low .clear))
+
+-- what the smallest number of a set bit tells of a word that is not 0
+pub lowest-of : (w i : ℕ) → w < 2 ^ 64 → (w ≡ 0 → ⊥) → i ≡ least (has w) 64 → Lowest w i
+lowest-of w i h some e = subst (Lowest w) (lowest-least w h ∙ sym e) (lowest-bit w h some)
 
 -- ---- counting
 
@@ -104,35 +126,6 @@ module _ (words : List ℕ) (at : ℕ) where
           cases (inl t) = rw (t, quotient-odd w k t)
           cases (inr f) = rw (f, quotient-even w k f)
 
--- ---- looking for the first set of a kind, word by word
-
-module _ (test : ℕ → Bool) (at w : ℕ) (is : w ≡ wordOf test at) (none : (a : ℕ) → a < 64 * at → test a ≡ false) where
-  bit : (k : ℕ) → k < 64 → has w k ≡ test (64 * at + k)
-  bit k h = ap (λ (x : ℕ). has x k) is ∙ has-wordOf test at k h
-
-  -- what the words before and the first k bits of this one lack
-  so-far : (k : ℕ) → k ≤ 64 → ((i : ℕ) → i < k → has w i ≡ false) → (a : ℕ) → a < 64 * at + k → test a ≡ false
-  so-far k h clear a l = cases (below-or-above a (64 * at))
-    where
-      cases : (a < 64 * at) ⊎ (64 * at ≤ a) → test a ≡ false
-      cases (inl before) = none a before
-      cases (inr inside) =
-          let i : ℕ = a - 64 * at in
-          let whole : 64 * at + i ≡ a = add-sub-of-le inside in
-          let near : i < k = omega (arith, whole) in
-          ap test (sym whole) ∙ sym (bit i (lt-of-lt-of-le near h)) ∙ clear i near
-
-  -- an empty word: the next word is looked at
-  pub none-more : w ≡ 0 → (a : ℕ) → a < 64 * (at + 1) → test a ≡ false
-  none-more e a l =
-      so-far 64 (le-refl 64) (λ i h. ap (λ (x : ℕ). has x i) e ∙ has-above 0 0 i (zero-lt-suc 0) zero-le) a (omega arith)
-
-  -- any other word: its lowest bit is the first set
-  pub found-first : (i : ℕ) → at < 1024 → Lowest w i → 64 * at + i ≡ least test 65536
-  found-first i h low =
-      let near : i < 64 = low .within in
-      sym (least-found test 65536 (64 * at + i) (omega arith) (sym (bit i near) ∙ low .stands) (so-far i (le-of-lt near) (low .clear)))
-
 -- ---- a word of a table, from its highest byte down
 
 module _ (table : List ℕ) (at : ℕ) where
@@ -170,16 +163,6 @@ byte-at words b =
     let word : (8 * b + k) / 64 ≡ b / 8 = omega arith in
     let bit : (8 * b + k) % 64 ≡ 8 * (b % 8) + k = omega arith in
     sym (rw (word, bit)))
-
--- ---- one part more carried
-
-pub spread-more : (works : ℕ → Bool) (n : ℕ) → wordsOf (λ a. inWords (wordsOf (spread n works)) a || without n (inWords (wordsOf (spread n works))) a) ≡ wordsOf (spread (n + 1) works)
-unfolding spread
-spread-more works n =
-    wordsOf-same (λ a. inWords (wordsOf (spread n works)) a || without n (inWords (wordsOf (spread n works))) a) (spread (suc n) works) (λ a h.
-    ap₂ (λ (p q : Bool). p || (has a n && q)) (inWords-wordsOf (spread n works) a h)
-    (inWords-wordsOf (spread n works) (a - 2 ^ n) (lt-of-le-of-lt (sub-le a (2 ^ n)) h)))
-    ∙ ap (λ (m : ℕ). wordsOf (spread m works)) (sym (add-one n))
 
 -- ---- the sets that a full walk of the words counts
 

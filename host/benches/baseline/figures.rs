@@ -1,14 +1,9 @@
 //! What a good Rust program does for the figures: the table is checked as for structures, and then each of its words is read once and
 //! its bits are counted by instruction.
 
+use super::counts::{BINOMIAL, FACTORIAL};
 use super::table::{accepted, refused, Words, WITHOUT};
 use nahokipe_host::Refusal;
-
-/// k! for k = 0..16.
-const FACTORIAL: [u64; 17] = factorials();
-
-/// C(n, k) in row n.
-const BINOMIAL: [[i64; 17]; 17] = binomials();
 
 /// For each size, the bits of the masks below 64 that have it.
 const OF_SIZE: [u64; 7] = [
@@ -147,30 +142,4 @@ fn write_importance(n: usize, sums: &Sums, importance: &mut [u64]) {
     for part in 0..n {
         importance[part] = sums.weights[part] - taken;
     }
-}
-
-const fn factorials() -> [u64; 17] {
-    let mut factorials = [1; 17];
-    let mut k = 1;
-    while k <= 16 {
-        factorials[k] = factorials[k - 1] * k as u64;
-        k += 1;
-    }
-    factorials
-}
-
-const fn binomials() -> [[i64; 17]; 17] {
-    let mut rows = [[0; 17]; 17];
-    rows[0][0] = 1;
-    let mut n = 1;
-    while n <= 16 {
-        rows[n][0] = 1;
-        let mut k = 1;
-        while k <= n {
-            rows[n][k] = rows[n - 1][k - 1] + rows[n - 1][k];
-            k += 1;
-        }
-        n += 1;
-    }
-    rows
 }

@@ -1,14 +1,9 @@
 //! What a plain Rust program does for the shares of a group: the table is checked as for structures, and then each route goes over the
 //! path sets once, in the same steps as the calculator.
 
+use super::counts::{BINOMIAL, FACTORIAL};
 use super::table::{accepted, refused, Words};
 use nahokipe_host::Refusal;
-
-/// k! for k = 0..16.
-const FACTORIAL: [u64; 17] = factorials();
-
-/// C(n, k) in row n.
-const BINOMIAL: [[i64; 17]; 17] = binomials();
 
 /// lcm(1..n) for n = 0..16.
 const COMMON: [i64; 17] = [
@@ -105,29 +100,4 @@ fn share(n: usize, m: usize, h: &[[i64; 17]; 17], k: usize) -> i64 {
         sum += power * (COMMON[n] / (k as i64 * BINOMIAL[m + j][k]));
     }
     sum * (FACTORIAL[n] as i64 / COMMON[n])
-}
-
-const fn factorials() -> [u64; 17] {
-    let mut table = [1; 17];
-    let mut k = 1;
-    while k < 17 {
-        table[k] = table[k - 1] * k as u64;
-        k += 1;
-    }
-    table
-}
-
-const fn binomials() -> [[i64; 17]; 17] {
-    let mut table = [[0; 17]; 17];
-    let mut n = 0;
-    while n < 17 {
-        table[n][0] = 1;
-        let mut k = 1;
-        while k <= n {
-            table[n][k] = table[n - 1][k - 1] + table[n - 1][k];
-            k += 1;
-        }
-        n += 1;
-    }
-    table
 }

@@ -10,6 +10,30 @@ pub fn timed<T>(work: impl FnOnce() -> T) -> (T, u128) {
     (result, began.elapsed().as_nanos())
 }
 
+/// Both programs once in each round, who goes first changing from round to round: their times, the calculator's first. What they give is
+/// handed to `compare` in every round.
+pub fn side_by_side<R, T>(
+    rounds: usize,
+    calculator: impl Fn() -> (R, T),
+    baseline: impl Fn() -> (R, T),
+    compare: impl Fn(&R, &R),
+) -> (Vec<T>, Vec<T>) {
+    let (mut our_times, mut their_times) = (Vec::new(), Vec::new());
+    for number in 0..rounds {
+        let ((ours, our_time), (theirs, their_time)) = if number % 2 == 0 {
+            let ours = calculator();
+            (ours, baseline())
+        } else {
+            let theirs = baseline();
+            (calculator(), theirs)
+        };
+        compare(&ours, &theirs);
+        our_times.push(our_time);
+        their_times.push(their_time);
+    }
+    (our_times, their_times)
+}
+
 pub fn print_head(what: &str, rounds: usize) {
     println!("{what}; microseconds, median of {rounds} rounds each");
     println!("buffers not cleared first: filled with a pattern before each call, outside its time");

@@ -8,7 +8,8 @@ use lib.ListN.{length, length-append, length-replicate}
 use Rattle.answer.specs.Outcome.{delivered}
 use Rattle.answer.specs.declared.Verdict.{Verdict}
 use Rattle.parts.specs.declared.PartList.{PartList}
-use Rattle.parts.specs.PartLists.{mostParts, numbersOf, WellFormed}
+use Rattle.numbering.specs.Numbering.{mostParts}
+use Rattle.parts.specs.PartLists.{numbersOf, WellFormed}
 use Rattle.parts.proofs.WellFormed.{well-formed-counted, well-formed-list}
 use Rattle.structure.specs.Checks.{listRefusal}
 use Rattle.record.specs.Records.{design}

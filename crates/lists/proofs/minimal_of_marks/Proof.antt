@@ -7,7 +7,8 @@ use denote.Ref.{now}
 use Rattle.answer.specs.Outcome.{delivered}
 use Rattle.answer.specs.declared.Verdict.the-variants.{Accepted}
 use Rattle.sets.specs.Masks.{those}
-use Rattle.words.specs.Words.{inWords, wordsOf, trimmed}
+use Rattle.closure.specs.Closure.{trimmed}
+use Rattle.words.specs.Words.{inWords, wordsOf}
 use borrow.Author.Needs.{needs}
 use Rattle.lists.proofs.minimal_of_marks.Statement.{statement}
 use Rattle.lists.proofs.minimal_of_marks.Tie as tie

@@ -12,12 +12,14 @@ use Rattle.answer.specs.Outcome.{outcome, delivered}
 use Rattle.answer.specs.declared.Verdict.{Verdict}
 use Rattle.answer.specs.declared.Written.{Written}
 use Rattle.answer.proofs.Deliveries.{delivered-short, delivered-whole}
+use Rattle.numbers.proofs.Counts.{upTo16-given}
 use Rattle.numbers.specs.Tables.{tabulate}
 use Rattle.sets.specs.Structures.{listed}
 use Rattle.sets.specs.Tables.{packed, tableOf, tableLength}
 use Rattle.sets.proofs.Tables.{tableOf-length}
 use Rattle.structure.proofs.Walks.{listed-walk}
-use Rattle.words.specs.Words.{inWords, wordsOf, among, spread}
+use Rattle.words.specs.Words.{inWords, wordsOf, among}
+use Rattle.closure.specs.Closure.{spread}
 use Rattle.record.specs.declared.Contents.{Contents}
 use Rattle.record.specs.declared.Marked.{Marked}
 use Rattle.record.specs.Contents.{designIn, recordRefusal}
@@ -42,7 +44,13 @@ read c =
     contents-read (now (w .before .before .before .args .bytes)) (w .whole-record .result) (λ i. omega (arith, w .before .before .shared-slice-known .given i)) (w .whole-record .ensures) (c .enum-told .given .1)
 
 table-length-requires : tie.Need-table-length-requires
-table-length-requires c κs = read (c .before) .accepted .few
+table-length-requires c κs = search needs
+
+-- the bytes of a table of n parts
+counted : (c : tie.After-table-length) → c .table-length .result ≡ tableLength (c .before .before .before .whole-record .result .list .count)
+counted c =
+    let n = c .before .before .before .whole-record .result .list .count in
+    c .table-length .ensures ∙ upTo16-given n (tableLength n) (read (c .before) .accepted .few)
 
 short-requires : tie.Need-short-requires
 short-requires c κs = search needs
@@ -57,7 +65,7 @@ returns c =
     let result = tableOf (d .parts .count) (listed (d .sets)) in
     ap (λ (w : Written). outcome w (now (a .table))) (c .short .ensures)
     ∙ delivered-short (recordRefusal (now (a .bytes))) result (now (a .table)) (r .refusal) _
-    (fits .before .table-length .ensures ∙ ap tableLength (r .count) ∙ sym (tableOf-length (d .parts .count) (listed (d .sets)))) (fits .if1 .taken)
+    (counted (fits .before) ∙ ap tableLength (r .count) ∙ sym (tableOf-length (d .parts .count) (listed (d .sets)))) (fits .if1 .taken)
 
 mark-sets-requires : tie.Need-mark-sets-requires
 mark-sets-requires c κs = read (c .before .before .before) .accepted .few
@@ -106,7 +114,7 @@ returns-3 c =
     let table = now (a .table) in
     let needed = fits .before .table-length .result in
     let result = tableOf (d .parts .count) (listed (d .sets)) in
-    let long : needed ≡ tableLength n = fits .before .table-length .ensures in
+    let long : needed ≡ tableLength n = counted (fits .before) in
     let whole : needed ≡ length result = long ∙ ap tableLength (r .count) ∙ sym (tableOf-length (d .parts .count) (listed (d .sets))) in
     let marked = ap (λ (m : Marked). m .words) (marks .mark-sets .ensures) ∙ ap (λ (l : List ℕ). wordsOf (among l)) (r .marks) in
     let reached = stored .before .before .before .carried .ensures ∙ ap (λ (ws : List ℕ). wordsOf (spread (min n 16) (inWords ws))) marked in

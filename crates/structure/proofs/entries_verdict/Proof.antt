@@ -8,6 +8,7 @@ use lib.ListN.{length, getD, drop, drop-of-length-le}
 use borrow.Author.Tests.{le-leb, lt-leb, eq-eqb, ne-eqb}
 use Rattle.answer.specs.Refusals.{unknownPart, emptySet}
 use Rattle.answer.proofs.Outcomes.{refuse-held, refuse-passed}
+use Rattle.numbers.proofs.Counts.{upTo16-given}
 use Rattle.structure.specs.Checks.{entriesRefusal}
 use Rattle.structure.proofs.Acceptance.{entries-from}
 use borrow.Author.Needs.{needs}
@@ -35,6 +36,11 @@ cast-mask c = omega (arith, c .shared-slice-known2 .given (c .before .before .lo
 power-requires : tie.Need-power-requires Inv-loop μ-loop
 power-requires c κs = search needs
 
+power-is : (c : tie.After-power Inv-loop μ-loop) → c .power .result ≡ 2 ^ (c .before .before .before .before .before .args .n)
+power-is c =
+    let start = c .before .before .before .before .before in
+    c .power .ensures ∙ upTo16-given (start .args .n) _ (start .pre)
+
 refused-requires : tie.Need-refused-requires Inv-loop μ-loop
 refused-requires c κs = search needs
 
@@ -44,7 +50,7 @@ returns c =
     let a = head .before .before .args in
     let i = head .loop .i in
     let mask : ℕ = getD (now (a .list)) i 0 in
-    let unknown : 2 ^ (a .n) ≤ mask = subst (λ (x : ℕ). x ≤ mask) (c .before .before .power .ensures) (c .before .if1 .taken) in
+    let unknown : 2 ^ (a .n) ≤ mask = subst (λ (x : ℕ). x ≤ mask) (power-is (c .before .before)) (c .before .if1 .taken) in
     c .refused .ensures
     ∙ sym (head .loop .inv .1 ∙ entries-from (a .n) i (now (a .list)) (c .before .before .before .before .loop-test .taken) ∙ refuse-held _ unknownPart i _ (le-leb (2 ^ (a .n)) mask unknown))
 
@@ -57,7 +63,7 @@ returns-2 c =
     let a = head .before .before .args in
     let i = head .loop .i in
     let mask : ℕ = getD (now (a .list)) i 0 in
-    let known : mask < 2 ^ (a .n) = subst (λ (x : ℕ). mask < x) (c .before .before .before .power .ensures) (c .before .before .if1 .left) in
+    let known : mask < 2 ^ (a .n) = subst (λ (x : ℕ). mask < x) (power-is (c .before .before .before)) (c .before .before .if1 .left) in
     c .refused2 .ensures
     ∙ sym (head .loop .inv .1 ∙ entries-from (a .n) i (now (a .list)) (c .before .before .before .before .before .loop-test .taken)
     ∙ refuse-passed _ unknownPart i _ (lt-leb (2 ^ (a .n)) mask known) ∙ refuse-held _ emptySet i _ (eq-eqb mask 0 (c .before .if2 .taken)))
@@ -74,7 +80,7 @@ loop-again c =
     let a = head .before .before .args in
     let i = head .loop .i in
     let mask : ℕ = getD (now (a .list)) i 0 in
-    let known : mask < 2 ^ (a .n) = subst (λ (x : ℕ). mask < x) (c .before .before .power .ensures) (c .before .if1 .left) in (
+    let known : mask < 2 ^ (a .n) = subst (λ (x : ℕ). mask < x) (power-is (c .before .before)) (c .before .if1 .left) in (
       omega arith,
       head .loop .inv .1 ∙ entries-from (a .n) i (now (a .list)) (c .before .before .before .before .loop-test .taken)
           ∙ refuse-passed _ unknownPart i _ (lt-leb (2 ^ (a .n)) mask known) ∙ refuse-passed _ emptySet i _ (ne-eqb mask 0 (c .if2 .left)),

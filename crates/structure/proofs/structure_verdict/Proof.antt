@@ -12,6 +12,7 @@ use Rattle.answer.specs.Outcome.{at}
 use Rattle.answer.specs.Refusals.{emptySetWorks, fullSetFails, brokenSet}
 use Rattle.answer.specs.declared.Verdict.the-variants.{Accepted, Refused}
 use Rattle.answer.proofs.Outcomes.{refuse-held, refuse-passed}
+use Rattle.numbers.proofs.Counts.{upTo16-given}
 use Rattle.sets.specs.Masks.{least}
 use Rattle.sets.specs.Structures.{broken}
 use Rattle.sets.specs.Tables.{inTable}
@@ -29,13 +30,18 @@ said words table a e h = sym (ap (λ (ws : List ℕ). inWords ws a) e ∙ inWord
 empty-is : (c : tie.After-works) → inTable (now (c .before .before .before .before .args .table)) 0 ≡ c .works .result
 empty-is c = said _ (now (c .before .before .before .before .args .table)) 0 (c .before .before .load .ensures) (omega arith) ∙ sym (c .works .ensures)
 
+power-is : (c : tie.After-power) → c .power .result ≡ 2 ^ (c .before .before .before .before .before .before .before .args .n)
+power-is c =
+    let start = c .before .before .before .before .before .before .before in
+    c .power .ensures ∙ upTo16-given (start .args .n) _ (start .pre .0)
+
 full-is : (c : tie.After-works2) → inTable (now (c .before .before .before .before .before .before .before .before .args .table)) (2 ^ (c .before .before .before .before .before .before .before .before .args .n) - 1) ≡ c .works2 .result
 full-is c =
     let start = c .before .before .before .before .before .before .before .before in
     let n = start .args .n in
     let inside : 2 ^ n - 1 < 65536 = lt-of-lt-of-le (ones-lt n) (pow-mono (start .pre .0)) in
     said _ (now (start .args .table)) (2 ^ n - 1) (c .before .before .before .before .before .before .load .ensures) inside
-    ∙ ap (λ (x : ℕ). inWords (c .before .before .before .before .before .before .load .result) (x - 1)) (sym (c .before .power .ensures)) ∙ sym (c .works2 .ensures)
+    ∙ ap (λ (x : ℕ). inWords (c .before .before .before .before .before .before .load .result) (x - 1)) (sym (power-is (c .before))) ∙ sym (c .works2 .ensures)
 
 place-is : (c : tie.After-first-broken) → c .first-broken .result
     ≡ least (broken (min (c .before .before .before .before .before .before .before .before .before .before .before .args .n) 16) (inWords (wordsOf (inTable (now (c .before .before .before .before .before .before .before .before .before .before .before .args .table)))))) 65536
@@ -65,7 +71,7 @@ power-requires : tie.Need-power-requires
 power-requires c κs = search needs
 
 sub-works : tie.Need-sub-works
-sub-works c = subst (λ (x : ℕ). 1 ≤ x) (sym (c .power .ensures)) (pow-pos (c .before .before .before .before .before .before .before .args .n))
+sub-works c = subst (λ (x : ℕ). 1 ≤ x) (sym (power-is c)) (pow-pos (c .before .before .before .before .before .before .before .args .n))
 
 works-requires-2 : tie.Need-works-requires-2
 works-requires-2 c κs = search needs

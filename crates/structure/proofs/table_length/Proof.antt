@@ -1,11 +1,11 @@
 -- `structure::table_length` meets its contract: from 3 parts on the bytes are an eighth of 2^n.
 -- Assumes nothing.
-use mathlib.Core.Path.{_≡_, sym, _∙_}
+use mathlib.Core.Path.{_≡_, sym, ap, _∙_}
 use Prim.Native.Nat.{ℕ, _*_, _-_, _^_}
 use native.Mathlib.Nat.{add-sub-of-le}
 use native.Mathlib.Omega.{arith}
 use lib.Pow.{pow-add}
-use mathlib.Core.Path.{ap}
+use Rattle.numbers.proofs.Counts.{upTo16-given, upTo16-above}
 use Rattle.sets.specs.Tables.{tableLength}
 use Rattle.sets.proofs.Tables.{tableLength-small, tableLength-large}
 use borrow.Author.Needs.{needs}
@@ -16,14 +16,20 @@ power-requires : tie.Need-power-requires
 power-requires c κs = search needs
 
 returns : tie.Need-returns
-returns c = sym (tableLength-small (c .before .args .n) (c .if1 .taken))
+returns c = sym (upTo16-above (c .before .args .n) _ (c .if1 .taken))
 
 returns-2 : tie.Need-returns-2
 returns-2 c =
     let n = c .before .before .args .n in
-    let whole : 8 * tableLength n ≡ 2 ^ n = tableLength-large n (c .before .if1 .left) in
-    let eights : 2 ^ n ≡ 2 ^ 3 * 2 ^ (n - 3) = ap (λ (k : ℕ). 2 ^ k) (sym (add-sub-of-le (c .before .if1 .left))) ∙ pow-add 2 3 (n - 3) in
-    c .power .ensures ∙ omega (arith, whole, eights)
+    sym (upTo16-given n (tableLength n) (omega arith) ∙ tableLength-small n (c .if2 .taken))
+
+returns-3 : tie.Need-returns-3
+returns-3 c =
+    let n = c .before .before .before .args .n in
+    let whole : 8 * tableLength n ≡ 2 ^ n = tableLength-large n (c .before .if2 .left) in
+    let eights : 2 ^ n ≡ 2 ^ 3 * 2 ^ (n - 3) = ap (λ (k : ℕ). 2 ^ k) (sym (add-sub-of-le (c .before .if2 .left))) ∙ pow-add 2 3 (n - 3) in
+    let given : c .power .result ≡ 2 ^ (n - 3) = c .power .ensures ∙ upTo16-given (n - 3) _ (omega arith) in
+    omega (arith, whole, eights, given) ∙ sym (upTo16-given n (tableLength n) (omega arith))
 
 pub table-length-spec : {M : Type 1} → statement M
-table-length-spec = tie.close (tie.spec power-requires returns returns-2)
+table-length-spec = tie.close (tie.spec returns power-requires returns-2 returns-3)

@@ -4,12 +4,14 @@
 use mathlib.Core.Path.{_≡_, sym, ap, _∙_}
 use mathlib.Core.Bool.{true, false, not, _&&_}
 use Prim.Native.Nat.{_≤_}
+use native.Mathlib.Omega.{arith}
 use denote.Ref.{now}
 use lib.Dec.{leb, eqb}
 use lib.ListN.{length}
 use borrow.Author.Tests.{eq-eqb, ne-eqb, leb-true, not-false}
 use Rattle.answer.specs.Refusals.{wrongPartCount, wrongTableLength, unusedBit}
 use Rattle.answer.proofs.Outcomes.{refuse-held, refuse-passed}
+use Rattle.numbers.proofs.Counts.{upTo16-given}
 use Rattle.sets.specs.Tables.{tableLength}
 use Rattle.sets.proofs.Bools.{and-left, and-right}
 use Rattle.structure.specs.Checks.{unused, tableRefusal}
@@ -28,9 +30,12 @@ both c = not-false _ (in-parts c)
 few : (c : tie.Else1) → c .before .before .before .args .n ≤ 16
 few c = leb-true (c .before .before .before .args .n) 16 (and-right (leb 1 (c .before .before .before .args .n)) _ (both c))
 
+length-is : (c : tie.After-table-length) → c .table-length .result ≡ tableLength (c .before .before .before .before .args .n)
+length-is c = c .table-length .ensures ∙ upTo16-given (c .before .before .before .before .args .n) _ (few (c .before))
+
 -- the table has passed the check of its length
 long : (c : tie.Else2) → length (now (c .before .before .before .before .before .args .table)) ≡ tableLength (c .before .before .before .before .before .args .n)
-long c = c .if2 .left ∙ c .before .table-length .ensures
+long c = c .if2 .left ∙ length-is (c .before)
 
 long-enough : (c : tie.Else2) → not (eqb (length (now (c .before .before .before .before .before .args .table))) (tableLength (c .before .before .before .before .before .args .n))) ≡ false
 long-enough c = ap not (eq-eqb (length (now (c .before .before .before .before .before .args .table))) (tableLength (c .before .before .before .before .before .args .n)) (long c))
@@ -50,7 +55,7 @@ returns c =
     c .refused .ensures ∙ sym (refuse-held _ wrongPartCount 0 _ (ap not (sym (c .before .before .in-range .ensures)) ∙ c .before .if1 .taken))
 
 table-length-requires : tie.Need-table-length-requires
-table-length-requires c κs = few c
+table-length-requires c κs = search needs
 
 refused-requires-2 : tie.Need-refused-requires-2
 refused-requires-2 c κs = search needs
@@ -62,10 +67,10 @@ returns-2 c =
     c .refused2 .ensures
     ∙ sym (refuse-passed _ wrongPartCount 0 _ (in-parts (c .before .before .before))
     ∙ refuse-held _ wrongTableLength 0 _
-    (ap not (ne-eqb (length (now (a .table))) (tableLength (a .n)) (λ e. c .before .if2 .taken (e ∙ sym (c .before .before .table-length .ensures))))))
+    (ap not (ne-eqb (length (now (a .table))) (tableLength (a .n)) (λ e. c .before .if2 .taken (e ∙ sym (length-is (c .before .before)))))))
 
 shared-slice-read-has-unused : tie.Need-shared-slice-read-has-unused
-shared-slice-read-has-unused c = search needs
+shared-slice-read-has-unused c = omega (arith, long (c .before))
 
 has-unused-requires : tie.Need-has-unused-requires
 has-unused-requires c κs = leb-true 1 (c .before .before .before .before .before .before .args .n) (and-left _ (leb (c .before .before .before .before .before .before .args .n) 16) (both (c .before .before .before)))

@@ -21,15 +21,15 @@ abbrev μ-loop : tie.MeasureT-loop
 μ-loop words sum₀ at₀ sum at = 1024 - at
 
 -- a word has at most 64 bits set
-few : (c : tie.After-word Inv-loop μ-loop) → ones (c .word .result) ≤ 64
-few c = ones-le 64 (c .word .result) (omega (arith, c .word .ok))
+few : (c : tie.After-cell Inv-loop μ-loop) → ones (c .cell .result) ≤ 64
+few c = ones-le 64 (c .cell .result) (omega (arith, c .cell .ok))
 
 loop-holds : tie.Need-loop-holds Inv-loop μ-loop
 unfolding those
 loop-holds c = (omega arith, refl)
 
-word-requires : tie.Need-word-requires Inv-loop μ-loop
-word-requires c κs = search needs
+cell-requires : tie.Need-cell-requires Inv-loop μ-loop
+cell-requires c κs = search needs
 
 cast-sum : tie.Need-cast-sum Inv-loop μ-loop
 cast-sum c = omega (arith, few c)
@@ -50,10 +50,10 @@ loop-again c =
     let head = c .before .before in
     let words = now (head .before .before .args .words) in
     let at = head .loop .at in
-    let whole : getD words at 0 % 2 ^ 64 ≡ c .word .result =
-    ap (λ (w : ℕ). w % 2 ^ 64) (sym (c .word .ensures)) ∙ mod-eq-of-lt (omega (arith, c .word .ok)) in (
+    let whole : getD words at 0 % 2 ^ 64 ≡ c .cell .result =
+    ap (λ (w : ℕ). w % 2 ^ 64) (sym (c .cell .ensures)) ∙ mod-eq-of-lt (omega (arith, c .cell .ok)) in (
       omega arith,
-      add-comm (head .loop .sum) (ones (c .word .result))
+      add-comm (head .loop .sum) (ones (c .cell .result))
           ∙ ap₂ (λ (x y : ℕ). ones x + y) (sym whole) (head .loop .inv .1) ∙ sym (those-count words at 64 (le-refl 64))
           ∙ ap (λ (k : ℕ). length (those (inWords words) k)) (omega arith),
     )
@@ -71,7 +71,7 @@ count-spec =
     Inv-loop
     μ-loop
     loop-holds
-    word-requires
+    cell-requires
     cast-sum
     add-sum
     add-at

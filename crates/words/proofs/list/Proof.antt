@@ -1,19 +1,21 @@
 -- `words::list` meets its contract: the sets are counted first, so the buffer is left alone where it is short, and then written in their
 -- order, a word after the other.
 -- Assumes nothing.
-use mathlib.Core.Path.{_≡_, sym, ap, _∙_, subst}
-use Prim.Native.Nat.{ℕ, _+_, _-_, _^_, _≤_, _<_}
+use mathlib.Core.Path.{_≡_, refl, sym, ap, _∙_, subst}
+use Prim.Native.Nat.{ℕ, _+_, _-_, _*_, _^_, _≤_, _<_}
 use native.Mathlib.Omega.{arith}
 use denote.Ref.{now}
 use lib.ListN.{length, getD}
-use Rattle.answer.specs.Refusals.{shortBuffer}
-use Rattle.answer.specs.Outcome.{at as refusalAt, outcome}
-use Rattle.answer.specs.declared.Written.the-variants.{Refused}
-use Rattle.answer.proofs.Outcomes.{InFront, in-front-delivered, in-front-length, short-delivered}
+use lib.Pow.{shr-le}
+use Rattle.answer.specs.Outcome.{outcome}
+use Rattle.answer.specs.declared.Verdict.the-variants.{Accepted}
+use Rattle.answer.specs.declared.Written.{Written}
+use Rattle.answer.proofs.Outcomes.{InFront, in-front-delivered, in-front-length}
+use Rattle.answer.proofs.Deliveries.{delivered-short}
 use Rattle.sets.specs.Masks.{those}
 use Rattle.sets.proofs.Ranges.{those-fewer}
 use Rattle.words.specs.Words.{inWords}
-use Rattle.words.proofs.Runs.{Walk, walk-start, walk-turn, walk-near, walk-room, walk-found}
+use Rattle.words.proofs.Runs.{Lowest, lowest-of, Walk, walk-start, walk-turn, walk-near, walk-room, walk-found}
 use borrow.Author.Needs.{needs}
 use Rattle.words.proofs.list.Statement.{statement}
 use Rattle.words.proofs.list.Tie as tie
@@ -27,16 +29,18 @@ abbrev μ-loop : tie.MeasureT-loop
 count-requires : tie.Need-count-requires Inv-loop μ-loop
 count-requires c κs = search needs
 
+short-requires : tie.Need-short-requires Inv-loop μ-loop
+short-requires c κs = search needs
+
 returns : tie.Need-returns Inv-loop μ-loop
 returns c =
-    let a = c .before .before .before .before .args in
-    let found = c .before .count in
-    ap (λ (n : ℕ). outcome (Refused (refusalAt shortBuffer n)) (now (a .sets))) (found .ensures)
-    ∙ short-delivered (now (a .sets)) (those (inWords (now (a .words))) 65536)
-    (subst (λ (n : ℕ). length (now (a .sets)) < n) (found .ensures) (c .if1 .taken))
+    let a = c .before .before .before .before .before .args in
+    let found = c .before .before .count in
+    ap (λ (w : Written). outcome w (now (a .sets))) (c .short .ensures)
+    ∙ delivered-short Accepted (those (inWords (now (a .words))) 65536) (now (a .sets)) refl (found .result) (found .ensures) (c .before .if1 .taken)
 
-word-requires : tie.Need-word-requires Inv-loop μ-loop
-word-requires c κs = search needs
+cell-requires : tie.Need-cell-requires Inv-loop μ-loop
+cell-requires c κs = search needs
 
 -- the buffer has room for all sets
 all : (c : tie.At-loop Inv-loop μ-loop) → length (those (inWords (now (c .before .before .before .before .before .before .args .words))) 65536)
@@ -54,6 +58,14 @@ kept c =
     let fewer = those-fewer (inWords (now (a .words))) (l .mask) 65536 (l .inv .1 .1 .last) in
     in-front-length (now (a .sets)) (those (inWords (now (a .words))) (l .mask)) (l .sets) (l .next) (l .inv .1 .1 .listed) (omega (arith, fewer, all c))
 
+-- what is left of the word is not empty
+low : (c : tie.After-lowest Inv-loop μ-loop) → Lowest (c .before .before .before .loop .rest) (c .lowest .result)
+low c =
+    let head = c .before .before .before in
+    let left = head .loop .inv .1 .1 .bits in
+    let fewer = shr-le (getD (now (head .before .before .before .before .before .before .args .words)) (head .loop .at) 0) (head .loop .mask - 64 * head .loop .at) in
+    lowest-of (head .loop .rest) (c .lowest .result) (omega (arith, left, fewer, fits head)) (c .before .if2 .left) (c .lowest .ensures)
+
 near : (c : tie.After-lowest Inv-loop μ-loop) → c .before .before .before .loop .mask + c .lowest .result < 65536
 near c =
     let head = c .before .before .before in
@@ -62,7 +74,7 @@ near c =
     omega (
       arith,
       walk-near (now (a .words)) (now (a .sets)) (l .at) (l .mask) (l .rest) (l .next) (l .sets) (l .inv .1 .1) (c .before .before .loop-test .taken)
-          (fits head) (c .lowest .result) (c .lowest .ensures),
+          (fits head) (c .lowest .result) (low c),
     )
 
 room : (c : tie.After-lowest Inv-loop μ-loop) → c .before .before .before .loop .next < length (now (c .before .before .before .before .before .before .before .before .before .args .sets))
@@ -74,13 +86,13 @@ room c =
       arith,
       l .inv .1 .1 .listed .ends,
       walk-room (now (a .words)) (now (a .sets)) (l .at) (l .mask) (l .rest) (l .next) (l .sets) (l .inv .1 .1)
-          (c .before .before .loop-test .taken) (fits head) (c .lowest .result) (c .lowest .ensures) (all head),
+          (c .before .before .loop-test .taken) (fits head) (c .lowest .result) (low c) (all head),
     )
 
 loop-holds : tie.Need-loop-holds Inv-loop μ-loop
 loop-holds c =
     let a = c .before .before .before .before .before .args in
-    (c .before .before .count .ensures, (c .before .if1 .left, walk-start (now (a .words)) (now (a .sets)) (c .word .result) (c .word .ensures)))
+    (c .before .before .count .ensures, (c .before .if1 .left, walk-start (now (a .words)) (now (a .sets)) (c .cell .result) (c .cell .ensures)))
 
 add-at : tie.Need-add-at Inv-loop μ-loop
 add-at c = omega arith
@@ -88,8 +100,8 @@ add-at c = omega arith
 mul-mask : tie.Need-mul-mask Inv-loop μ-loop
 mul-mask c = omega arith
 
-word-requires-2 : tie.Need-word-requires-2 Inv-loop μ-loop
-word-requires-2 c κs = search needs
+cell-requires-2 : tie.Need-cell-requires-2 Inv-loop μ-loop
+cell-requires-2 c κs = search needs
 
 loop-less : tie.Need-loop-less Inv-loop μ-loop
 loop-less c = omega (arith, c .before .before .before .loop .inv .1 .1 .high)
@@ -99,7 +111,7 @@ loop-again c =
     let head = c .before .before .before in
     let a = head .before .before .before .before .before .before .args in
     let l = head .loop in
-    (l .inv .0, (l .inv .1 .0, walk-turn (now (a .words)) (now (a .sets)) (l .at) (l .mask) (l .rest) (l .next) (l .sets) (l .inv .1 .1) (c .before .before .loop-test .taken) (c .before .if2 .taken) (c .word2 .result) (c .word2 .ensures)))
+    (l .inv .0, (l .inv .1 .0, walk-turn (now (a .words)) (now (a .sets)) (l .at) (l .mask) (l .rest) (l .next) (l .sets) (l .inv .1 .1) (c .before .before .loop-test .taken) (c .before .if2 .taken) (c .cell2 .result) (c .cell2 .ensures)))
 
 lowest-requires : tie.Need-lowest-requires Inv-loop μ-loop
 lowest-requires c κs = search needs
@@ -124,7 +136,7 @@ add-mask-2 : tie.Need-add-mask-2 Inv-loop μ-loop
 add-mask-2 c = omega (arith, near c)
 
 shr-rest : tie.Need-shr-rest Inv-loop μ-loop
-shr-rest c = c .lowest .ensures .within
+shr-rest c = low c .within
 
 loop-less-2 : tie.Need-loop-less-2 Inv-loop μ-loop
 loop-less-2 c = omega (arith, near c)
@@ -138,7 +150,7 @@ loop-again-2 c =
       (
         l .inv .1 .0,
         walk-found (now (a .words)) (now (a .sets)) (l .at) (l .mask) (l .rest) (l .next) (l .sets) (l .inv .1 .1) (c .before .before .loop-test .taken)
-            (fits head) (c .lowest .result) (c .lowest .ensures) (all head),
+            (fits head) (c .lowest .result) (low c) (all head),
       ),
     )
 
@@ -161,12 +173,13 @@ list-spec =
     Inv-loop
     μ-loop
     count-requires
+    short-requires
     returns
-    word-requires
+    cell-requires
     loop-holds
     add-at
     mul-mask
-    word-requires-2
+    cell-requires-2
     loop-less
     loop-again
     lowest-requires

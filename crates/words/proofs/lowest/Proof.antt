@@ -1,10 +1,8 @@
--- `words::lowest` meets its contract: below the zeros that the machine counts stands the lowest bit that is set.
+-- `words::lowest` meets its contract: the zeros that the machine counts end at the lowest bit that is set.
 -- Assumes nothing.
-use mathlib.Core.Path.{sym, subst}
-use Prim.Native.Nat.{ℕ}
+use mathlib.Core.Path.{_∙_}
 use native.Mathlib.Omega.{arith}
-use Rattle.words.specs.Steps.{Lowest}
-use Rattle.words.proofs.Runs.{lowest-bit}
+use Rattle.words.proofs.Runs.{lowest-least}
 use borrow.Author.Needs.{needs}
 use Rattle.words.proofs.lowest.Statement.{statement}
 use Rattle.words.proofs.lowest.Tie as tie
@@ -13,7 +11,7 @@ wide-requires : tie.Need-wide-requires
 wide-requires c κs = search needs
 
 returns : tie.Need-returns
-returns c = subst (λ (i : ℕ). Lowest (c .before .args .word) i) (sym (c .wide .ensures)) (lowest-bit (c .before .args .word) (omega arith) (c .before .pre))
+returns c = c .wide .ensures ∙ lowest-least (c .before .args .word) (omega arith)
 
 pub lowest-spec : {M : Type 1} → statement M
 lowest-spec = tie.close (tie.spec wide-requires returns)

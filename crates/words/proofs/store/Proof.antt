@@ -32,8 +32,8 @@ kept c = ap length (c .loop .inv .1) ∙ filled-length (byteFor (now (c .before 
 loop-holds : tie.Need-loop-holds Inv-loop μ-loop
 loop-holds c = (omega arith, filled-none (byteFor (now (c .before .before .args .words))) _)
 
-word-requires : tie.Need-word-requires Inv-loop μ-loop
-word-requires c κs = search needs
+cell-requires : tie.Need-cell-requires Inv-loop μ-loop
+cell-requires c κs = search needs
 
 byte-of-requires : tie.Need-byte-of-requires Inv-loop μ-loop
 byte-of-requires c κs = search needs
@@ -58,7 +58,7 @@ loop-again c =
     let b = head .loop .b in (
       omega arith,
       filled-again (byteFor words) _ b (c .byte-of .result) (head .loop .table) (head .loop .inv .1) (omega arith)
-          (c .byte-of .ensures ∙ ap (λ (w : ℕ). packed 8 (λ k. has w (8 * (b % 8) + k))) (c .before .word .ensures) ∙ byte-at words b),
+          (c .byte-of .ensures ∙ ap (λ (w : ℕ). packed 8 (λ k. has w (8 * (b % 8) + k))) (c .before .cell .ensures) ∙ byte-at words b),
     )
 
 same-length : tie.Need-same-length Inv-loop μ-loop
@@ -77,7 +77,7 @@ store-spec =
     Inv-loop
     μ-loop
     loop-holds
-    word-requires
+    cell-requires
     byte-of-requires
     slice-write-table
     add-b

@@ -9,15 +9,15 @@ use borrow.Author.Needs.{needs}
 use Rattle.words.proofs.works.Statement.{statement}
 use Rattle.words.proofs.works.Tie as tie
 
-word-requires : tie.Need-word-requires
-word-requires c κs = search needs
+cell-requires : tie.Need-cell-requires
+cell-requires c κs = search needs
 
 shr-result : tie.Need-shr-result
 shr-result c = search needs
 
 returns : tie.Need-returns
 unfolding inWords has
-returns c = ap (λ (w : ℕ). eqb (w / 2 ^ (c .before .before .args .mask % 64) % 2) 1) (c .word .ensures)
+returns c = ap (λ (w : ℕ). eqb (w / 2 ^ (c .before .before .args .mask % 64) % 2) 1) (c .cell .ensures)
 
 pub works-spec : {M : Type 1} → statement M
-works-spec = tie.close (tie.spec word-requires shr-result returns)
+works-spec = tie.close (tie.spec cell-requires shr-result returns)

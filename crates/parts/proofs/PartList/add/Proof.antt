@@ -7,13 +7,15 @@ use Prim.Native.Nat.{ℕ, _+_, _<_}
 use native.Mathlib.Omega.{arith}
 use borrow.Author.Needs.{needs}
 use borrow.Author.Tests.{eq-eqb, ne-eqb}
-use lib.ListN.{length, set, length-append}
+use lib.ListN.{length, take, set, length-append}
+use Rattle.numbering.proofs.InCells.{cells-few}
 use Rattle.parts.specs.declared.PartList.{PartList}
 use Rattle.parts.specs.declared.Numbered.the-variants.{Number}
-use Rattle.parts.specs.PartLists.{mostParts, cellsOf, numbersOf}
+use Rattle.answer.proofs.FixedCells.{cells-more}
+use Rattle.numbering.specs.Numbering.{mostParts, cellsOf}
+use Rattle.parts.specs.PartLists.{numbersOf}
 use Rattle.parts.specs.Changes.{changed, addRefusal, withPart, added}
 use Rattle.parts.proofs.LeftOut.{without-none}
-use Rattle.parts.proofs.InCells.{cells-more}
 use Rattle.parts.proofs.Changing.{change-broken, change-refused, change-made, Usable, usable}
 use Rattle.parts.proofs.PartList.add.Statement.{statement}
 use Rattle.parts.proofs.PartList.add.Tie as tie
@@ -89,7 +91,7 @@ slice-aggregate-cells : tie.Need-slice-aggregate-cells
 slice-aggregate-cells c = let e = c .before .before .before in omega (arith, whole e .counted)
 
 cells-requires : tie.Need-cells-requires
-cells-requires c κs = let e = c .before .before .before in omega (arith, spare e, whole e .counted)
+cells-requires c κs = search needs
 
 mul-cells : tie.Need-mul-cells
 mul-cells c = omega (arith, spare (c .before .before .before .before))
@@ -113,9 +115,10 @@ returns-4 c =
     let counts : list .count + 1 ≡ length (numbersOf list ++ (issued ∷ [])) =
     omega (arith, length-append (numbersOf list) (issued ∷ [])) in
     let first : c .cells .result ≡ cellsOf (numbersOf list) =
-    c .cells .ensures ∙ ap cellsOf (without-none (list .count) (numbersOf list) (omega arith)) in
+    c .cells .ensures ∙ ap (λ (l : List ℕ). take mostParts (cellsOf l)) (without-none (list .count) (numbersOf list) (omega arith))
+    ∙ cells-few (numbersOf list) (omega (arith, spare e)) in
     let stored : set (c .cells .result) (list .count) issued ≡ cellsOf (numbersOf list ++ (issued ∷ [])) =
-    ap (λ (cells : List ℕ). set cells (list .count) issued) first ∙ cells-more (numbersOf list) (list .count) issued counted (spare e) in
+    ap (λ (cells : List ℕ). set cells (list .count) issued) first ∙ cells-more mostParts 0 (numbersOf list) (list .count) issued counted (spare e) in
     ap (λ (number : ℕ). changed (record { count = list .count + 1; mark = number; numbers = set (c .cells .result) (list .count) number }) (Number number))
     (n .next-number .ensures)
     ∙ ap₂ (λ (count : ℕ) (cells : List ℕ). changed (record { count = count; mark = issued; numbers = cells }) (Number issued)) counts stored

@@ -6,7 +6,8 @@ use native.Mathlib.Omega.{arith}
 use borrow.Author.Needs.{needs}
 use borrow.Author.Tests.{ne-eqb, lt-ltb}
 use lib.ListN.{length}
-use Rattle.parts.specs.PartLists.{mostParts, numbersOf, listRefusal}
+use Rattle.numbering.specs.Numbering.{mostParts, partListRefusal}
+use Rattle.parts.specs.PartLists.{numbersOf}
 use Rattle.parts.proofs.InCells.{cells-all, numbers-counted}
 use Rattle.parts.proofs.PartList.judged.Statement.{statement}
 use Rattle.parts.proofs.PartList.judged.Tie as tie
@@ -15,7 +16,7 @@ refused-requires : tie.Need-refused-requires
 refused-requires c κs = search needs
 
 returns : tie.Need-returns
-unfolding listRefusal
+unfolding partListRefusal
 returns c =
     let list = c .before .before .before .args .self in
     simp (ne-eqb (list .count) 0 (λ e. omega arith), lt-ltb mostParts (list .count) (c .before .if1 .taken)) (c .refused .ensures)
@@ -37,7 +38,7 @@ judge-requires c κs = search needs
 returns-2 : tie.Need-returns-2
 returns-2 c =
     let list = c .before .before .before .before .args .self in
-    c .judge .ensures ∙ ap (λ (n : ℕ). listRefusal n (list .mark) (numbersOf list)) (counted (c .before .before))
+    c .judge .ensures ∙ ap (λ (n : ℕ). partListRefusal n (list .mark) (numbersOf list)) (counted (c .before .before))
 
 pub judged-spec : {M : Type 1} → statement M
 judged-spec =

@@ -12,7 +12,9 @@ use lib.Seq.{getD-take}
 use Rattle.parts.specs.declared.PartList.{PartList}
 use Rattle.parts.specs.declared.Numbered.the-variants.{Number}
 use Rattle.parts.specs.PartLists.{numbersOf}
-use Rattle.parts.specs.Changes.{changed, without, takeOutRefusal, withoutPart, takenOut}
+use Rattle.numbering.proofs.InCells.{cells-few}
+use Rattle.numbering.specs.Numbering.{without}
+use Rattle.parts.specs.Changes.{changed, takeOutRefusal, withoutPart, takenOut}
 use Rattle.parts.proofs.LeftOut.{length-without}
 use Rattle.parts.proofs.Changing.{change-broken, change-refused, change-made, Usable, usable}
 use Rattle.parts.proofs.PartList.take_out.Statement.{statement}
@@ -119,7 +121,7 @@ sub-cells : tie.Need-sub-cells
 sub-cells c = search needs
 
 cells-requires : tie.Need-cells-requires
-cells-requires c κs = let e = c .before .before in omega (arith, whole e .rules .few, whole e .counted)
+cells-requires c κs = search needs
 
 sub-t11 : tie.Need-sub-t11
 sub-t11 c = search needs
@@ -138,7 +140,7 @@ returns-5 c =
     sym (getD-take (list .count) (list .numbers) index 0 (within e)) in
     ap₂ (λ (count : ℕ) (taken : ℕ). changed (record { count = count; mark = list .mark; numbers = c .cells .result }) (Number taken)) counts number
     ∙ ap (λ (cells : List ℕ). changed (record { count = length (without index (numbersOf list)); mark = list .mark; numbers = cells }) (Number (getD (numbersOf list) index 0)))
-    (c .cells .ensures)
+    (c .cells .ensures ∙ cells-few (without index (numbersOf list)) (omega (arith, counts, whole e .rules .few)))
     ∙ sym (change-made list (takeOutRefusal list (position e)) (withoutPart list (position e)) (sym (j .judged .ensures) ∙ t .enum-told .given .1)
     (simp (ne-eqb _ _ (e .before .before .if1 .left), le-ltb _ _ (e .before .if2 .left), ne-eqb _ _ (e .if3 .left))))
 

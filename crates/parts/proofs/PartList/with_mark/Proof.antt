@@ -7,12 +7,14 @@ use Prim.Native.Nat.{ℕ}
 use native.Mathlib.Nat.{le-refl}
 use denote.Ref.{now}
 use borrow.Author.Needs.{needs}
-use lib.ListN.{length}
+use lib.ListN.{length, take}
 use Rattle.answer.specs.declared.Verdict.{Verdict}
 use Rattle.answer.specs.declared.Verdict.the-variants.{Accepted}
-use Rattle.parts.specs.PartLists.{cellsOf, listOf, listed, made}
+use Rattle.numbering.specs.Numbering.{mostParts, cellsOf}
+use Rattle.parts.specs.PartLists.{listOf, listed, made}
 use Rattle.parts.proofs.LeftOut.{without-none}
-use Rattle.parts.proofs.Rules.{accepted-rules}
+use Rattle.numbering.proofs.InCells.{cells-few}
+use Rattle.numbering.proofs.Rules.{accepted-rules}
 use Rattle.parts.proofs.PartList.with_mark.Statement.{statement}
 use Rattle.parts.proofs.PartList.with_mark.Tie as tie
 
@@ -26,10 +28,7 @@ enum-told : tie.Need-enum-told
 enum-told c = search needs
 
 cells-requires : tie.Need-cells-requires
-cells-requires c κs =
-    let j = c .before .before in
-    let a = j .before .before .args in
-    accepted-rules (length (now (a .numbers))) (a .mark) (now (a .numbers)) (sym (j .judge .ensures) ∙ c .enum-told .given .1) .few
+cells-requires c κs = search needs
 
 returns : tie.Need-returns
 unfolding made
@@ -44,9 +43,11 @@ returns-2 c =
     let j = c .before .before .before in
     let a = j .before .before .args in
     let n = now (a .numbers) in
+    let accepted = sym (j .judge .ensures) ∙ c .before .enum-told .given .1 in
     ap (λ (cells : List ℕ). record { list = record { count = length n; mark = a .mark; numbers = cells }; verdict = Accepted })
-    (c .cells .ensures ∙ ap cellsOf (without-none (length n) n (le-refl _)))
-    ∙ sym (ap (λ (v : Verdict). listed v (listOf (a .mark) n)) (sym (j .judge .ensures) ∙ c .before .enum-told .given .1))
+    (c .cells .ensures ∙ ap (λ (l : List ℕ). take mostParts (cellsOf l)) (without-none (length n) n (le-refl _))
+    ∙ cells-few n (accepted-rules (length n) (a .mark) n accepted .few))
+    ∙ sym (ap (λ (v : Verdict). listed v (listOf (a .mark) n)) accepted)
 
 pub with-mark-spec : {M : Type 1} → statement M
 with-mark-spec =

@@ -1,0 +1,59 @@
+-- The part numbers and the mark of a part list (01, "Records on disk"): the rules that they keep, and what refuses them.
+use mathlib.Core.Bool.{Bool, true, cond}
+use mathlib.Core.List.{List, [], _∷_, _++_}
+use Prim.Native.Nat.{ℕ, suc, _-_, _^_, _≤_, _<_, max}
+use lib.Dec.{leb, ltb, eqb}
+use lib.ListN.{length, take, drop, replicate}
+use Rattle.answer.specs.Refusals.{wrongPartCount, wrongPartNumber}
+use Rattle.answer.specs.Outcome.{refuse}
+use Rattle.answer.specs.declared.Verdict.{Verdict}
+use Rattle.answer.specs.declared.Verdict.the-variants.{Accepted}
+
+-- the most parts of a machine
+abbrev pub mostParts : ℕ
+mostParts = 16
+
+-- the top part number: record numbers reach 2^32-1
+abbrev pub topNumber : ℕ
+topNumber = 2 ^ 32 - 1
+
+-- strictly rising, each above `low` and none above `high`
+abbrev pub RisingWithin : ℕ → ℕ → List ℕ → Type 0
+RisingWithin low high [] = Unit
+RisingWithin low high (number ∷ numbers) = (low < number) × (number ≤ high) × RisingWithin number high numbers
+
+-- What 01 asks of a part list: 1 to 16 part numbers, strictly rising, 1 or more, none above the mark, and the mark no higher than the top
+-- number.
+pub record Rules (count mark : ℕ) (numbers : List ℕ) : Type 0 where
+  pub some : 1 ≤ count
+  pub few : count ≤ mostParts
+  pub rising : RisingWithin 0 mark numbers
+  pub top : mark ≤ topNumber
+
+-- a part number that 23 refuses: not above the one before it (0 before the first), or above the mark or the top number
+abbrev pub misnumbered : ℕ → ℕ → ℕ → Bool
+misnumbered previous mark number = cond (leb number previous) true (cond (ltb mark number) true (ltb topNumber number))
+
+-- 23 at the index of the first wrong number. Behind the last number the mark, itself a part number, is held against the top number.
+abbrev pub numbersRefusal : ℕ → ℕ → ℕ → List ℕ → Verdict
+numbersRefusal previous mark index [] = refuse (ltb topNumber mark) wrongPartNumber index Accepted
+numbersRefusal previous mark index (number ∷ numbers) =
+    refuse (misnumbered previous mark number) wrongPartNumber index (numbersRefusal number mark (suc index) numbers)
+
+-- the first refusal of a part list: 1 for its count, and then 23
+unfoldable pub partListRefusal : ℕ → ℕ → List ℕ → Verdict
+partListRefusal count mark numbers =
+    refuse (eqb count 0) wrongPartCount 0 (refuse (ltb mostParts count) wrongPartCount 0 (numbersRefusal 0 mark 0 numbers))
+
+-- the highest of some numbers
+abbrev pub highest : List ℕ → ℕ
+highest [] = 0
+highest (number ∷ numbers) = max number (highest numbers)
+
+-- numbers without the one at an index, in order
+abbrev pub without : ℕ → List ℕ → List ℕ
+without index numbers = take index numbers ++ drop (suc index) numbers
+
+-- the cells of a list of these numbers: the spare ones behind the last number hold 0
+abbrev pub cellsOf : List ℕ → List ℕ
+cellsOf numbers = numbers ++ replicate (mostParts - length numbers) 0

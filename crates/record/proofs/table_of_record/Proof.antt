@@ -47,10 +47,10 @@ table-length-requires : tie.Need-table-length-requires
 table-length-requires c κs = search needs
 
 -- the bytes of a table of n parts
-counted : (c : tie.After-table-length) → c .table-length .result ≡ tableLength (c .before .before .before .whole-record .result .list .count)
+counted : (c : tie.After-table-length) → c .table-length .result ≡ tableLength (c .before .before .before .before .whole-record .result .list .count)
 counted c =
-    let n = c .before .before .before .whole-record .result .list .count in
-    c .table-length .ensures ∙ upTo16-given n (tableLength n) (read (c .before) .accepted .few)
+    let n = c .before .before .before .before .whole-record .result .list .count in
+    c .table-length .ensures ∙ upTo16-given n (tableLength n) (read (c .before .before) .accepted .few)
 
 short-requires : tie.Need-short-requires
 short-requires c κs = search needs

@@ -1,4 +1,5 @@
-// Lists of sets (01, "Structures" and "Records on disk"): the minimal sets of one, also with a set added, and what is left of one without a part.
+// Lists of sets (01, "Structures" and "Records on disk"): the minimal sets of one, also with a set added, and what is left of one without a
+// part.
 use answer::Verdict;
 use answer::Written;
 ghost use mathlib.Core.Path.{_≡_};

@@ -11,7 +11,7 @@ use Rattle.answer.specs.declared.Verdict.{Verdict}
 use Rattle.answer.specs.declared.Verdict.the-variants as verdict
 use Rattle.parts.specs.declared.PartList.{PartList}
 use Rattle.sets.specs.Masks.{holds}
-use Rattle.heading.specs.Headings.{Read, found, refused, then, fieldAt, Head, headAt}
+use Rattle.heading.specs.Headings.{Read, found, refused, then, fieldAt, headAt}
 
 -- ---- the checks of a set, with its first byte as place
 

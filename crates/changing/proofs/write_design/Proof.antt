@@ -1,4 +1,5 @@
--- `changing::write_design` meets its contract: a well-formed list is the list of its mark and its numbers, and the sets of a design are accepted.
+-- `changing::write_design` meets its contract: a well-formed list is the list of its mark and its numbers, and the sets of a design are a list
+-- that nothing refuses.
 -- Assumes nothing.
 use mathlib.Core.Path.{_≡_, sym, ap, ap₂, _∙_}
 use Prim.Native.Nat.{ℕ, _-_}

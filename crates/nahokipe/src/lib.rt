@@ -4,7 +4,7 @@ use answer::Written;
 use record::Contents;
 use record::Cursor;
 use record::Step;
-use sheet::Received;
+use sheet_entries::Received;
 ghost use mathlib.Core.Path.{_≡_};
 ghost use Rattle.answer.specs.Outcome.{delivered};
 ghost use Rattle.sets.specs.Structures.{listed, minimalSets};
@@ -15,15 +15,15 @@ ghost use Rattle.signature.specs.All.{buffersOf, allFigures};
 ghost use Rattle.shares.specs.Refusals.{sharesRefusal};
 ghost use Rattle.shares.specs.Shares.{sharesBySets, sharesByReliability, reliabilityCells, groupCounts};
 ghost use Rattle.subsignature.specs.Both.{bothDelivered};
-ghost use Rattle.vector.specs.Kinds.{kindOf, kindRefusal};
-ghost use Rattle.vector.specs.Vectors.{vectorRefusal, converted};
+ghost use Rattle.kind.specs.Kinds.{kindOf, kindRefusal};
+ghost use Rattle.conversion.specs.Vectors.{vectorRefusal, converted};
 ghost use Rattle.record.specs.Contents.{wholeContents, contentsAt, cursor, stepAt, recordRefusal, designIn};
 ghost use Rattle.answer.specs.Outcome.{at};
 ghost use Rattle.changes.specs.Changes.{addPart, takeOut, addSet};
 ghost use Rattle.changes.specs.Records.{firstRecord, changedRecord};
 ghost use Rattle.sheet.specs.Sheets.{sheetBytes, sheetOf};
-ghost use Rattle.sheet.specs.Answers.{received};
-ghost use Rattle.report_text.specs.Reports.{refusedLine};
+ghost use Rattle.sheet_entries.specs.Answers.{received};
+ghost use Rattle.report_lines.specs.Lines.{refusedLine};
 ghost use Rattle.report_text.specs.Reporting.{reported};
 ghost use Prim.Native.Nat.{_-_};
 ghost use Rattle.nahokipe.specs.Answers.{ofVerdict, ofWritten, ofContents, ofStep, ofReceived, Leaves, LeavesAll, LeavesBoth, LeavesSheet, LeavesReport};
@@ -247,7 +247,7 @@ pub extern "C" fn nahokipe_write_sheet(
 pub extern "C" fn nahokipe_read_sheet(bytes: &[u8], cells: &mut [i64]) -> Sheet
     ensures { λ r. ⌜ LeavesSheet (received (sheetOf (now (bytes .entry))) (now (cells .entry))) r (now (cells .exit)) ⌝ }
 {
-    of_received(sheet::read_sheet(bytes, cells))
+    of_received(sheet_entries::read_sheet(bytes, cells))
 }
 
 // What stands in the record that the bytes are.
@@ -328,7 +328,7 @@ pub extern "C" fn nahokipe_report(bytes: &[u8], table: &mut [u8], text: &mut [u8
 pub extern "C" fn nahokipe_refused_line(number: u8, place: usize, text: &mut [u8]) -> Answer
     ensures { λ r. ⌜ Leaves (delivered Verdict.Accepted (refusedLine (at number place)) (now (text .entry))) r (now (text .exit)) ⌝ }
 {
-    of_written(report_text::refused_line(number, place, text))
+    of_written(report_lines::refused_line(number, place, text))
 }
 
 fn of_verdict(verdict: Verdict) -> Answer

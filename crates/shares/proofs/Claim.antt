@@ -9,11 +9,11 @@ use lib.Dec.{leb, eqb}
 use lib.IntN.{ℤ, pos}
 use lib.ListN.{length, getD, drop, List·getD-append}
 use borrow.Author.Tests.{leb-false, eqb-false}
-use Rattle.answer.specs.Outcome.{delivered, refuse, andThen}
+use Rattle.answer.specs.Outcome.{delivered, refuse}
 use Rattle.answer.specs.Refusals.{emptyGroup, unknownGroupPart}
 use Rattle.answer.specs.declared.Verdict.{Verdict}
-use Rattle.answer.specs.declared.Verdict.the-variants.{Accepted, Refused}
-use Rattle.answer.proofs.Outcomes.{refuse-accepted}
+use Rattle.answer.specs.declared.Verdict.the-variants.{Accepted}
+use Rattle.answer.proofs.Outcomes.{refuse-accepted, then-accepted}
 use Rattle.numbers.proofs.Tables.{tabulate-length, tabulate-at}
 use Rattle.sets.specs.Masks.{size}
 use Rattle.sets.specs.Structures.{Semicoherent}
@@ -68,10 +68,6 @@ accepted-group n table group h =
       some = omega arith;
       within = omega (arith, leb-false (2 ^ n) group (known .0));
     }
-  where
-    then-accepted : (first later : Verdict) → andThen first later ≡ Accepted → (first ≡ Accepted) × (later ≡ Accepted)
-    then-accepted (Refused refusal) later h = absurd (let wrong : _≡_ {A = ℕ} 0 1 = cc in omega arith)
-    then-accepted Accepted later h = (refl, h)
 
 -- ---- the claim
 

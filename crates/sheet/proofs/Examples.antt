@@ -9,9 +9,9 @@ use Rattle.algebra.specs.Sums.{sumBelowℤ}
 use Rattle.sets.specs.Masks.{any, those}
 use Rattle.codec.specs.ByteForm.{grouped, bytesOf}
 use Rattle.codec.specs.Reading.{numberIn, numberAt}
-use Rattle.vector.specs.Kinds.{kindOf}
-use Rattle.vector.specs.Vectors.{scaledCount, unitOf, wrongCount, falls, countsRefusal}
-use Rattle.vector.specs.declared.Kind.the-variants.{Signature, Domination}
+use Rattle.kind.specs.Kinds.{kindOf}
+use Rattle.conversion.specs.Vectors.{scaledCount, unitOf, wrongCount, falls, countsRefusal}
+use Rattle.kind.specs.declared.Kind.the-variants.{Signature, Domination}
 use Rattle.sheet.specs.Sheets.{Given, Refused, entryBytes, sheetBytes, afterEntries, sheetOf}
 
 empty : sheetOf [] ≡ Refused (at 21 0)

@@ -1,5 +1,5 @@
 -- What the figures of an accepted table are: each entry of the signature is the count of failure orders for all parts, each importance the count
--- for its part alone. Assumes nothing.
+-- for its part alone, and its figures are accepted vectors, which convert into each other. Assumes nothing.
 use mathlib.Core.Path.{_≡_, ap, _∙_}
 use mathlib.Core.List.{List}
 use Prim.Native.Nat.{ℕ, suc, _-_, _^_}
@@ -13,10 +13,13 @@ use Rattle.orders.specs.Formulas.{pathCount}
 use Rattle.sets.specs.Tables.{inTable}
 use Rattle.structure.specs.Checks.{tableRefusal}
 use Rattle.structure.proofs.Acceptance.{accepted-table}
+use Rattle.kind.specs.declared.Kind.{Kind}
+use Rattle.conversion.specs.Vectors.{vectorRefusal, converted, figuresOf}
 use Rattle.figures.specs.Figures.{signature, importance, signatures, importances}
 use Rattle.numbers.proofs.Tables.{tabulate-same}
 use Rattle.figures.proofs.Tails.{signature-is-count}
 use Rattle.figures.proofs.Importances.{importance-is-count}
+use Rattle.conversion.proofs.Conversions.{structure-accepted, structure-convert}
 
 module _ (n : ℕ) (table : List ℕ) (accepted : tableRefusal n table ≡ Accepted) where
   pub signature-counts : signatures n (inTable table) ≡ tabulate n (λ k. pos (count n (inTable table) (2 ^ n - 1) (suc k)))
@@ -30,3 +33,13 @@ module _ (n : ℕ) (table : List ℕ) (accepted : tableRefusal n table ≡ Accep
       (λ i h.
       importance-is-count n (inTable table) (accepted-table n table accepted .semicoherent) (suc i) (omega arith) h
       ∙ ap (λ (x : ℕ). count n (inTable table) (2 ^ x) 1) (sub-one (suc i)))
+
+  pub vectors-accepted : (kind : Kind) → vectorRefusal kind n (figuresOf kind n (inTable table)) ≡ Accepted
+  vectors-accepted =
+      let a = accepted-table n table accepted in
+      structure-accepted n (a .some) (a .few) (inTable table) (a .semicoherent)
+
+  pub vectors-converted : (kind target : Kind) → converted target kind n (figuresOf kind n (inTable table)) ≡ figuresOf target n (inTable table)
+  vectors-converted =
+      let a = accepted-table n table accepted in
+      structure-convert n (a .some) (a .few) (inTable table) (a .semicoherent)

@@ -10,10 +10,12 @@ use native.Mathlib.Omega.{arith}
 use lib.Count.{ones-le}
 use lib.Dec.{eqb}
 use lib.ListN.{length, getD, take, drop, List·getD-eq-default}
+use lib.IntN.{ℤ, pos}
 use lib.Pow.{pow-mono}
+use lib.Seq.{getD-take, length-take-le}
 use borrow.Author.Tests.{ne-eqb, lt-leb}
 use Rattle.numbers.specs.Tables.{tabulate}
-use Rattle.numbers.proofs.Tables.{tabulate-at, tabulate-length}
+use Rattle.numbers.proofs.Tables.{tabulate-at, tabulate-length, tabulate-unique}
 use Rattle.algebra.specs.Sums.{sumBelow}
 use Rattle.algebra.proofs.Sums.{sumBelow-same, sumBelow-zero, sumBelow-append}
 use Rattle.sets.specs.Masks.{has, size}
@@ -26,11 +28,13 @@ use Rattle.figures.proofs.Ranges.{factorials-few}
 use Rattle.words.specs.Words.{inWords, wordOf, wordsOf}
 use Rattle.words.proofs.Words.{inWords-wordsOf}
 use Rattle.structure.proofs.Acceptance.{AcceptedTable, table-beyond}
-use Rattle.figures.specs.Figures.{importance, importances}
-use Rattle.signature.specs.Steps.{hasPart, Few, countsOf, ways, addedSets, takenSets, Parted, rowsOf, row, importanceBy, Rows}
+use Rattle.figures.specs.Figures.{importance, pathCounts, importances}
+use Rattle.tally.specs.Rows.{hasPart, rowsOf, row}
+use Rattle.tally.specs.Steps.{Few}
+use Rattle.signature.specs.Steps.{countsOf, entriesOf, sizedIn, rowsIn, ways, addedSets, takenSets, Parted, importanceBy, Rows}
 use Rattle.figures.proofs.Sizes.{pathCount-few}
 use Rattle.numbers.proofs.Tables.{tabulate-same}
-use Rattle.signature.proofs.Rows.{row-is}
+use Rattle.tally.proofs.Rows.{row-is}
 use Rattle.figures.proofs.Importances.{withPart, withPart-fewer, importance-by-size}
 
 -- ---- the words of a table
@@ -96,80 +100,87 @@ module _ (n : ℕ) (table : List ℕ) (accepted : AcceptedTable n table) where
   beyond : (a : ℕ) → 2 ^ n ≤ a → inTable table a ≡ false
   beyond = table-beyond n table (accepted .long) (accepted .clear)
 
-  -- the words that were loaded
-  module _ (words : List ℕ) (loaded : words ≡ wordsOf (inTable table)) where
-    works : inWords words ≡ inTable table
-    works = ap inWords loaded ∙ words-table n table accepted
+  works : inWords (wordsOf (inTable table)) ≡ inTable table
+  works = words-table n table accepted
 
-    module _ (counts : List ℕ) (is : counts ≡ tabulate 17 (pathCount 16 (inWords words))) where
-      pub table-counts : countsOf counts ≡ pathCount n (inTable table)
-      table-counts = counted n (inTable table) (accepted .few) beyond counts (is ∙ ap (λ (f : ℕ → Bool). tabulate 17 (pathCount 16 f)) works)
+  module _ (counts : List ℕ) (is : counts ≡ sizedIn table) where
+    pub table-counts : countsOf counts ≡ pathCount n (inTable table)
+    table-counts = counted n (inTable table) (accepted .few) beyond counts (is ∙ ap (λ (f : ℕ → Bool). tabulate 17 (pathCount 16 f)) works)
 
-      pub table-few : Few counts
-      table-few s =
-          le-trans (le-of-eq (ap (λ (f : ℕ → ℕ). f s) table-counts)) (le-trans (pathCount-few n (inTable table) s) (pow-mono (accepted .few)))
+    pub table-few : Few counts
+    table-few s =
+        le-trans (le-of-eq (ap (λ (f : ℕ → ℕ). f s) table-counts)) (le-trans (pathCount-few n (inTable table) s) (pow-mono (accepted .few)))
 
-    module _ (rows : List ℕ) (is : rows ≡ rowsOf (inWords words)) where
-      row-of : (part : ℕ) → part < 17 → row part rows ≡ tabulate 17 (pathCount 16 (λ a. inTable table a && hasPart part a))
-      row-of part h =
-          ap₂ (λ (k : ℕ) (xs : List ℕ). take k (drop (17 * part) xs)) (sym (add-sub-cancel-left (17 * part) 17)) (is ∙ ap rowsOf works)
-          ∙ row-is (inTable table) part h
+    -- as entries, those up to n
+    pub table-entries : (entries : List ℤ) → entries ≡ entriesOf counts → take (n + 1) entries ≡ pathCounts n (inTable table)
+    table-entries entries e =
+        tabulate-unique (n + 1) (λ j. pos (pathCount n (inTable table) j)) (take (n + 1) entries) (pos 0)
+        (length-take-le (n + 1) entries (omega (arith, accepted .few, ap length e ∙ tabulate-length 17 (λ s. pos (countsOf counts s)))))
+        (λ j h.
+        getD-take (n + 1) entries j (pos 0) h ∙ ap (λ (xs : List ℤ). getD xs j (pos 0)) e
+        ∙ tabulate-at 17 (λ s. pos (countsOf counts s)) j (pos 0) (omega (arith, h, accepted .few)) ∙ ap (λ (f : ℕ → ℕ). pos (f j)) table-counts)
 
-      -- the row of all path sets
-      pub all-row : row 16 rows ≡ tabulate 17 (pathCount 16 (inWords words))
+  module _ (rows : List ℕ) (is : rows ≡ rowsIn table) where
+    row-of : (part : ℕ) → part < 17 → row part rows ≡ tabulate 17 (pathCount 16 (λ a. inTable table a && hasPart part a))
+    row-of part h =
+        ap₂ (λ (k : ℕ) (xs : List ℕ). take k (drop (17 * part) xs)) (sym (add-sub-cancel-left (17 * part) 17)) (is ∙ ap rowsOf works)
+        ∙ row-is (inTable table) part h
+
+    -- the row of all path sets
+    pub all-row : row 16 rows ≡ sizedIn table
+    unfolding hasPart
+    all-row =
+        row-of 16 (omega arith) ∙ ap (λ (f : ℕ → Bool). tabulate 17 (pathCount 16 f)) (fun-ext (λ a. and-true (inTable table a)) ∙ sym works)
+
+    module _ (i : ℕ) (l : i < n) where
+      -- the row of the sets with the part
+      part-row : countsOf (row i rows) ≡ withPart n (inTable table) i l
       unfolding hasPart
-      all-row =
-          row-of 16 (omega arith) ∙ ap (λ (f : ℕ → Bool). tabulate 17 (pathCount 16 f)) (fun-ext (λ a. and-true (inTable table a)) ∙ sym works)
+      part-row =
+          counted n (λ a. inTable table a && has a i) (accepted .few) (λ a h. ap (λ (b : Bool). b && has a i) (beyond a h)) (row i rows)
+          (row-of i low
+          ∙ ap (λ (f : ℕ → Bool). tabulate 17 (pathCount 16 f))
+          (fun-ext (λ a. ap (λ (b : Bool). inTable table a && (b || has a i)) (lt-leb 16 i lower))))
+        where
+          lower : i < 16
+          lower = omega (arith, accepted .few)
 
-      module _ (i : ℕ) (l : i < n) where
-        -- the row of the sets with the part
-        part-row : countsOf (row i rows) ≡ withPart n (inTable table) i l
-        unfolding hasPart
-        part-row =
-            counted n (λ a. inTable table a && has a i) (accepted .few) (λ a h. ap (λ (b : Bool). b && has a i) (beyond a h)) (row i rows)
-            (row-of i low
-            ∙ ap (λ (f : ℕ → Bool). tabulate 17 (pathCount 16 f))
-            (fun-ext (λ a. ap (λ (b : Bool). inTable table a && (b || has a i)) (lt-leb 16 i lower))))
-          where
-            lower : i < 16
-            lower = omega (arith, accepted .few)
+          low : i < 17
+          low = omega (arith, lower)
 
-            low : i < 17
-            low = omega (arith, lower)
+      part-sums : importance n (inTable table) (suc i) + takenSets n (row 16 rows) (row i rows) n ≡ addedSets n (row i rows) n
+      unfolding takenSets addedSets ways
+      part-sums =
+          ap₂ (λ (f g : ℕ → ℕ). importance n (inTable table) (suc i) + sumBelow (λ s. (f s - g s) * ways n s) n) (table-counts (row 16 rows) all-row) part-row
+          ∙ importance-by-size n (inTable table) i l (accepted .semicoherent)
+          ∙ ap (λ (g : ℕ → ℕ). sumBelow (λ s. g (suc s) * ways n s) n) (sym part-row)
 
-        part-sums : importance n (inTable table) (suc i) + takenSets n (row 16 rows) (row i rows) n ≡ addedSets n (row i rows) n
-        unfolding takenSets addedSets ways
-        part-sums =
-            ap₂ (λ (f g : ℕ → ℕ). importance n (inTable table) (suc i) + sumBelow (λ s. (f s - g s) * ways n s) n) (table-counts (row 16 rows) all-row) part-row
-            ∙ importance-by-size n (inTable table) i l (accepted .semicoherent)
-            ∙ ap (λ (g : ℕ → ℕ). sumBelow (λ s. g (suc s) * ways n s) n) (sym part-row)
+      part-is-importance : importanceBy n rows i ≡ importance n (inTable table) (suc i)
+      unfolding importanceBy
+      part-is-importance = omega (arith, part-sums)
 
-        part-is-importance : importanceBy n rows i ≡ importance n (inTable table) (suc i)
-        unfolding importanceBy
-        part-is-importance = omega (arith, part-sums)
-
-        part-rows : Parted n (row 16 rows) (row i rows)
-        part-rows =
-            record {
-              most = accepted .few;
-              few = table-few (row 16 rows) all-row;
-              fewer = λ s.
-                  le-trans (le-of-eq (ap (λ (f : ℕ → ℕ). f s) part-row))
-                  (le-trans (withPart-fewer n (inTable table) i l s) (le-of-eq (sym (ap (λ (f : ℕ → ℕ). f s) (table-counts (row 16 rows) all-row)))));
-              enough = omega (arith, part-sums);
-            }
-
-      pub table-rows : Rows n rows
-      unfolding rowsOf
-      table-rows =
+      part-rows : Parted n (row 16 rows) (row i rows)
+      part-rows =
           record {
             most = accepted .few;
-            long = ap length is ∙ tabulate-length 289 _;
-            parted = part-rows;
+            few = table-few (row 16 rows) all-row;
+            fewer = λ s.
+                le-trans (le-of-eq (ap (λ (f : ℕ → ℕ). f s) part-row))
+                (le-trans (withPart-fewer n (inTable table) i l s) (le-of-eq (sym (ap (λ (f : ℕ → ℕ). f s) (table-counts (row 16 rows) all-row)))));
+            enough = omega (arith, part-sums);
           }
 
-      pub table-importances : tabulate n (importanceBy n rows) ≡ importances n (inTable table)
-      table-importances = tabulate-same n (importanceBy n rows) (λ i. importance n (inTable table) (suc i)) part-is-importance
+    pub table-rows : Rows n rows
+    unfolding rowsOf
+    table-rows =
+        record {
+          most = accepted .few;
+          long = ap length is ∙ tabulate-length 289 _;
+          parted = part-rows;
+        }
+
+    pub table-importances : tabulate n (importanceBy n rows) ≡ importances n (inTable table)
+    table-importances = tabulate-same n (importanceBy n rows) (λ i. importance n (inTable table) (suc i)) part-is-importance
 
 -- ---- the weight of a set in an importance
 

@@ -1,18 +1,28 @@
 -- Four buffers: which length is refused first, what acceptance says of the lengths, and all four results written. Assumes nothing.
-use mathlib.Core.Path.{_≡_, sym, ap₂, _∙_}
+use mathlib.Core.Path.{_≡_, sym, ap, ap₂, _∙_}
 use mathlib.Core.Bool.{Bool}
 use mathlib.Core.List.{List, _++_}
 use Prim.Native.Nat.{ℕ, _+_, _≤_, _<_}
+use native.Mathlib.Nat.{le-trans, le-of-eq}
 use lib.Dec.{ltb}
 use lib.IntN.{ℤ}
-use lib.ListN.{drop}
-use borrow.Author.Tests.{lt-ltb, le-ltb, ltb-false}
-use Rattle.answer.specs.Outcome.{at, refuse}
+use lib.ListN.{length, drop}
+use borrow.Author.Tests.{le-leb, lt-ltb, le-ltb, ltb-false}
+use Rattle.answer.specs.Outcome.{at, refuse, Outcome, outcome, delivered}
 use Rattle.answer.specs.Refusals.{shortBuffer}
+use Rattle.answer.specs.declared.Verdict.{Verdict}
 use Rattle.answer.specs.declared.Verdict.the-variants.{Accepted, Refused}
+use Rattle.answer.specs.declared.Written.{Written}
+use Rattle.answer.specs.declared.Written.the-variants.{Length}
 use Rattle.answer.proofs.Outcomes.{refuse-accepted, refuse-passed, refuse-held}
+use Rattle.numbers.proofs.Tables.{tabulate-length}
+use Rattle.kind.specs.Kinds.{lengthOf}
+use Rattle.kind.specs.declared.Kind.{Kind}
+use Rattle.kind.specs.declared.Kind.the-variants.{PathCounts}
+use Rattle.conversion.specs.Vectors.{countsOf, vectorRefusal, figure, converted}
 use Rattle.figures.specs.Figures.{pathCounts, signatures, dominations, importances}
-use Rattle.signature.specs.All.{Buffers, buffersOf, roomRefusal, allOutcome, deliveredAll}
+use Rattle.signature.specs.All.{Buffers, buffersOf, roomRefusal}
+use Rattle.signature.specs.Steps.{allWritten}
 
 pub record Room (n counts signature domination importance : ℕ) : Type 0 where
   pub for-counts : n + 1 ≤ counts
@@ -59,12 +69,24 @@ module _ (n counts signature domination importance : ℕ) where
         pub room-enough : n ≤ importance → Accepted ≡ roomRefusal n counts signature domination importance
         room-enough h = sym (passed ∙ refuse-passed _ shortBuffer n _ (le-ltb importance n h))
 
+-- ---- what is written
+
+-- what a conversion leaves in a buffer that is long enough, where the entries are accepted
+pub converted-stands : (target : Kind) (n : ℕ) (entries cells now : List ℤ) (answer : Written) → vectorRefusal PathCounts n entries ≡ Accepted
+    → lengthOf target n ≤ length cells → outcome answer now ≡ delivered (vectorRefusal PathCounts n entries) (converted target PathCounts n entries) cells
+    → now ≡ converted target PathCounts n entries ++ drop (lengthOf target n) cells
+converted-stands target n entries cells now answer accepted fits e =
+    let result : List ℤ = converted target PathCounts n entries in
+    let long : length result ≡ lengthOf target n = tabulate-length (lengthOf target n) (figure target n (countsOf PathCounts n entries)) in
+    let whole : outcome answer now ≡ outcome (Length (length result)) (result ++ drop (length result) cells) =
+    e ∙ ap (λ (v : Verdict). delivered v result cells) accepted ∙ simp (le-leb (length result) (length cells) (le-trans (le-of-eq long) fits)) in
+    ap (λ (o : Outcome ℤ). o .buffer) whole ∙ ap (λ (k : ℕ). result ++ drop k cells) long
+
 -- all four results written
-pub all-given : (n : ℕ) (works : ℕ → Bool) (old : Buffers) (counts signature domination : List ℤ) (importance : List ℕ)
+pub all-written : (n : ℕ) (works : ℕ → Bool) (old : Buffers) (counts signature domination : List ℤ) (importance : List ℕ)
     → counts ≡ pathCounts n works ++ drop (n + 1) (old .counts) → signature ≡ signatures n works ++ drop n (old .signature)
     → domination ≡ dominations n works ++ drop (n + 1) (old .domination) → importance ≡ importances n works ++ drop n (old .importance)
-    → allOutcome Accepted (buffersOf counts signature domination importance) ≡ deliveredAll Accepted n works old
-all-given n works old counts signature domination importance e1 e2 e3 e4 =
-    ap₂ (λ (x y : List ℤ). allOutcome Accepted (buffersOf x y domination importance)) e1 e2
-    ∙ ap₂ (λ (x : List ℤ) (y : List ℕ). allOutcome Accepted
-    (buffersOf (pathCounts n works ++ drop (n + 1) (old .counts)) (signatures n works ++ drop n (old .signature)) x y)) e3 e4
+    → buffersOf counts signature domination importance ≡ allWritten n works old
+all-written n works old counts signature domination importance e1 e2 e3 e4 =
+    ap₂ (λ (x y : List ℤ). buffersOf x y domination importance) e1 e2
+    ∙ ap₂ (λ (x : List ℤ) (y : List ℕ). buffersOf (pathCounts n works ++ drop (n + 1) (old .counts)) (signatures n works ++ drop n (old .signature)) x y) e3 e4

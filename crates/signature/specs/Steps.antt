@@ -1,43 +1,40 @@
 -- What the private functions do: a reader of the promises may pass this file over.
-use mathlib.Core.Bool.{Bool, _&&_, _||_}
-use mathlib.Core.List.{List}
+use mathlib.Core.Bool.{Bool}
+use mathlib.Core.List.{List, _++_}
 use mathlib.Core.Path.{_≡_}
-use Prim.Native.Nat.{ℕ, suc, _+_, _-_, _*_, _/_, _%_, _≤_, _<_}
-use lib.Dec.{leb, eqb}
+use Prim.Native.Nat.{ℕ, suc, _+_, _-_, _*_, _≤_, _<_}
 use lib.IntN.{ℤ, pos}
-use lib.ListN.{length, getD, take, drop}
+use lib.ListN.{length, getD, drop}
+use Rattle.answer.specs.Outcome.{andThen}
+use Rattle.answer.specs.declared.Verdict.{Verdict}
 use Rattle.numbers.specs.Counts.{factorial}
 use Rattle.numbers.specs.Tables.{tabulate}
-use Rattle.algebra.specs.Sums.{indicator, sumBelow}
-use Rattle.sets.specs.Masks.{has, size}
+use Rattle.algebra.specs.Sums.{sumBelow}
+use Rattle.sets.specs.Tables.{inTable}
 use Rattle.orders.specs.Formulas.{pathCount}
-use Rattle.figures.specs.Figures.{tail, signature, domination}
-use Rattle.signature.specs.declared.Kind.{Kind}
-use Rattle.signature.specs.declared.Kind.the-variants.{PathCounts, Tail, Signature, Domination}
-
--- ---- words
-
--- the set has the part; every set where the part is above the last
-unfoldable pub hasPart : ℕ → ℕ → Bool
-hasPart part a = leb 16 part || has a part
-
--- how many sets of a word have size s, where bit m stands for a set of `base` parts and those of m
-unfoldable pub inWord : ℕ → ℕ → ℕ → ℕ
-inWord word base s = sumBelow (λ m. indicator (has word m && eqb (base + size m) s)) 64
-
--- rows of 17 counts by size: row i for the path sets that have the part i, and row 16 for all
-unfoldable pub rowsOf : (ℕ → Bool) → List ℕ
-rowsOf works = tabulate 289 (λ i. pathCount 16 (λ a. works a && hasPart (i / 17) a) (i % 17))
+use Rattle.words.specs.Words.{inWords, wordsOf}
+use Rattle.structure.specs.Checks.{tableRefusal}
+use Rattle.figures.specs.Figures.{pathCounts, signatures, dominations, importances}
+use Rattle.tally.specs.Rows.{rowsOf, row}
+use Rattle.tally.specs.Steps.{Few}
+use Rattle.signature.specs.All.{Buffers, buffersOf, roomRefusal}
 
 -- ---- counts
-
--- no count is over the number of sets
-abbrev pub Few : List ℕ → Type 0
-Few counts = (s : ℕ) → getD counts s 0 ≤ 65536
 
 -- a list of counts as a function
 abbrev pub countsOf : List ℕ → ℕ → ℕ
 countsOf counts s = getD counts s 0
+
+-- counts by size as entries
+abbrev pub entriesOf : List ℕ → List ℤ
+entriesOf counts = tabulate 17 (λ s. pos (countsOf counts s))
+
+-- the path sets in a table's words, by size, and as rows of the parts
+abbrev pub sizedIn : List ℕ → List ℕ
+sizedIn table = tabulate 17 (pathCount 16 (inWords (wordsOf (inTable table))))
+
+abbrev pub rowsIn : List ℕ → List ℕ
+rowsIn table = rowsOf (inWords (wordsOf (inTable table)))
 
 -- s! × (n-s-1)!
 unfoldable pub ways : ℕ → ℕ → ℕ
@@ -57,30 +54,7 @@ pub record Parted (n : ℕ) (counts with : List ℕ) : Type 0 where
   pub fewer : (s : ℕ) → countsOf with s ≤ countsOf counts s
   pub enough : takenSets n counts with n ≤ addedSets n with n
 
--- ---- vectors
-
--- the cells of a vector
-abbrev pub cellsOf : Kind → ℕ → ℕ
-cellsOf PathCounts n = n + 1
-cellsOf Tail n = n + 1
-cellsOf Signature n = n
-cellsOf Domination n = n + 1
-
--- the cell at an index, by the path counts
-abbrev pub cellAt : Kind → ℕ → (ℕ → ℕ) → ℕ → ℤ
-cellAt PathCounts n φ k = pos (φ k)
-cellAt Tail n φ k = pos (tail n φ k)
-cellAt Signature n φ k = signature n φ (suc k)
-cellAt Domination n φ k = domination n φ k
-
-abbrev pub vectorOf : Kind → ℕ → (ℕ → Bool) → List ℤ
-vectorOf kind n works = tabulate (cellsOf kind n) (cellAt kind n (pathCount n works))
-
 -- ---- rows of counts
-
--- the row of a part
-abbrev pub row : ℕ → List ℕ → List ℕ
-row part rows = take 17 (drop (17 * part) rows)
 
 -- the importance of a part by the rows
 unfoldable pub importanceBy : ℕ → List ℕ → ℕ → ℕ
@@ -91,3 +65,16 @@ pub record Rows (n : ℕ) (rows : List ℕ) : Type 0 where
   pub most : n ≤ 16
   pub long : length rows ≡ 289
   pub parted : (i : ℕ) → i < n → Parted n (row 16 rows) (row i rows)
+
+-- ---- all figures
+
+-- the checks of a table and of the lengths of four buffers
+abbrev pub figuresRefusal : ℕ → List ℕ → ℕ → ℕ → ℕ → ℕ → Verdict
+figuresRefusal n table counts signature domination importance =
+    andThen (tableRefusal n table) (roomRefusal n counts signature domination importance)
+
+-- each result in front of its buffer, and the rest as it was
+abbrev pub allWritten : ℕ → (ℕ → Bool) → Buffers → Buffers
+allWritten n works buffers =
+    buffersOf (pathCounts n works ++ drop (n + 1) (buffers .counts)) (signatures n works ++ drop n (buffers .signature))
+    (dominations n works ++ drop (n + 1) (buffers .domination)) (importances n works ++ drop n (buffers .importance))

@@ -25,7 +25,7 @@ use Rattle.sets.specs.Tables.{inTable}
 use Rattle.sets.proofs.Bools.{same-test, and-left, and-right}
 use Rattle.words.specs.Words.{inWords, wordsOf}
 use Rattle.figures.specs.Figures.{sign, domination}
-use Rattle.signature.specs.Steps.{Few}
+use Rattle.tally.specs.Steps.{Few}
 use Rattle.shares.specs.Shares.{inside, outside, rowLength, reliability, reliabilityCells}
 use Rattle.shares.specs.Steps.{typeCount}
 use Rattle.numbers.proofs.Tables.{tabulate-same}

@@ -13,7 +13,7 @@ ghost use Rattle.sets.specs.Structures.{Semicoherent};
 ghost use Rattle.sets.specs.Tables.{inTable};
 ghost use Rattle.answer.specs.Outcome.{outcome, delivered};
 ghost use Rattle.words.specs.Words.{inWords};
-ghost use Rattle.signature.specs.Steps.{Few};
+ghost use Rattle.tally.specs.Steps.{Few};
 ghost use Rattle.shares.specs.Shares.{inside, rowLength, sharesBySets, reliabilityCells, inCells, sharesFromCells, sharesByReliability, groupCounts};
 ghost use Rattle.shares.specs.Steps.{common as commonOf, powerWeight, Bounded};
 ghost use Rattle.shares.specs.Refusals.{sharesRefusal};

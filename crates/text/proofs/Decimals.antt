@@ -1,20 +1,22 @@
 -- Laws of decimal digits: a number's digits are those of its tenth and then its last one, they are the fewest that hold it, and a number of
--- 64 bits has at most 20.
+-- 64 bits has at most 20, and a sign makes it 21.
 -- Assumes nothing.
 use mathlib.Core.Path.{_≡_, refl, sym, ap, _∙_, subst}
 use mathlib.Core.Bool.{Bool, cond}
 use mathlib.Core.List.{List, [], _∷_, _++_}
 use mathlib.Core.Logic.{⊎-elim}
-use Prim.Native.Nat.{ℕ, zero, suc, _+_, _-_, _*_, _/_, _%_, _^_, _≤_, _<_, zero-le}
+use Prim.Native.Nat.{ℕ, zero, suc, _+_, _-_, _*_, _/_, _%_, _^_, _≤_, _<_}
 use native.Mathlib.Nat.{le-refl, mod-eq-of-lt, mod-lt, zero-lt-suc, pow-suc, one-le-pow, not-suc-le-zero, le-of-eq}
 use native.Mathlib.Numerals.{sub-one}
 use native.Mathlib.Omega.{arith}
-use lib.Dec.{ltb}
+use lib.IntN.{ℤ, pos, negsuc}
 use lib.ListN.{length, length-append}
+use mir.Syntax.{w64}
+use mir.Val.{Fits, SFits}
 use borrow.Author.Tests.{lt-ltb, le-ltb}
 use Rattle.codec.proofs.ByteForms.{below-or-not}
 use Rattle.io.specs.Digits.{glyph, digits, Fewest}
-use Rattle.text.specs.Texts.{spelled, decimal}
+use Rattle.text.specs.Texts.{spelled, decimal, signed}
 
 -- ---- one digit, and one digit more
 
@@ -84,3 +86,11 @@ decimal-most (suc k) n h =
     let tenth : n < 10 ^ suc k * 10 = subst (λ (x : ℕ). n < x) (pow-suc 10 (suc k)) h in
     subst (λ (text : List ℕ). length text ≤ suc (suc k)) (sym (decimal-large n large))
     (omega (arith, length-append (decimal (n / 10)) ((48 + n % 10) ∷ []), decimal-most k (n / 10) (omega arith)))) (below-or-not n 10)
+
+pub decimal-few : (n : ℕ) → Fits w64 n → length (decimal n) ≤ 20
+decimal-few n fits = let small : n < 10 ^ 20 = omega arith in decimal-most 19 n small
+
+pub signed-few : (z : ℤ) → SFits w64 z → length (signed z) ≤ 21
+unfolding signed
+signed-few (pos n) fits = let small : n < 10 ^ 20 = omega (arith, fits .sfits) in omega (arith, decimal-most 19 n small)
+signed-few (negsuc n) fits = let small : suc n < 10 ^ 20 = omega (arith, fits .sfits) in omega (arith, decimal-most 19 (suc n) small)

@@ -14,24 +14,21 @@ use lib.ListN.{length, take, drop, replicate, length-map}
 use lib.Seq.{length-take-le}
 use mir.Val.{Val}
 use borrow.Author.Tests.{ltb-true, ltb-false, le-ltb, leb-true, le-leb, eqb-true, ne-eqb, not-false}
-use Rattle.answer.specs.Outcome.{refuse, outcome, Outcome, delivered}
+use Rattle.answer.specs.Outcome.{refuse}
 use Rattle.answer.specs.Refusals.{wrongPartCount, wrongVectorLength}
-use Rattle.answer.specs.declared.Refusal.{Refusal}
 use Rattle.answer.specs.declared.Verdict.{Verdict}
 use Rattle.answer.specs.declared.Verdict.the-variants.{Accepted}
-use Rattle.answer.specs.declared.Verdict.the-variants as verdict
-use Rattle.answer.specs.declared.Written.the-variants as written
 use Rattle.answer.proofs.Outcomes.{refuse-accepted}
 use Rattle.numbers.proofs.Tables.{tabulate-length}
 use Rattle.sets.proofs.Bools.{and-left, and-right, true-or-false}
 use Rattle.vector.specs.Held.{mostEntries, entryCells, entriesOf, heldRefusal}
-use Rattle.vector.specs.Kinds.{lengthOf}
+use Rattle.kind.specs.Kinds.{lengthOf}
 use Rattle.vector.specs.Steps.{lentCells}
-use Rattle.vector.specs.Vectors.{countsOf, countsRefusal, vectorRefusal, figure, converted}
-use Rattle.vector.specs.declared.Kind.{Kind}
-use Rattle.vector.specs.declared.Kind.the-variants.{PathCounts, Tail, Signature, Domination}
+use Rattle.conversion.specs.Vectors.{countsOf, countsRefusal, vectorRefusal, figure, converted}
+use Rattle.kind.specs.declared.Kind.{Kind}
+use Rattle.kind.specs.declared.Kind.the-variants.{PathCounts, Tail, Signature, Domination}
 use Rattle.vector.specs.declared.Vector.{Vector}
-use Rattle.vector.proofs.Acceptance.{accepted-vector}
+use Rattle.conversion.proofs.Acceptance.{accepted-vector}
 use Rattle.vector.proofs.Vector.{the-row}
 
 -- a length that no vector of 1 to 16 parts has
@@ -108,30 +105,6 @@ held-same vector all accepted =
     ap (λ (k : ℕ). vectorRefusal (vector .kind) (vector .n) (take k (vector .entries))) (sym (lent-all vector accepted)) ∙ lent-judged vector all
 
 -- ---- a result in spare cells
-
--- an outcome that says why nothing is written, where there is room, says what the verdict says
-pub refused-verdict : (judged : Verdict) (result buffer now : List ℤ) (why : Refusal) → (judged ≡ Accepted → length result ≤ length buffer)
-    → outcome (written.Refused why) now ≡ delivered judged result buffer → judged ≡ verdict.Refused why
-refused-verdict (verdict.Refused r) result buffer now why fits e = cc (ap (λ (o : Outcome ℤ). o .answer) e)
-refused-verdict Accepted result buffer now why fits e =
-    let whole : outcome (written.Refused why) now ≡ outcome (written.Length (length result)) (result ++ drop (length result) buffer) =
-    simp (le-leb (length result) (length buffer) (fits refl)) at e in
-    let clash : _≡_ {A = ℕ} 0 1 = cc (ap (λ (o : Outcome ℤ). o .answer) whole) in absurd (omega arith)
-
--- and one that says how much is written says that all of it is
-pub record Whole (judged : Verdict) (result buffer now : List ℤ) (count : ℕ) : Type 0 where
-  pub accepted : judged ≡ Accepted
-  pub counted : count ≡ length result
-  pub stands : now ≡ result ++ drop (length result) buffer
-
-pub written-whole : (judged : Verdict) (result buffer now : List ℤ) (count : ℕ) → (judged ≡ Accepted → length result ≤ length buffer)
-    → outcome (written.Length count) now ≡ delivered judged result buffer → Whole judged result buffer now count
-written-whole (verdict.Refused r) result buffer now count fits e =
-    let clash : _≡_ {A = ℕ} 0 1 = cc (ap (λ (o : Outcome ℤ). o .answer) e) in absurd (omega arith)
-written-whole Accepted result buffer now count fits e =
-    let whole : outcome (written.Length count) now ≡ outcome (written.Length (length result)) (result ++ drop (length result) buffer) =
-    simp (le-leb (length result) (length buffer) (fits refl)) at e in
-    record { accepted = refl; counted = cc (ap (λ (o : Outcome ℤ). o .answer) whole); stands = ap (λ (o : Outcome ℤ). o .buffer) whole }
 
 -- the cells behind a result hold 0 where all did
 drop-zeros : (m k : ℕ) → drop k (replicate m (pos 0)) ≡ replicate (m - k) (pos 0)

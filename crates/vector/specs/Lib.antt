@@ -1,4 +1,2 @@
-pub mod Kinds
-pub mod Vectors
 pub mod Held
 pub mod Steps

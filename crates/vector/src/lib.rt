@@ -1,27 +1,13 @@
-// Vectors of the four kinds (01, "Vector sheets"): judged, and converted into each other.
-use answer::Refusal;
+// Vectors of the four kinds (01, "Vector sheets"): in a struct, and with their kinds as numbers.
 use answer::Verdict;
 use answer::Written;
+use kind::Kind;
 ghost use mathlib.Core.Path.{_≡_};
-ghost use mathlib.Core.List.{_++_};
-ghost use Prim.Native.Nat.{suc, _+_, _-_, _*_, _^_, _≤_, _<_};
-ghost use lib.IntN.{pos, _+ℤ_, _-ℤ_};
-ghost use lib.ListN.{length, drop};
-ghost use Rattle.numbers.specs.Counts.{factorial};
 ghost use Rattle.answer.specs.Outcome.{outcome, delivered};
-ghost use Rattle.figures.specs.Figures.{tail as tailOf, domination as dominationOf};
-ghost use Rattle.vector.specs.Kinds.{kindNumber, lengthOf, entryCount, isKind, kindOf, kindRefusal};
+ghost use Rattle.kind.specs.Kinds.{kindOf, kindRefusal};
+ghost use Rattle.conversion.specs.Vectors.{vectorRefusal, converted};
 ghost use Rattle.vector.specs.Held.{heldRefusal, heldConverted};
-ghost use Rattle.vector.specs.Vectors.{leastCount, mostCount, vectorRefusal, figure as figureOf, vectorOf, converted};
-ghost use Rattle.vector.specs.Steps.{lentCells, countIn, countAt, cellsOf, Few, Found, FoundAll, FirstFall, ExaminedAs, TermsOf};
-
-// What a vector's entries are.
-pub enum Kind {
-    PathCounts,
-    Tail,
-    Signature,
-    Domination,
-}
+ghost use Rattle.vector.specs.Steps.{lentCells};
 
 // A vector of a machine of n parts: its entries are the first `length` cells. In every vector that the library makes the spare cells behind
 // them hold 0; in one that is built by hand they may hold anything, and nothing looks at them.
@@ -38,30 +24,6 @@ pub struct Converted {
     pub verdict: Verdict,
 }
 
-impl Kind {
-    // The kind's own number.
-    pub fn number(self) -> u8
-        ensures { λ r. ⌜ r ≡ kindNumber self ⌝ }
-    {
-        match self {
-            Kind::PathCounts => 1,
-            Kind::Tail => 2,
-            Kind::Signature => 3,
-            Kind::Domination => 4,
-        }
-    }
-
-    // How many entries a vector of the kind has, and 0 where n is over 16.
-    pub fn entries(self, n: usize) -> usize
-        ensures { λ r. ⌜ r ≡ entryCount self n ⌝ }
-    {
-        if 16 < n {
-            return 0;
-        }
-        entries_of(self, n)
-    }
-}
-
 impl Vector {
     // Whether the vector is accepted.
     pub fn judge(self) -> Verdict
@@ -70,7 +32,7 @@ impl Vector {
         let kind = self.kind;
         let entries = self.entries;
         let count = lent(self.length);
-        judge(kind, self.n, &entries[..count])
+        conversion::judge(kind, self.n, &entries[..count])
     }
 
     // The vector as one of another kind.
@@ -81,7 +43,7 @@ impl Vector {
         let entries = self.entries;
         let count = lent(self.length);
         let mut cells = [0i64; 17];
-        let written = convert(kind, self.n, &entries[..count], target, &mut cells);
+        let written = conversion::convert(kind, self.n, &entries[..count], target, &mut cells);
         match written {
             Written::Refused(refusal) => Converted {
                 vector: Vector {
@@ -105,45 +67,14 @@ impl Vector {
     }
 }
 
-// Whether a vector is accepted.
-pub fn judge(kind: Kind, n: usize, entries: &[i64]) -> Verdict
-    ensures { λ r. ⌜ r ≡ vectorRefusal kind n (now (entries .entry)) ⌝ }
-{
-    let examined = examine(kind, n, entries);
-    examined.verdict
-}
-
-// A vector as one of another kind, into a lent buffer.
-pub fn convert(kind: Kind, n: usize, entries: &[i64], target: Kind, cells: &mut [i64]) -> Written
-    ensures { λ r. ⌜ outcome r (now (cells .exit)) ≡ delivered (vectorRefusal kind n (now (entries .entry))) (converted target kind n (now (entries .entry))) (now (cells .entry)) ⌝ }
-{
-    let examined = examine(kind, n, entries);
-    let verdict = examined.verdict;
-    match verdict {
-        Verdict::Refused(refusal) => Written::Refused(refusal),
-        Verdict::Accepted => {
-            let needed = entries_of(target, n);
-            if cells.len() < needed {
-                return Written::Refused(Refusal {
-                    number: answer::SHORT_BUFFER,
-                    place: needed,
-                });
-            }
-            let counts = examined.counts;
-            write(target, n, &counts, cells);
-            Written::Length(needed)
-        }
-    }
-}
-
 // Whether a vector whose kind comes as a number is accepted.
 pub fn judge_numbered(kind: u8, n: usize, entries: &[i64]) -> Verdict
     ensures { λ r. ⌜ r ≡ kindRefusal kind (vectorRefusal (kindOf kind) n (now (entries .entry))) ⌝ }
 {
-    if is_kind(kind) {
-        return judge(kind_of(kind), n, entries);
+    if kind::is_kind(kind) {
+        return conversion::judge(kind::kind_of(kind), n, entries);
     }
-    refused(answer::WRONG_KIND, 0)
+    answer::refused(answer::WRONG_KIND, 0)
 }
 
 // A vector as one of another kind, into a lent buffer, where both kinds come as numbers.
@@ -156,69 +87,19 @@ pub fn convert_numbered(
 ) -> Written
     ensures { λ r. ⌜ outcome r (now (cells .exit)) ≡ delivered (kindRefusal kind (kindRefusal target (vectorRefusal (kindOf kind) n (now (entries .entry))))) (converted (kindOf target) (kindOf kind) n (now (entries .entry))) (now (cells .entry)) ⌝ }
 {
-    if is_kind(kind) {
-        if is_kind(target) {
-            return convert(kind_of(kind), n, entries, kind_of(target), cells);
+    if kind::is_kind(kind) {
+        if kind::is_kind(target) {
+            return conversion::convert(
+                kind::kind_of(kind),
+                n,
+                entries,
+                kind::kind_of(target),
+                cells,
+            );
         }
-        return Written::Refused(Refusal {
-            number: answer::WRONG_KIND,
-            place: 0,
-        });
+        return answer::unwritten(answer::WRONG_KIND, 0);
     }
-    Written::Refused(Refusal {
-        number: answer::WRONG_KIND,
-        place: 0,
-    })
-}
-
-// Whether a number is a kind's.
-pub fn is_kind(number: u8) -> bool
-    ensures { λ r. ⌜ r ≡ isKind number ⌝ }
-{
-    if number < 1 {
-        return false;
-    }
-    number <= 4
-}
-
-// The kind of a number. A number that is no kind's gives path counts; callers ask first.
-pub fn kind_of(number: u8) -> Kind
-    ensures { λ r. ⌜ r ≡ kindOf number ⌝ }
-{
-    if number == 2 {
-        return Kind::Tail;
-    }
-    if number == 3 {
-        return Kind::Signature;
-    }
-    if number == 4 {
-        return Kind::Domination;
-    }
-    Kind::PathCounts
-}
-
-// A path count found in a vector, or that it is none.
-enum Count {
-    Of(u64),
-    Wrong,
-}
-
-// The path counts of a vector below the first wrong size; the cells from there on are 0.
-struct Counts {
-    cells: [u64; 17],
-    wrong: usize,
-}
-
-// The verdict on a vector, and its path counts where it is accepted.
-struct Examined {
-    counts: [u64; 17],
-    verdict: Verdict,
-}
-
-// The terms of a domination by their sign.
-struct Terms {
-    added: u64,
-    taken: u64,
+    answer::unwritten(answer::WRONG_KIND, 0)
 }
 
 // How many cells of a vector are looked at: as many as it has entries, and none where it claims more than there are cells, since that length is
@@ -230,300 +111,4 @@ fn lent(length: usize) -> usize
         return 0;
     }
     length
-}
-
-// The verdict on a vector, with its path counts.
-fn examine(kind: Kind, n: usize, entries: &[i64]) -> Examined
-    ensures { λ r. ⌜ ExaminedAs kind n (now (entries .entry)) (r .counts) (r .verdict) ⌝ }
-{
-    if n < 1 {
-        return unread(answer::WRONG_PART_COUNT);
-    }
-    if 16 < n {
-        return unread(answer::WRONG_PART_COUNT);
-    }
-    if entries.len() != entries_of(kind, n) {
-        return unread(answer::WRONG_VECTOR_LENGTH);
-    }
-    let found = path_counts(kind, n, entries);
-    let cells = found.cells;
-    let wrong = found.wrong;
-    if wrong <= n {
-        return Examined {
-            counts: cells,
-            verdict: refused(answer::WRONG_PATH_COUNT, wrong),
-        };
-    }
-    let fall = first_fall(n, &cells);
-    if fall < n {
-        return Examined {
-            counts: cells,
-            verdict: refused(answer::FALLING_PROPORTION, fall),
-        };
-    }
-    Examined {
-        counts: cells,
-        verdict: Verdict::Accepted,
-    }
-}
-
-// A vector that is refused at place 0, with no count read.
-fn unread(number: u8) -> Examined
-    ensures { λ r. ⌜ (Few (r .counts)) × (r .verdict ≡ Verdict.Refused (record { number = number; place = 0 })) ⌝ }
-{
-    Examined {
-        counts: [0u64; 17],
-        verdict: refused(number, 0),
-    }
-}
-
-// A refusal by its number and place.
-fn refused(number: u8, place: usize) -> Verdict
-    ensures { λ r. ⌜ r ≡ Verdict.Refused (record { number = number; place = place }) ⌝ }
-{
-    Verdict::Refused(Refusal { number, place })
-}
-
-// The number of a vector's entries.
-fn entries_of(kind: Kind, n: usize) -> usize
-    requires { ⌜ n ≤ 16 ⌝ }
-    ensures { λ r. ⌜ r ≡ lengthOf kind n ⌝ }
-{
-    match kind {
-        Kind::PathCounts => n + 1,
-        Kind::Tail => n + 1,
-        Kind::Signature => n,
-        Kind::Domination => n + 1,
-    }
-}
-
-// The path counts of a vector, size by size up to the first wrong one.
-fn path_counts(kind: Kind, n: usize, entries: &[i64]) -> Counts
-    requires { ⌜ n ≤ 16 ⌝ }
-    requires { ⌜ length (now entries) ≡ lengthOf kind n ⌝ }
-    ensures { λ r. ⌜ FoundAll kind n (now (entries .entry)) (r .cells) (r .wrong) ⌝ }
-{
-    let mut cells = [0u64; 17];
-    for j in 0..n + 1 {
-        let found = count_at(kind, n, entries, &cells, j);
-        match found {
-            Count::Of(count) => {
-                cells[j] = count;
-            }
-            Count::Wrong => {
-                return Counts { cells, wrong: j };
-            }
-        }
-    }
-    Counts {
-        cells,
-        wrong: n + 1,
-    }
-}
-
-// The path count of size j, where those below it are found.
-fn count_at(kind: Kind, n: usize, entries: &[i64], counts: &[u64; 17], j: usize) -> Count
-    requires { ⌜ n ≤ 16 ⌝ }
-    requires { ⌜ j ≤ n ⌝ }
-    requires { ⌜ length (now entries) ≡ lengthOf kind n ⌝ }
-    requires { ⌜ Found kind n (now entries) (now counts) j ⌝ }
-    ensures { λ r. ⌜ r ≡ countAt kind n (now (entries .entry)) j ⌝ }
-{
-    match kind {
-        Kind::PathCounts => count_of(0, entries[j], 0, 1, n, j),
-        Kind::Tail => count_of(0, entries[n - j], 0, ways(n, j), n, j),
-        Kind::Signature => signature_count(n, entries, counts, j),
-        Kind::Domination => domination_count(n, entries, counts, j),
-    }
-}
-
-// The path count of size j of a signature: its entry is added to what the sizes below it add up to.
-fn signature_count(n: usize, entries: &[i64], counts: &[u64; 17], j: usize) -> Count
-    requires { ⌜ n ≤ 16 ⌝ }
-    requires { ⌜ j ≤ n ⌝ }
-    requires { ⌜ length (now entries) ≡ n ⌝ }
-    requires { ⌜ Found Kind.Signature n (now entries) (now counts) j ⌝ }
-    ensures { λ r. ⌜ r ≡ countAt Kind.Signature n (now (entries .entry)) j ⌝ }
-{
-    let unit = ways(n, j);
-    if j == 0 {
-        return count_of(0, 0, 0, unit, n, 0);
-    }
-    let before = counts[j - 1] * ways(n, j - 1);
-    count_of(before, entries[n - j], 0, unit, n, j)
-}
-
-// The path count of size j of a domination: its entry is added to what the sizes below it leave.
-fn domination_count(n: usize, entries: &[i64], counts: &[u64; 17], j: usize) -> Count
-    requires { ⌜ n ≤ 16 ⌝ }
-    requires { ⌜ j ≤ n ⌝ }
-    requires { ⌜ length (now entries) ≡ n + 1 ⌝ }
-    requires { ⌜ Found Kind.Domination n (now entries) (now counts) j ⌝ }
-    ensures { λ r. ⌜ r ≡ countAt Kind.Domination n (now (entries .entry)) j ⌝ }
-{
-    let terms = signed_terms(n, counts, j);
-    count_of(terms.taken, entries[j], terms.added, 1, n, j)
-}
-
-// The path count of size j in what a base and an entry make, less what is taken.
-fn count_of(base: u64, entry: i64, taken: u64, unit: u64, n: usize, j: usize) -> Count
-    requires { ⌜ base < 2 ^ 62 ⌝ }
-    requires { ⌜ 0 < unit ⌝ }
-    requires { ⌜ n ≤ 16 ⌝ }
-    ensures { λ r. ⌜ r ≡ countIn n j unit (pos base +ℤ entry -ℤ pos taken) ⌝ }
-{
-    if entry < 0 {
-        let less = (-1 - entry) as u64;
-        if base <= less {
-            return Count::Wrong;
-        }
-        return counted(base - less - 1, taken, unit, n, j);
-    }
-    counted(base + entry as u64, taken, unit, n, j)
-}
-
-// The path count of size j in a sum, less what is taken.
-fn counted(sum: u64, taken: u64, unit: u64, n: usize, j: usize) -> Count
-    requires { ⌜ 0 < unit ⌝ }
-    requires { ⌜ n ≤ 16 ⌝ }
-    ensures { λ r. ⌜ r ≡ countIn n j unit (pos sum -ℤ pos taken) ⌝ }
-{
-    if sum < taken {
-        return Count::Wrong;
-    }
-    let scaled = sum - taken;
-    if scaled % unit != 0 {
-        return Count::Wrong;
-    }
-    let count = scaled / unit;
-    if count < least(n, j) {
-        return Count::Wrong;
-    }
-    if most(n, j) < count {
-        return Count::Wrong;
-    }
-    Count::Of(count)
-}
-
-// The least path count of size j.
-fn least(n: usize, j: usize) -> u64
-    ensures { λ r. ⌜ r ≡ leastCount n j ⌝ }
-{
-    if j == n { 1 } else { 0 }
-}
-
-// The greatest path count of size j.
-fn most(n: usize, j: usize) -> u64
-    requires { ⌜ n ≤ 16 ⌝ }
-    ensures { λ r. ⌜ r ≡ mostCount n j ⌝ }
-{
-    if j == 0 {
-        0
-    } else {
-        numbers::binomial(n, j) as u64
-    }
-}
-
-// j! × (n-j)!
-fn ways(n: usize, j: usize) -> u64
-    requires { ⌜ n ≤ 16 ⌝ }
-    requires { ⌜ j ≤ n ⌝ }
-    ensures { λ r. ⌜ r ≡ factorial j * factorial (n - j) ⌝ }
-{
-    numbers::factorial(j) * numbers::factorial(n - j)
-}
-
-// The terms of d(k) by the path counts below k.
-fn signed_terms(n: usize, counts: &[u64; 17], k: usize) -> Terms
-    requires { ⌜ n ≤ 16 ⌝ }
-    requires { ⌜ k ≤ n ⌝ }
-    requires { ⌜ Few (now counts) ⌝ }
-    ensures { λ r. ⌜ TermsOf n (cellsOf (now (counts .entry))) k (r .added) (r .taken) ⌝ }
-{
-    let mut added: u64 = 0;
-    let mut taken: u64 = 0;
-    for j in 0..k {
-        let term = numbers::binomial(n - j, k - j) as u64 * counts[j];
-        if (k - j) % 2 == 0 {
-            added += term;
-        } else {
-            taken += term;
-        }
-    }
-    Terms { added, taken }
-}
-
-// The first size from which the proportion falls, or n.
-fn first_fall(n: usize, counts: &[u64; 17]) -> usize
-    requires { ⌜ n ≤ 16 ⌝ }
-    requires { ⌜ Few (now counts) ⌝ }
-    ensures { λ r. ⌜ FirstFall n (now (counts .entry)) r ⌝ }
-{
-    for j in 0..n {
-        let here = counts[j] * numbers::binomial(n, j + 1) as u64;
-        let next = counts[j + 1] * numbers::binomial(n, j) as u64;
-        if next < here {
-            return j;
-        }
-    }
-    n
-}
-
-// Writes a vector by its path counts.
-fn write(kind: Kind, n: usize, counts: &[u64; 17], cells: &mut [i64])
-    requires { ⌜ n ≤ 16 ⌝ }
-    requires { ⌜ lengthOf kind n ≤ length (now cells) ⌝ }
-    requires { ⌜ Few (now counts) ⌝ }
-    ensures { λ _. ⌜ now (cells .exit) ≡ vectorOf kind n (cellsOf (now (counts .entry))) ++ drop (lengthOf kind n) (now (cells .entry)) ⌝ }
-{
-    let end = entries_of(kind, n);
-    for k in 0..end {
-        cells[k] = figure(kind, n, counts, k);
-    }
-}
-
-// A vector's entry at an index, by its path counts.
-fn figure(kind: Kind, n: usize, counts: &[u64; 17], k: usize) -> i64
-    requires { ⌜ n ≤ 16 ⌝ }
-    requires { ⌜ k < lengthOf kind n ⌝ }
-    requires { ⌜ Few (now counts) ⌝ }
-    ensures { λ r. ⌜ r ≡ figureOf kind n (cellsOf (now (counts .entry))) k ⌝ }
-{
-    match kind {
-        Kind::PathCounts => difference(counts[k], 0),
-        Kind::Tail => difference(tail(n, counts, k), 0),
-        Kind::Signature => difference(tail(n, counts, k), tail(n, counts, k + 1)),
-        Kind::Domination => domination(n, counts, k),
-    }
-}
-
-// T(k) by the path counts.
-fn tail(n: usize, counts: &[u64; 17], k: usize) -> u64
-    requires { ⌜ n ≤ 16 ⌝ }
-    requires { ⌜ k ≤ n ⌝ }
-    requires { ⌜ Few (now counts) ⌝ }
-    ensures { λ r. ⌜ r ≡ tailOf n (cellsOf (now (counts .entry))) k ⌝ }
-{
-    counts[n - k] * ways(n, n - k)
-}
-
-// d(k) by the path counts: the terms of either sign are added up, and subtracted once.
-fn domination(n: usize, counts: &[u64; 17], k: usize) -> i64
-    requires { ⌜ n ≤ 16 ⌝ }
-    requires { ⌜ k ≤ n ⌝ }
-    requires { ⌜ Few (now counts) ⌝ }
-    ensures { λ r. ⌜ r ≡ dominationOf n (cellsOf (now (counts .entry))) k ⌝ }
-{
-    let terms = signed_terms(n, counts, k);
-    let added = terms.added + counts[k];
-    difference(added, terms.taken)
-}
-
-// What was added less what was taken.
-fn difference(added: u64, taken: u64) -> i64
-    requires { ⌜ added < 2 ^ 62 ⌝ }
-    requires { ⌜ taken < 2 ^ 62 ⌝ }
-    ensures { λ r. ⌜ r ≡ pos added -ℤ pos taken ⌝ }
-{
-    added as i64 - taken as i64
 }

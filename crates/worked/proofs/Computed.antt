@@ -12,7 +12,7 @@ use Rattle.orders.specs.Formulas.{pathCount, added, taken}
 use Rattle.figures.specs.Figures.{tail, signature, domination, setDomination, importance}
 use Rattle.shares.specs.Polynomials.{derivative, reflected, shifted, coefficient, integral, shareFrom}
 use Rattle.shares.specs.Shares.{shareOf, sharesBySets, reliability, reliabilityCells, inCells, sharesFromCells, sharesByReliability}
-use Rattle.vector.specs.Vectors.{scaledCount, unitOf, wrongCount, falls, countsRefusal, vectorRefusal}
+use Rattle.conversion.specs.Vectors.{scaledCount, unitOf, wrongCount, falls, countsRefusal, vectorRefusal}
 use Rattle.worked.specs.Examples.{value, examples}
 
 pub examples-hold : map (λ e. value (e .question)) examples ≡ map (λ e. e .answer) examples

@@ -10,9 +10,9 @@ use Rattle.answer.specs.declared.Verdict.the-variants.{Accepted, Refused}
 use Rattle.sets.specs.Structures.{listed}
 use Rattle.figures.specs.Figures.{importance, pathCounts, tails, signatures, dominations}
 use Rattle.shares.specs.Shares.{sharesBySets, reliabilityCells, sharesByReliability}
-use Rattle.vector.specs.Vectors.{vectorRefusal}
-use Rattle.vector.specs.declared.Kind.{Kind}
-use Rattle.vector.specs.declared.Kind.the-variants.{PathCounts, Tail}
+use Rattle.conversion.specs.Vectors.{vectorRefusal}
+use Rattle.kind.specs.declared.Kind.{Kind}
+use Rattle.kind.specs.declared.Kind.the-variants.{PathCounts, Tail}
 
 -- a structure of n parts by its list of sets
 pub record Structure : Type 0 where

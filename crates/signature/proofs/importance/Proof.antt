@@ -8,15 +8,15 @@ use Prim.Native.Nat.{ℕ, suc}
 use denote.Ref.{now}
 use lib.ListN.{length, drop}
 use borrow.Author.Needs.{needs}
-use Rattle.answer.specs.Outcome.{delivered}
-use Rattle.answer.specs.declared.Verdict.{Verdict}
+use Rattle.answer.specs.Outcome.{outcome}
+use Rattle.answer.specs.declared.Written.{Written}
 use Rattle.answer.specs.declared.Verdict.the-variants.{Accepted}
 use Rattle.numbers.proofs.Tables.{tabulate-length}
 use Rattle.sets.specs.Tables.{inTable}
 use Rattle.structure.specs.Checks.{tableRefusal}
 use Rattle.structure.proofs.Acceptance.{AcceptedTable, accepted-table}
 use Rattle.figures.specs.Figures.{importance, importances}
-use Rattle.signature.proofs.Deliveries.{delivered-short, delivered-whole}
+use Rattle.answer.proofs.Deliveries.{refused-kept, delivered-short, delivered-whole}
 use Rattle.signature.proofs.Machines.{table-rows, table-importances}
 use Rattle.signature.proofs.importance.Statement.{statement}
 use Rattle.signature.proofs.importance.Tie as tie
@@ -42,21 +42,20 @@ enum-known-checked c = search needs
 enum-told : tie.Need-enum-told
 enum-told c = search needs
 
+short-requires : tie.Need-short-requires
+short-requires c κs = search needs
+
 returns : tie.Need-returns
 returns c =
-    let a = c .before .before .before .before .before .before .args in
+    let told = c .before .before in
+    let a = told .before .before .before .before .before .args in
     let works = inTable (now (a .table)) in
-    delivered-short (tableRefusal (a .n) (now (a .table))) (verdict (c .before)) (importances (a .n) works) (now (a .cells)) (a .n) (long (a .n) works)
-    (c .if1 .taken)
+    ap (λ (answer : Written). outcome answer (now (a .cells))) (c .short .ensures)
+    ∙ delivered-short (tableRefusal (a .n) (now (a .table))) (importances (a .n) works) (now (a .cells)) (verdict told) (a .n) (long (a .n) works)
+    (c .before .if1 .taken)
 
-load-requires : tie.Need-load-requires
-load-requires c κs = search needs
-
-slice-aggregate-tally : tie.Need-slice-aggregate-tally
-slice-aggregate-tally c = search needs
-
-tally-requires : tie.Need-tally-requires
-tally-requires c κs = search needs
+rows-of-requires : tie.Need-rows-of-requires
+rows-of-requires c κs = search needs
 
 slice-aggregate-write-importance : tie.Need-slice-aggregate-write-importance
 slice-aggregate-write-importance c = search needs
@@ -64,18 +63,17 @@ slice-aggregate-write-importance c = search needs
 write-importance-requires : tie.Need-write-importance-requires
 write-importance-requires c κs =
     let counted = c .before .before in
-    let loaded = counted .before .before in
-    let told = loaded .before .before in
+    let told = counted .before .before in
     let a = told .before .before .before .before .before .args in (
-      table-rows (a .n) (now (a .table)) (accepted told) (loaded .load .result) (loaded .load .ensures) (counted .tally .result) (counted .tally .ensures),
-      loaded .before .if1 .left,
+      table-rows (a .n) (now (a .table)) (accepted told) (counted .rows-of .result) (counted .rows-of .ensures),
+      counted .before .if1 .left,
     )
 
 returns-2 : tie.Need-returns-2
 returns-2 c =
     let a = c .before .before .before .before .before .before .args in
-    ap (λ (v : Verdict). delivered v (importances (a .n) (inTable (now (a .table)))) (now (a .cells)))
-    (sym (c .before .checked .given .1) ∙ c .before .before .before .table-verdict .ensures)
+    refused-kept (tableRefusal (a .n) (now (a .table))) (importances (a .n) (inTable (now (a .table)))) (now (a .cells)) _
+    (sym (c .before .before .before .table-verdict .ensures) ∙ c .before .checked .given .1)
 
 same-length : tie.Need-same-length
 same-length c = search needs
@@ -83,16 +81,15 @@ same-length c = search needs
 returns-3 : tie.Need-returns-3
 returns-3 c =
     let counted = c .before .before .before .before .before in
-    let loaded = counted .before .before in
-    let told = loaded .before .before in
+    let told = counted .before .before in
     let a = told .before .before .before .before .before .args in
     let cells = now (a .cells) in
     let works = inTable (now (a .table)) in
-    delivered-whole (tableRefusal (a .n) (now (a .table))) (verdict told) (importances (a .n) works) cells (a .n) (long (a .n) works) _
+    delivered-whole (tableRefusal (a .n) (now (a .table))) (importances (a .n) works) cells (verdict told) (a .n) (long (a .n) works) _
     (c .before .before .write-importance .ensures
     ∙ ap (λ (xs : List ℕ). xs ++ drop (a .n) cells)
-    (table-importances (a .n) (now (a .table)) (accepted told) (loaded .load .result) (loaded .load .ensures) (counted .tally .result) (counted .tally .ensures)))
-    (loaded .before .if1 .left)
+    (table-importances (a .n) (now (a .table)) (accepted told) (counted .rows-of .result) (counted .rows-of .ensures)))
+    (counted .before .if1 .left)
 
 pub importance-spec : {M : Type 1} → statement M
 importance-spec =
@@ -101,10 +98,9 @@ importance-spec =
     table-verdict-requires
     enum-known-checked
     enum-told
+    short-requires
     returns
-    load-requires
-    slice-aggregate-tally
-    tally-requires
+    rows-of-requires
     slice-aggregate-write-importance
     write-importance-requires
     returns-2

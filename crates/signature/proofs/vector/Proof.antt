@@ -1,24 +1,29 @@
--- `signature::vector` meets its contract: a refused table and a short buffer leave the cells alone, and else they are written by the path counts
--- of the table's words.
+-- `signature::vector` meets its contract: a refused table leaves the cells alone, and else its path counts are an accepted vector, which is
+-- converted.
 -- Assumes nothing.
-use mathlib.Core.Path.{_≡_, sym, ap, ap₂, _∙_, subst}
-use mathlib.Core.List.{_++_}
-use Prim.Native.Nat.{ℕ, _≤_}
+use mathlib.Core.Path.{_≡_, refl, sym, ap, ap₂, _∙_}
+use mathlib.Core.List.{List}
+use Prim.Native.Nat.{ℕ, _+_, _≤_}
+use native.Mathlib.Omega.{arith}
 use denote.Ref.{now}
-use lib.ListN.{length, drop}
+use lib.IntN.{ℤ, pos}
+use lib.ListN.{length, take}
+use lib.Seq.{length-take-le}
 use borrow.Author.Needs.{needs}
 use Rattle.answer.specs.Outcome.{delivered}
 use Rattle.answer.specs.declared.Verdict.{Verdict}
 use Rattle.answer.specs.declared.Verdict.the-variants.{Accepted}
-use Rattle.numbers.specs.Tables.{tabulate}
+use Rattle.answer.proofs.Deliveries.{refused-kept}
 use Rattle.numbers.proofs.Tables.{tabulate-length}
-use Rattle.orders.specs.Formulas.{pathCount}
 use Rattle.sets.specs.Tables.{inTable}
 use Rattle.structure.specs.Checks.{tableRefusal}
 use Rattle.structure.proofs.Acceptance.{AcceptedTable, accepted-table}
-use Rattle.signature.specs.Steps.{cellsOf, cellAt, vectorOf}
-use Rattle.signature.proofs.Deliveries.{delivered-short, delivered-whole}
-use Rattle.signature.proofs.Machines.{table-counts, table-few}
+use Rattle.kind.specs.declared.Kind.the-variants.{PathCounts}
+use Rattle.conversion.specs.Vectors.{vectorRefusal, converted, figuresOf}
+use Rattle.figures.specs.Figures.{pathCounts}
+use Rattle.signature.specs.Steps.{countsOf, sizedIn}
+use Rattle.signature.proofs.Machines.{table-entries}
+use Rattle.signature.proofs.Claims.{vectors-accepted, vectors-converted}
 use Rattle.signature.proofs.vector.Statement.{statement}
 use Rattle.signature.proofs.vector.Tie as tie
 
@@ -30,13 +35,18 @@ module _ (c : tie.After-enum-told) where
   accepted : AcceptedTable (c .before .before .before .before .args .n) (now (c .before .before .before .before .args .table))
   accepted = accepted-table (c .before .before .before .before .args .n) (now (c .before .before .before .before .args .table)) verdict
 
--- the cells needed are the vector's
-long : (c : tie.After-cells-of)
-    → c .cells-of .result ≡ length (vectorOf (c .before .before .before .before .before .args .kind) (c .before .before .before .before .before .args .n)
-    (inTable (now (c .before .before .before .before .before .args .table))))
-long c =
-    let a = c .before .before .before .before .before .args in
-    c .cells-of .ensures ∙ sym (tabulate-length (cellsOf (a .kind) (a .n)) (cellAt (a .kind) (a .n) (pathCount (a .n) (inTable (now (a .table))))))
+-- the path counts as entries are enough, and are the table's
+module _ (c : tie.After-entries-of) where
+  room : c .before .before .before .before .before .args .n + 1 ≤ length (c .entries-of .result)
+  room =
+      let start = c .before .before .before .before .before in
+      omega (arith, accepted (c .before) .few, ap length (c .entries-of .ensures) ∙ tabulate-length 17 (λ s. pos (countsOf (sizedIn (now (start .args .table))) s)))
+
+  entries : take (c .before .before .before .before .before .args .n + 1) (c .entries-of .result)
+      ≡ pathCounts (c .before .before .before .before .before .args .n) (inTable (now (c .before .before .before .before .before .args .table)))
+  entries =
+      let a = c .before .before .before .before .before .args in
+      table-entries (a .n) (now (a .table)) (accepted (c .before)) (sizedIn (now (a .table))) refl (c .entries-of .result) (c .entries-of .ensures)
 
 table-verdict-requires : tie.Need-table-verdict-requires
 table-verdict-requires c κs = search needs
@@ -47,62 +57,39 @@ enum-known-checked c = search needs
 enum-told : tie.Need-enum-told
 enum-told c = search needs
 
-cells-of-requires : tie.Need-cells-of-requires
-cells-of-requires c κs = accepted c .few
+entries-of-requires : tie.Need-entries-of-requires
+entries-of-requires c κs = search needs
+
+add-entries : tie.Need-add-entries
+add-entries c = record { fits = omega (arith, accepted (c .before) .few) }
+
+array-share-prefix-entries : tie.Need-array-share-prefix-entries
+array-share-prefix-entries c = room c
+
+slice-aggregate-convert : tie.Need-slice-aggregate-convert
+slice-aggregate-convert c = sym (length-take-le _ (c .before .entries-of .result) (room (c .before)))
+
+convert-requires : tie.Need-convert-requires
+convert-requires c κs = search needs
 
 returns : tie.Need-returns
 returns c =
-    let a = c .before .before .before .before .before .before .args in
-    delivered-short (tableRefusal (a .n) (now (a .table))) (verdict (c .before .before)) (vectorOf (a .kind) (a .n) (inTable (now (a .table))))
-    (now (a .cells)) (c .before .cells-of .result) (long (c .before)) (c .if1 .taken)
-
-load-requires : tie.Need-load-requires
-load-requires c κs = search needs
-
-slice-aggregate-sized : tie.Need-slice-aggregate-sized
-slice-aggregate-sized c = search needs
-
-sized-requires : tie.Need-sized-requires
-sized-requires c κs = search needs
-
-slice-aggregate-write : tie.Need-slice-aggregate-write
-slice-aggregate-write c = search needs
-
-write-requires : tie.Need-write-requires
-write-requires c κs =
-    let loaded = c .before .before .before .before in
-    let needed = loaded .before .before in
-    let a = needed .before .before .before .before .before .args in (
-      accepted (needed .before) .few,
-      (
-        subst (λ (k : ℕ). k ≤ length (now (a .cells))) (needed .cells-of .ensures) (loaded .before .if1 .left),
-        table-few (a .n) (now (a .table)) (accepted (needed .before)) (loaded .load .result) (loaded .load .ensures) (c .before .before .sized .result)
-            (c .before .before .sized .ensures),
-      ),
-    )
-
-returns-2 : tie.Need-returns-2
-returns-2 c =
     let a = c .before .before .before .before .before .args in
-    ap (λ (v : Verdict). delivered v (vectorOf (a .kind) (a .n) (inTable (now (a .table)))) (now (a .cells)))
-    (sym (c .before .checked .given .1) ∙ c .before .before .before .table-verdict .ensures)
+    refused-kept (tableRefusal (a .n) (now (a .table))) (figuresOf (a .kind) (a .n) (inTable (now (a .table)))) (now (a .cells)) _
+    (sym (c .before .before .before .table-verdict .ensures) ∙ c .before .checked .given .1)
 
 same-length : tie.Need-same-length
 same-length c = search needs
 
-returns-3 : tie.Need-returns-3
-returns-3 c =
-    let sized = c .before .before .before .before in
-    let loaded = sized .before .before in
-    let needed = loaded .before .before in
-    let a = needed .before .before .before .before .before .args in
-    let cells = now (a .cells) in
-    let φ = table-counts (a .n) (now (a .table)) (accepted (needed .before)) (loaded .load .result) (loaded .load .ensures) (sized .sized .result) (sized .sized .ensures) in
-    delivered-whole (tableRefusal (a .n) (now (a .table))) (verdict (needed .before)) (vectorOf (a .kind) (a .n) (inTable (now (a .table)))) cells
-    (needed .cells-of .result) (long needed) _
-    (c .before .write .ensures
-    ∙ ap₂ (λ (f : ℕ → ℕ) (k : ℕ). tabulate (cellsOf (a .kind) (a .n)) (cellAt (a .kind) (a .n) f) ++ drop k cells) φ (sym (needed .cells-of .ensures)))
-    (loaded .before .if1 .left)
+returns-2 : tie.Need-returns-2
+returns-2 c =
+    let counted = c .before .before .before .before in
+    let told = counted .before in
+    let a = told .before .before .before .before .args in
+    c .before .convert .ensures
+    ∙ ap₂ (λ (v : Verdict) (xs : List ℤ). delivered v xs (now (a .cells)))
+    (ap (vectorRefusal PathCounts (a .n)) (entries counted) ∙ vectors-accepted (a .n) (now (a .table)) (verdict told) PathCounts ∙ sym (verdict told))
+    (ap (converted (a .kind) PathCounts (a .n)) (entries counted) ∙ vectors-converted (a .n) (now (a .table)) (verdict told) PathCounts (a .kind))
 
 pub vector-spec : {M : Type 1} → statement M
 vector-spec =
@@ -111,13 +98,11 @@ vector-spec =
     table-verdict-requires
     enum-known-checked
     enum-told
-    cells-of-requires
+    entries-of-requires
+    add-entries
+    array-share-prefix-entries
+    slice-aggregate-convert
+    convert-requires
     returns
-    load-requires
-    slice-aggregate-sized
-    sized-requires
-    slice-aggregate-write
-    write-requires
-    returns-2
     same-length
-    returns-3)
+    returns-2)

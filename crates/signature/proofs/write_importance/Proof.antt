@@ -8,7 +8,8 @@ use native.Mathlib.Omega.{arith}
 use denote.Ref.{now}
 use lib.ListN.{length, take, drop}
 use Rattle.numbers.proofs.Tables.{filled, filled-none, filled-again, filled-length}
-use Rattle.signature.specs.Steps.{row, importanceBy, addedSets, takenSets, Parted}
+use Rattle.tally.specs.Rows.{row}
+use Rattle.signature.specs.Steps.{importanceBy, addedSets, takenSets, Parted}
 use Rattle.signature.proofs.write_importance.Statement.{statement}
 use Rattle.signature.proofs.write_importance.Tie as tie
 

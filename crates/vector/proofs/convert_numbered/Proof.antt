@@ -2,12 +2,13 @@
 -- Assumes nothing.
 use mathlib.Core.Path.{sym, ap, ap₂, _∙_}
 use denote.Ref.{now}
-use Rattle.answer.specs.Outcome.{delivered}
+use Rattle.answer.specs.Outcome.{outcome, delivered}
 use Rattle.answer.specs.declared.Verdict.{Verdict}
-use Rattle.vector.specs.Kinds.{kindOf, kindRefusal}
-use Rattle.vector.specs.Vectors.{vectorRefusal, converted}
-use Rattle.vector.specs.declared.Kind.{Kind}
-use Rattle.vector.proofs.KindNumbers.{kind-passed, kind-refused}
+use Rattle.answer.specs.declared.Written.{Written}
+use Rattle.kind.specs.Kinds.{kindOf, kindRefusal}
+use Rattle.conversion.specs.Vectors.{vectorRefusal, converted}
+use Rattle.kind.specs.declared.Kind.{Kind}
+use Rattle.kind.proofs.KindNumbers.{kind-passed, kind-refused}
 use borrow.Author.Needs.{needs}
 use Rattle.vector.proofs.convert_numbered.Statement.{statement}
 use Rattle.vector.proofs.convert_numbered.Tie as tie
@@ -45,25 +46,33 @@ returns c =
     (sym (kind-passed (a .kind) (kindRefusal (a .target) later) (sym (first .before .is-kind .ensures) ∙ first .if1 .taken)
     ∙ kind-passed (a .target) later (sym (second .before .is-kind2 .ensures) ∙ second .if2 .taken)))
 
+unwritten-requires : tie.Need-unwritten-requires
+unwritten-requires c κs = search needs
+
 returns-2 : tie.Need-returns-2
 returns-2 c =
-    let second = c .before in
+    let second = c .before .before in
     let first = second .before in
     let a = first .before .before .args in
     let entries = now (a .entries) in
     let later = vectorRefusal (kindOf (a .kind)) (a .n) entries in
-    ap (λ (v : Verdict). delivered v (converted (kindOf (a .target)) (kindOf (a .kind)) (a .n) entries) (now (a .cells)))
+    ap (λ (answer : Written). outcome answer (now (a .cells))) (c .unwritten .ensures)
+    ∙ ap (λ (v : Verdict). delivered v (converted (kindOf (a .target)) (kindOf (a .kind)) (a .n) entries) (now (a .cells)))
     (sym (kind-passed (a .kind) (kindRefusal (a .target) later) (sym (first .before .is-kind .ensures) ∙ first .if1 .taken)
-    ∙ kind-refused (a .target) later (sym (second .is-kind2 .ensures) ∙ c .if2 .left)))
+    ∙ kind-refused (a .target) later (sym (second .is-kind2 .ensures) ∙ c .before .if2 .left)))
+
+unwritten-requires-2 : tie.Need-unwritten-requires-2
+unwritten-requires-2 c κs = search needs
 
 returns-3 : tie.Need-returns-3
 returns-3 c =
-    let first = c .before in
+    let first = c .before .before in
     let a = first .before .args in
     let entries = now (a .entries) in
     let later = vectorRefusal (kindOf (a .kind)) (a .n) entries in
-    ap (λ (v : Verdict). delivered v (converted (kindOf (a .target)) (kindOf (a .kind)) (a .n) entries) (now (a .cells)))
-    (sym (kind-refused (a .kind) (kindRefusal (a .target) later) (sym (first .is-kind .ensures) ∙ c .if1 .left)))
+    ap (λ (answer : Written). outcome answer (now (a .cells))) (c .unwritten2 .ensures)
+    ∙ ap (λ (v : Verdict). delivered v (converted (kindOf (a .target)) (kindOf (a .kind)) (a .n) entries) (now (a .cells)))
+    (sym (kind-refused (a .kind) (kindRefusal (a .target) later) (sym (first .is-kind .ensures) ∙ c .before .if1 .left)))
 
 pub convert-numbered-spec : {M : Type 1} → statement M
 convert-numbered-spec =
@@ -76,5 +85,7 @@ convert-numbered-spec =
     convert-requires
     same-length
     returns
+    unwritten-requires
     returns-2
+    unwritten-requires-2
     returns-3)

@@ -10,7 +10,7 @@ use native.Mathlib.Omega.{arith}
 use lib.ListN.{length, getD, take, drop, length-append, take-append-drop}
 use lib.Seq.{take-suc, take-all}
 use Rattle.codec.specs.ByteForm.{bytesOf, leaves, placed}
-use Rattle.codec.proofs.Placing.{placed-none, placed-more}
+use Rattle.codec.proofs.Forms.{placed-more, wrote-none}
 use Rattle.parts.specs.PartLists.{listOf}
 use Rattle.parts.proofs.WellFormed.{numbers-of-list}
 use Rattle.record.specs.Records.{design}
@@ -53,7 +53,7 @@ module _ (numbers buffer : List ℕ) (start : ℕ) (room : start + length (forms
   -- before the first
   pub forms-none : leaves start buffer ≡ placed buffer start (formsOf (take 0 numbers))
   unfolding formsOf
-  forms-none = placed-none buffer start (omega arith)
+  forms-none = wrote-none buffer start (omega arith) .wrote
 
   -- one number more, placed where those before it end
   pub forms-more : (i : ℕ) → i < length numbers → (entry : List ℕ) (position : ℕ) (exit : List ℕ) (next : ℕ) → leaves position entry ≡ placed buffer start (formsOf (take i numbers))

@@ -111,7 +111,7 @@ fn ended(value: u64, least: u64, top: u64, start: usize, next: usize) -> Reading
 }
 
 // The answer where a check refuses.
-fn refused(number: u8, place: usize) -> Reading
+pub fn refused(number: u8, place: usize) -> Reading
     ensures { λ r. ⌜ r ≡ refused number place ⌝ }
 {
     Reading::Refused(Refusal { number, place })

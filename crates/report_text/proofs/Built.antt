@@ -20,9 +20,11 @@ use Rattle.sets.specs.Tables.{tableOf}
 use Rattle.sets.proofs.Ranges.{below-or-above}
 use Rattle.sets.proofs.Tables.{tableOf-length, tableLength-small, tableLength-large}
 use Rattle.record.specs.declared.Contents.{Contents}
-use Rattle.record.specs.Records.{Read, found, refused, Head, headAt, Design, wholeRecord}
+use Rattle.heading.specs.Headings.{Read, found, refused, Head, headAt}
+use Rattle.record.specs.Records.{Design, wholeRecord}
 use Rattle.record.specs.RecordBytes.{DesignRules}
-use Rattle.record.specs.Contents.{recordRefusal, headingOf, designOr, designIn}
+use Rattle.heading.specs.Headings.{headingOf}
+use Rattle.record.specs.Contents.{recordRefusal, designOr, designIn}
 use Rattle.record.proofs.Whole.{design-read, refused-contents}
 
 -- the table of a design

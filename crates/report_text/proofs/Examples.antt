@@ -14,7 +14,8 @@ use Rattle.orders.specs.Counting.{entries, stops, inGroup, stopsAsKth, count}
 use Rattle.orders.specs.Formulas.{pathCount}
 use Rattle.codec.specs.Reading.{numberIn, numberAt}
 use Rattle.figures.specs.Figures.{domination}
-use Rattle.record.specs.Records.{fieldAt, misplaced, numbersAt, partsAt, headAt, setsAt, recordAt, wholeRecord}
+use Rattle.heading.specs.Headings.{fieldAt, numbersAt, partsAt, headAt}
+use Rattle.record.specs.Records.{misplaced, setsAt, recordAt, wholeRecord}
 use Rattle.text.specs.Texts.{ascii, spelled, decimal, signed, lines}
 use Rattle.report_lines.specs.Lines.{headLine, restOfLine, refusedLine}
 use Rattle.report_text.specs.Reports.{firstLine, orderLine, domLine, partLine, reportOf, printed}

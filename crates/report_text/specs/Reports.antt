@@ -8,7 +8,8 @@ use Rattle.orders.specs.Counting.{count}
 use Rattle.orders.specs.Formulas.{pathCount}
 use Rattle.parts.specs.PartLists.{numbersOf}
 use Rattle.figures.specs.Figures.{domination}
-use Rattle.record.specs.Records.{Read, found, refused, Design, wholeRecord}
+use Rattle.heading.specs.Headings.{Read, found, refused}
+use Rattle.record.specs.Records.{Design, wholeRecord}
 use Rattle.text.specs.Texts.{decimal, signed, lines}
 use Rattle.report_lines.specs.Lines.{headLine, figureLine, refusedLine}
 

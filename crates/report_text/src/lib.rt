@@ -25,7 +25,7 @@ pub fn report(bytes: &[u8], table: &mut [u8], text: &mut [u8]) -> Written
     match built {
         Written::Refused(refusal) => Written::Refused(refusal),
         Written::Length(size) => {
-            let heading = record::read_heading(bytes, 0);
+            let heading = heading::read_heading(bytes, 0);
             let list = heading.list;
             let end = put_table(&mut own_text, list, heading.sets, &own_table[..size]);
             hand_out_both(&own_table[..size], &own_text[..end], table, text)

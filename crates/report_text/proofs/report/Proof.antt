@@ -11,8 +11,9 @@ use lib.Seq.{length-take-le}
 use Rattle.parts.specs.declared.PartList.{PartList}
 use Rattle.sets.specs.Tables.{inTable}
 use Rattle.structure.specs.Checks.{tableRefusal}
-use Rattle.record.specs.declared.Heading.{Heading}
-use Rattle.record.specs.Records.{Read, Design}
+use Rattle.heading.specs.declared.Heading.{Heading}
+use Rattle.heading.specs.Headings.{Read}
+use Rattle.record.specs.Records.{Design}
 use Rattle.record.proofs.MinimalSets.{design-table}
 use Rattle.report_text.specs.Reports.{reportOf}
 use Rattle.report_text.specs.Reporting.{handedOut, reportedRead, reported}

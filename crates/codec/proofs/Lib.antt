@@ -1,8 +1,6 @@
 pub mod Fields
 pub mod Groups
 pub mod ByteForms
-pub mod Placing
-pub mod Forms
 pub mod Readings
 pub mod Walk
 pub mod ReadAfterWrite

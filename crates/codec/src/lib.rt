@@ -4,7 +4,8 @@ ghost use Prim.Native.Nat.{_+_, _≤_};
 ghost use lib.ListN.{length};
 ghost use lib.Seq.{sets};
 ghost use Rattle.codec.specs.Fields.{groups, top};
-ghost use Rattle.codec.specs.ByteForm.{bytesOf, placed, leaves};
+ghost use Rattle.answer.specs.Placed.{placed, leaves};
+ghost use Rattle.codec.specs.ByteForm.{bytesOf};
 ghost use Rattle.codec.specs.Reading.{numberAt, ended, refused};
 use answer::Refusal;
 

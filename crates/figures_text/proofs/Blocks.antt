@@ -10,12 +10,12 @@ use lib.IntN.{ℤ}
 use lib.ListN.{length}
 use mir.Syntax.{w64}
 use mir.Val.{Fits}
-use Rattle.codec.specs.ByteForm.{leaves, placed}
+use Rattle.answer.specs.Placed.{leaves, placed}
 use Rattle.parts.specs.declared.PartList.{PartList}
 use Rattle.text.specs.Texts.{lines}
 use Rattle.report_lines.specs.Lines.{restOfLine}
 use Rattle.report_lines.proofs.Lines.{rest-few}
-use Rattle.codec.proofs.Forms.{Wrote, wrote-none, wrote-more, wrote-same, wrote-most}
+use Rattle.answer.proofs.Forms.{Wrote, wrote-none, wrote-more, wrote-same, wrote-most}
 use Rattle.figures_text.specs.FiguresText.{linesBy, textBy}
 
 -- ---- lines 1 to n

@@ -4,7 +4,7 @@ ghost use mathlib.Core.Path.{_≡_};
 ghost use Prim.Native.Nat.{_+_, _-_, _*_, _≤_, _<_};
 ghost use lib.IntN.{pos};
 ghost use lib.ListN.{length, getD};
-ghost use Rattle.codec.specs.ByteForm.{leaves, placed};
+ghost use Rattle.answer.specs.Placed.{leaves, placed};
 ghost use Rattle.numbering.specs.Numbering.{mostParts};
 ghost use Rattle.text.specs.Texts.{lines};
 ghost use Rattle.figures_text.specs.FiguresText.{cellLine, countLine, linesBy, textBy};

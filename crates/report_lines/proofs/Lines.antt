@@ -8,11 +8,11 @@ use lib.ListN.{length, length-append}
 use mir.Syntax.{w64}
 use mir.Val.{Fits}
 use Rattle.answer.specs.Outcome.{at}
-use Rattle.codec.specs.ByteForm.{leaves, placed}
+use Rattle.answer.specs.Placed.{leaves, placed}
 use Rattle.text.specs.Texts.{ascii, decimal}
 use Rattle.text.proofs.Decimals.{decimal-few}
 use Rattle.report_lines.specs.Lines.{headLine, restOfLine, refusedLine}
-use Rattle.codec.proofs.Forms.{Wrote, placed-more, wrote-first, wrote-more}
+use Rattle.answer.proofs.Forms.{Wrote, placed-more, wrote-first, wrote-more}
 
 -- ---- a word and a number
 

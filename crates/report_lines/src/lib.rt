@@ -6,7 +6,7 @@ ghost use mathlib.Core.List.{_++_};
 ghost use Prim.Native.Nat.{_+_, _≤_};
 ghost use lib.ListN.{length};
 ghost use Rattle.answer.specs.Outcome.{at, outcome, delivered};
-ghost use Rattle.codec.specs.ByteForm.{leaves, placed};
+ghost use Rattle.answer.specs.Placed.{leaves, placed};
 ghost use Rattle.text.specs.Texts.{decimal, signed};
 ghost use Rattle.report_lines.specs.Lines.{headLine, restOfLine, refusedLine};
 

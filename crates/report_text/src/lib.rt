@@ -6,7 +6,7 @@ ghost use mathlib.Core.Path.{_≡_};
 ghost use Prim.Native.Nat.{_≤_};
 ghost use lib.Dec.{leb};
 ghost use lib.ListN.{length};
-ghost use Rattle.codec.specs.ByteForm.{leaves, placed};
+ghost use Rattle.answer.specs.Placed.{leaves, placed};
 ghost use Rattle.record.specs.Contents.{designIn};
 ghost use Rattle.sets.specs.Tables.{inTable};
 ghost use Rattle.structure.specs.Checks.{tableRefusal};

@@ -14,8 +14,8 @@ use lib.ListN.{length, length-append}
 use mir.Syntax.{w64}
 use mir.Val.{Fits, SFits}
 use borrow.Author.Tests.{lt-ltb, le-ltb}
-use Rattle.codec.proofs.ByteForms.{below-or-not}
 use Rattle.io.specs.Digits.{glyph, digits, Fewest}
+use Rattle.sets.proofs.Ranges.{below-or-above}
 use Rattle.text.specs.Texts.{spelled, decimal, signed}
 
 -- ---- one digit, and one digit more
@@ -37,7 +37,7 @@ spelled-enough (suc more) (suc other) n h l =
     ⊎-elim (λ small. spelled-small (suc more) n small ∙ sym (spelled-small (suc other) n small)) (λ large.
     spelled-large more n large
     ∙ ap (λ (front : List ℕ). front ++ ((48 + n % 10) ∷ [])) (spelled-enough more other (n / 10) (omega arith) (omega arith))
-    ∙ sym (spelled-large other n large)) (below-or-not n 10)
+    ∙ sym (spelled-large other n large)) (below-or-above n 10)
 
 pub decimal-small : (n : ℕ) → n < 10 → decimal n ≡ (48 + n) ∷ []
 unfolding decimal
@@ -77,7 +77,7 @@ pub decimal-some : (n : ℕ) → 1 ≤ length (decimal n)
 decimal-some n =
     ⊎-elim (λ small. subst (λ (text : List ℕ). 1 ≤ length text) (sym (decimal-small n small)) (le-refl 1)) (λ large.
     subst (λ (text : List ℕ). 1 ≤ length text) (sym (decimal-large n large))
-    (omega (arith, length-append (decimal (n / 10)) ((48 + n % 10) ∷ [])))) (below-or-not n 10)
+    (omega (arith, length-append (decimal (n / 10)) ((48 + n % 10) ∷ [])))) (below-or-above n 10)
 
 pub decimal-most : (k n : ℕ) → n < 10 ^ suc k → length (decimal n) ≤ suc k
 decimal-most zero n h = le-of-eq (ap length (decimal-small n h))
@@ -85,7 +85,7 @@ decimal-most (suc k) n h =
     ⊎-elim (λ small. subst (λ (text : List ℕ). length text ≤ suc (suc k)) (sym (decimal-small n small)) (omega arith)) (λ large.
     let tenth : n < 10 ^ suc k * 10 = subst (λ (x : ℕ). n < x) (pow-suc 10 (suc k)) h in
     subst (λ (text : List ℕ). length text ≤ suc (suc k)) (sym (decimal-large n large))
-    (omega (arith, length-append (decimal (n / 10)) ((48 + n % 10) ∷ []), decimal-most k (n / 10) (omega arith)))) (below-or-not n 10)
+    (omega (arith, length-append (decimal (n / 10)) ((48 + n % 10) ∷ []), decimal-most k (n / 10) (omega arith)))) (below-or-above n 10)
 
 pub decimal-few : (n : ℕ) → Fits w64 n → length (decimal n) ≤ 20
 decimal-few n fits = let small : n < 10 ^ 20 = omega arith in decimal-most 19 n small

@@ -4,7 +4,7 @@ ghost use mathlib.Core.Path.{_≡_};
 ghost use Prim.Native.Nat.{_+_, _≤_};
 ghost use lib.ListN.{length};
 ghost use lib.Seq.{paste};
-ghost use Rattle.codec.specs.ByteForm.{leaves, placed};
+ghost use Rattle.answer.specs.Placed.{leaves, placed};
 ghost use Rattle.text.specs.Texts.{decimal, signed};
 
 // Puts bytes at a position and answers the position after them.

@@ -9,8 +9,9 @@ use native.Mathlib.Numerals.{add-one}
 use native.Mathlib.Omega.{arith}
 use lib.ListN.{length, getD, take, drop, length-append, take-append-drop}
 use lib.Seq.{take-suc, take-all}
-use Rattle.codec.specs.ByteForm.{bytesOf, leaves, placed}
-use Rattle.codec.proofs.Forms.{placed-more, wrote-none}
+use Rattle.answer.specs.Placed.{leaves, placed}
+use Rattle.codec.specs.ByteForm.{bytesOf}
+use Rattle.answer.proofs.Forms.{placed-more, wrote-none}
 use Rattle.parts.specs.PartLists.{listOf}
 use Rattle.parts.proofs.WellFormed.{numbers-of-list}
 use Rattle.record.specs.Records.{design}

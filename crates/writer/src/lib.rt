@@ -5,7 +5,7 @@ ghost use mathlib.Core.Path.{_≡_};
 ghost use Prim.Native.Nat.{_+_, _≤_};
 ghost use lib.ListN.{length};
 ghost use Rattle.answer.specs.Outcome.{outcome, delivered};
-ghost use Rattle.codec.specs.ByteForm.{placed, leaves};
+ghost use Rattle.answer.specs.Placed.{placed, leaves};
 ghost use Rattle.orders.specs.Antichains.{mostSets};
 ghost use Rattle.numbering.specs.Numbering.{mostParts};
 ghost use Rattle.parts.specs.PartLists.{listOf};

@@ -12,7 +12,7 @@ use mir.Facts.{toZ-ofZ}
 use Rattle.text.specs.Texts.{signed}
 use Rattle.text.proofs.Decimals.{signed-few}
 use Rattle.report_lines.specs.Lines.{restOfLine}
-use Rattle.codec.proofs.Forms.{wrote-length}
+use Rattle.answer.proofs.Forms.{wrote-length}
 use Rattle.figures_text.specs.FiguresText.{cellLine}
 use Rattle.figures_text.proofs.Blocks.{Before, before-first, before-next, before-end}
 use borrow.Author.Needs.{needs}

@@ -8,7 +8,7 @@ use denote.Ref.{now}
 use Rattle.text.specs.Texts.{ascii, decimal}
 use Rattle.text.proofs.Decimals.{decimal-few}
 use Rattle.report_lines.specs.Lines.{restOfLine}
-use Rattle.codec.proofs.Forms.{wrote-length}
+use Rattle.answer.proofs.Forms.{wrote-length}
 use Rattle.figures_text.specs.FiguresText.{countLine}
 use Rattle.figures_text.proofs.Blocks.{Before, before-first, before-next, before-end}
 use borrow.Author.Needs.{needs}

@@ -5,8 +5,8 @@ use native.Mathlib.Omega.{arith}
 use denote.Ref.{now}
 use lib.ListN.{length, replicate}
 use lib.Seq.{length-take-le}
-use Rattle.codec.specs.ByteForm.{placed}
-use Rattle.codec.proofs.Forms.{Wrote, wrote-none, wrote-first, wrote-same, wrote-front, wrote-inside}
+use Rattle.answer.specs.Placed.{placed}
+use Rattle.answer.proofs.Forms.{Wrote, wrote-none, wrote-first, wrote-same, wrote-front, wrote-inside}
 use Rattle.figures_text.specs.FiguresText.{textBy}
 use Rattle.figures_text.proofs.Blocks.{few-parts, many-parts}
 use borrow.Author.Needs.{needs}

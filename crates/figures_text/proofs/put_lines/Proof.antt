@@ -5,11 +5,11 @@ use mathlib.Core.List.{_++_}
 use Prim.Native.Nat.{ℕ, _+_, _*_}
 use native.Mathlib.Omega.{arith}
 use denote.Ref.{now}
-use Rattle.codec.specs.ByteForm.{placed}
+use Rattle.answer.specs.Placed.{placed}
 use Rattle.text.specs.Texts.{ascii, lines}
 use Rattle.report_lines.specs.Lines.{headLine}
 use Rattle.report_lines.proofs.Lines.{head-few}
-use Rattle.codec.proofs.Forms.{Wrote, wrote-first, wrote-more, wrote-same, wrote-room}
+use Rattle.answer.proofs.Forms.{Wrote, wrote-first, wrote-more, wrote-same, wrote-room}
 use Rattle.figures_text.specs.FiguresText.{cellLine, countLine, linesBy}
 use Rattle.figures_text.proofs.Blocks.{blocks-joined}
 use borrow.Author.Needs.{needs}

@@ -7,7 +7,7 @@ use lib.ListN.{length}
 use Rattle.answer.specs.Outcome.{outcome}
 use Rattle.answer.specs.declared.Written.{Written}
 use Rattle.answer.proofs.Outcomes.{in-front-none, in-front-delivered, short-delivered}
-use Rattle.codec.proofs.Placing.{in-front-more}
+use Rattle.answer.proofs.Placing.{in-front-more}
 use borrow.Author.Needs.{needs}
 use Rattle.report_lines.proofs.hand_out.Statement.{statement}
 use Rattle.report_lines.proofs.hand_out.Tie as tie

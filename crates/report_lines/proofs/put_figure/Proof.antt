@@ -7,7 +7,7 @@ use native.Mathlib.Omega.{arith}
 use denote.Ref.{now}
 use lib.ListN.{replicate}
 use lib.Seq.{length-take-le}
-use Rattle.codec.specs.ByteForm.{placed}
+use Rattle.answer.specs.Placed.{placed}
 use Rattle.text.specs.Texts.{ascii, signed}
 use lib.IntN.{ℤ}
 use mir.Syntax.{w64}
@@ -15,7 +15,7 @@ use mir.Val.{toZ, ofZ}
 use mir.Facts.{toZ-ofZ}
 use Rattle.text.proofs.Decimals.{signed-few}
 use Rattle.report_lines.specs.Lines.{restOfLine}
-use Rattle.codec.proofs.Forms.{Wrote, wrote-more, wrote-same, wrote-front, wrote-inside}
+use Rattle.answer.proofs.Forms.{Wrote, wrote-more, wrote-same, wrote-front, wrote-inside}
 use Rattle.report_lines.proofs.Lines.{number-first}
 use borrow.Author.Needs.{needs}
 use Rattle.report_lines.proofs.put_figure.Statement.{statement}

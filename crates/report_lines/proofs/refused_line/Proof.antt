@@ -12,7 +12,7 @@ use Rattle.answer.specs.declared.Verdict.the-variants.{Accepted}
 use Rattle.text.specs.Texts.{ascii, decimal}
 use Rattle.text.proofs.Decimals.{decimal-few}
 use Rattle.report_lines.specs.Lines.{restOfLine, refusedLine}
-use Rattle.codec.proofs.Forms.{Wrote, wrote-first, wrote-more, wrote-same, wrote-front, wrote-inside}
+use Rattle.answer.proofs.Forms.{Wrote, wrote-first, wrote-more, wrote-same, wrote-front, wrote-inside}
 use Rattle.report_lines.proofs.Lines.{rest-few, refused-parts}
 use borrow.Author.Needs.{needs}
 use Rattle.report_lines.proofs.refused_line.Statement.{statement}

@@ -5,7 +5,7 @@ use mathlib.Core.List.{List}
 use Prim.Native.Nat.{ℕ, _≤_}
 use denote.Ref.{now}
 use lib.ListN.{length}
-use Rattle.codec.specs.ByteForm.{placed}
+use Rattle.answer.specs.Placed.{placed}
 use Rattle.sets.specs.Tables.{inTable}
 use Rattle.structure.proofs.Acceptance.{accepted-table}
 use Rattle.signature.specs.All.{AllOutcome}

@@ -11,8 +11,9 @@ use lib.ListN.{length, take, length-append}
 use lib.Seq.{take-all}
 use Rattle.answer.proofs.Outcomes.{InFront, in-front-none, in-front-length, in-front-delivered}
 use Rattle.answer.proofs.Deliveries.{in-front-now, in-front-on}
-use Rattle.codec.specs.ByteForm.{bytesOf, placed}
-use Rattle.codec.proofs.Placing.{in-front-more}
+use Rattle.answer.specs.Placed.{placed}
+use Rattle.codec.specs.ByteForm.{bytesOf}
+use Rattle.answer.proofs.Placing.{in-front-more}
 use Rattle.kind.specs.Kinds.{kindNumber}
 use Rattle.conversion.specs.Vectors.{entryAt}
 use Rattle.conversion.proofs.CountAt.{entry-read}

@@ -2,7 +2,7 @@
 -- Assumes nothing.
 use mathlib.Core.Path.{ap, _∙_}
 use denote.Ref.{now}
-use Rattle.codec.specs.ByteForm.{placed}
+use Rattle.answer.specs.Placed.{placed}
 use Rattle.text.proofs.Decimals.{digits-decimal}
 use borrow.Author.Needs.{needs}
 use Rattle.text.proofs.put_decimal.Statement.{statement}

@@ -9,8 +9,8 @@ use lib.Dec.{lit≤}
 use lib.ListN.{length, take, drop, replicate}
 use lib.Seq.{take-append-seam, length-take-le}
 use Rattle.answer.proofs.Outcomes.{InFront, in-front-none, in-front-length}
-use Rattle.codec.specs.ByteForm.{placed}
-use Rattle.codec.proofs.Placing.{in-front-more}
+use Rattle.answer.specs.Placed.{placed}
+use Rattle.answer.proofs.Placing.{in-front-more}
 use Rattle.text.specs.Texts.{decimal}
 use Rattle.text.proofs.Decimals.{decimal-most}
 use Rattle.text.proofs.Signs.{signed-negative, signed-other}

@@ -10,7 +10,7 @@ use Rattle.answer.specs.Outcome.{delivered}
 use Rattle.answer.specs.declared.Verdict.the-variants.{Accepted}
 use Rattle.answer.proofs.Outcomes.{InFront, in-front-none, in-front-length, in-front-delivered}
 use Rattle.codec.specs.ByteForm.{bytesOf}
-use Rattle.codec.proofs.Placing.{in-front-more}
+use Rattle.answer.proofs.Placing.{in-front-more}
 use Rattle.parts.specs.PartLists.{listOf}
 use Rattle.record.specs.Records.{design}
 use Rattle.heading.specs.HeadingBytes.{formsOf}

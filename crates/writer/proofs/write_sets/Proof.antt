@@ -5,8 +5,8 @@ use Prim.Native.Nat.{_-_, _≤_}
 use native.Mathlib.Omega.{arith}
 use denote.Ref.{now}
 use lib.ListN.{length, take}
-use Rattle.codec.specs.ByteForm.{leaves, placed}
-use Rattle.codec.proofs.Forms.{placed-length}
+use Rattle.answer.specs.Placed.{leaves, placed}
+use Rattle.answer.proofs.Forms.{placed-length}
 use Rattle.heading.specs.HeadingBytes.{formsOf}
 use Rattle.writer.proofs.Writing.{forms-none, forms-more, forms-all}
 use borrow.Author.Needs.{needs}

@@ -7,9 +7,9 @@ use native.Mathlib.Nat.{add-zero, zero-add}
 use native.Mathlib.Omega.{arith}
 use lib.ListN.{length, take, drop, length-append, take-append-drop}
 use lib.Seq.{length-take-le, take-append-seam}
 use Rattle.answer.proofs.Outcomes.{InFront, in-front-length}
-use Rattle.codec.specs.ByteForm.{Placement, leaves, placed}
-use Rattle.codec.proofs.Placing.{placed-fits, in-front-more}
+use Rattle.answer.specs.Placed.{Placement, leaves, placed}
+use Rattle.answer.proofs.Placing.{placed-fits, in-front-more}
 
 -- where two forms fit, the first does
 pub first-fits : (start : ℕ) (form more : List ℕ) (room : ℕ) → start + length (form ++ more) ≤ room → start + length form ≤ room

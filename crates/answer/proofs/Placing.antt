@@ -8,8 +8,8 @@ use native.Mathlib.Omega.{arith}
 use borrow.Author.Tests.{le-leb, lt-leb}
 use lib.ListN.{length, take, drop, length-append, length-drop}
 use lib.Seq.{sets, sets-eq, take-append-seam, drop-append-add, drop-drop}
 use Rattle.answer.proofs.Outcomes.{InFront}
-use Rattle.codec.specs.ByteForm.{Placement, leaves, placed}
+use Rattle.answer.specs.Placed.{Placement, leaves, placed}
 
 -- bytes that fit stand at the position, and all else is as it was
 pub placed-fits : (buffer : List ℕ) (start : ℕ) (form : List ℕ) → start + length form ≤ length buffer → placed buffer start form ≡ leaves (start + length form) (take start buffer ++ form ++ drop (start + length form) buffer)

@@ -9,8 +9,7 @@ use native.Mathlib.Omega.{arith}
 use lib.Dec.{eqb·zero-suc, eqb·suc-zero, eqb·suc-suc}
 use lib.IntN.{ℤ, pos, negsuc, negℤ, _+ℤ_, _-ℤ_, _*ℤ_, one, pow, +ℤ-negℤ-cancel, *ℤ-zero}
 use Rattle.numbers.specs.Counts.{choose}
-use Rattle.algebra.specs.Differences.{difference, power}
-use Rattle.algebra.proofs.Differences.{power-same, power-other, difference-same, difference-zero, difference-difference}
+use Rattle.algebra.proofs.Differences.{difference, power, power-same, power-other, difference-same, difference-zero, difference-difference}
 use Rattle.algebra.proofs.Integers.{*ℤ-unit, *ℤ-negℤ, ring}
 
 -- the difference of one order more is that of the first differences

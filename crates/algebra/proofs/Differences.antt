@@ -1,4 +1,4 @@
--- Laws of repeated differences: they are linear, they shift, a factor i comes out by Leibniz' rule, and a sum over the coefficients of an
+-- Repeated differences and their laws: they are linear, they shift, a factor i comes out by Leibniz' rule, and a sum over the coefficients of an
 -- expansion is a sum of differences. Assumes nothing.
 use mathlib.Core.Path.{_≡_, refl, sym, ap, ap₂, _∙_}
 use mathlib.Core.Bool.{Bool, cond}
@@ -7,17 +7,32 @@ use Prim.Native.Nat.{ℕ, zero, suc, _+_, _-_, _<_, _≤_}
 use native.Mathlib.Nat.{le-refl, zero-add, suc-add, not-suc-le-zero, le-of-suc-le-suc, eq-or-lt-of-le}
 use native.Mathlib.Numerals.{add-one}
 use native.Mathlib.Omega.{arith}
+use lib.Dec.{eqb}
 use lib.IntN.{ℤ, pos, negℤ, _+ℤ_, _-ℤ_, _*ℤ_, +ℤ-idl, +ℤ-idr, *ℤ-zero}
 use borrow.Author.Tests.{eq-eqb, ne-eqb}
 use Rattle.algebra.specs.Sums.{sumBelowℤ}
-use Rattle.algebra.specs.Differences.{difference, power, expansion}
 use Rattle.algebra.proofs.IntegerSums.{sumBelowℤ-same, sumBelowℤ-zero, sumBelowℤ-add, sumBelowℤ-mul, sumBelowℤ-neg, sumBelowℤ-exchange}
 use Rattle.algebra.proofs.Integers.{*ℤ-unit, *ℤ-left-comm, ring}
 
-pos-suc : (n : ℕ) → pos (suc n) ≡ pos n +ℤ pos 1
-pos-suc n = ap pos (sym (add-one n))
+-- ---- the definitions: whatever is linear in polynomials and gives f i at x^i gives the difference of order n of f at a, at x^a (1-x)^n
+
+-- the difference of order n of f at a
+unfoldable pub difference : ℕ → (ℕ → ℤ) → ℕ → ℤ
+difference zero f a = f a
+difference (suc n) f a = difference n f a -ℤ difference n f (suc a)
+
+-- the coefficient of x^i in x^a
+unfoldable pub power : ℕ → ℕ → ℤ
+power i a = cond (eqb i a) (pos 1) (pos 0)
+
+-- the coefficient of x^i in the sum over a from 0 to m of u a × x^a (1-x)^(m-a)
+unfoldable pub expansion : ℕ → (ℕ → ℤ) → ℕ → ℤ
+expansion m u i = sumBelowℤ (λ a. u a *ℤ difference (m - a) (power i) a) (suc m)
 
 -- ---- differences
+
+pos-suc : (n : ℕ) → pos (suc n) ≡ pos n +ℤ pos 1
+pos-suc n = ap pos (sym (add-one n))
 
 pub difference-same : (n : ℕ) (f g : ℕ → ℤ) (a : ℕ) → ((i : ℕ) → a ≤ i → i ≤ a + n → f i ≡ g i) → difference n f a ≡ difference n g a
 unfolding difference

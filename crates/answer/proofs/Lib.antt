@@ -1,3 +1,5 @@
 pub mod Outcomes
 pub mod Deliveries
 pub mod FixedCells
+pub mod Placing
+pub mod Forms

@@ -15,8 +15,10 @@ use Rattle.parts.specs.Changes.{added, takenOut}
 use Rattle.sets.specs.Masks.{has, holds, any, those}
 use Rattle.sets.specs.Structures.{listed, minimal}
 use Rattle.structure.specs.Checks as structure
-use Rattle.record.specs.Records.{fieldAt, misplaced, numbersAt, partsAt, headAt, setsAt, recordAt, wholeRecord}
-use Rattle.record.specs.RecordBytes.{formsOf, partsBytes, headBytes, recordBytes}
+use Rattle.heading.specs.Headings.{fieldAt, numbersAt, partsAt, headAt}
+use Rattle.record.specs.Records.{misplaced, setsAt, recordAt, wholeRecord}
+use Rattle.heading.specs.HeadingBytes.{formsOf, partsBytes, headBytes}
+use Rattle.record.specs.RecordBytes.{recordBytes}
 use Rattle.changes.specs.Changes.{Change, addPart, takeOut, addSet, lowered, setsWithout}
 use Rattle.changes.specs.Records.{changedRecord, firstRecord}
 use Rattle.changes.specs.Lines.{Call, after, lastOf}

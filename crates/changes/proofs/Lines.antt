@@ -19,7 +19,8 @@ use Rattle.parts.specs.Lines as lines
 use Rattle.parts.proofs.Numbers.{rising-in}
 use Rattle.parts.proofs.OneChange.{line-none, line-one}
 use Rattle.parts.proofs.Lines.{line-append}
-use Rattle.record.specs.Records.{found, Design, wholeRecord}
+use Rattle.heading.specs.Headings.{found}
+use Rattle.record.specs.Records.{Design, wholeRecord}
 use Rattle.record.specs.RecordBytes.{DesignRules}
 use Rattle.record.proofs.RoundTrip.{whole-written}
 use Rattle.changes.specs.Changes.{Change, addPart, takeOut, addSet, changeRefusal, changed}

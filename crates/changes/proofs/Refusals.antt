@@ -16,7 +16,8 @@ use Rattle.answer.specs.declared.Written.the-variants.{Length}
 use Rattle.numbering.specs.Numbering.{mostParts, topNumber}
 use Rattle.sets.specs.Masks.{has}
 use Rattle.sets.proofs.Bools.{clash, false-of}
-use Rattle.record.specs.Records.{Read, found, Design, wholeRecord}
+use Rattle.heading.specs.Headings.{Read, found}
+use Rattle.record.specs.Records.{Design, wholeRecord}
 use Rattle.record.specs.RecordBytes.{recordBytes, DesignRules}
 use Rattle.changes.specs.Changes.{Change, addPart, takeOut, addSet, every, changeRefusal, changed}
 use Rattle.changes.specs.Records.{changedRead, changedRecord}

@@ -17,6 +17,7 @@ use Rattle.parts.specs.Lines.{In}
 use Rattle.parts.proofs.WellFormed.{well-formed-counted}
 use Rattle.sets.specs.Masks.{has, holds}
 use Rattle.sets.specs.Structures.{listed, minimal, minimalSets}
+use Rattle.sets.specs.Tables.{packed}
 use Rattle.sets.proofs.Bools.{and-left, and-right, and-both, clash, same-test, false-of}
 use Rattle.sets.proofs.Ranges.{below-or-above, those-intro}
 use Rattle.sets.proofs.Lists.{listed-intro}
@@ -26,12 +27,16 @@ use Rattle.sets.proofs.Tables.{has-packed}
 use Rattle.record.specs.Records.{Design}
 use Rattle.record.specs.RecordBytes.{DesignRules}
 use Rattle.changes.specs.Changes.{addPart, takeOut, addSet, keep, every, changeRefusal, changed}
-use Rattle.changes.specs.Names.{named, namedSets, numberAt, names, runs, workingSet}
+use Rattle.changes.specs.Names.{named, namedSets, numberAt, names, runs}
 use Rattle.changes.proofs.Keeping.{every-intro, every-elim, some-intro, some-elim}
 use Rattle.changes.proofs.MinimalSets.{minimal-exactly}
 use Rattle.changes.proofs.Names.{named-position, named-at, holds-names, names-intro, names-elim}
 use Rattle.changes.proofs.NamedChanges.{added-names, taken-out-names}
 use Rattle.changes.proofs.Rules.{with-set-within}
+
+-- the set by positions of those that work among the parts with these numbers
+abbrev pub workingSet : List ℕ → (ℕ → Bool) → ℕ
+workingSet numbers working = packed (length numbers) (λ i. working (getD numbers i 0))
 
 -- all parts of a set work exactly if the set of those that work holds it
 working-holds : (numbers : List ℕ) (working : ℕ → Bool) (a : ℕ) → a < 2 ^ length numbers → every working (named numbers a) ≡ holds (workingSet numbers working) a

@@ -3,10 +3,10 @@
 use mathlib.Core.Path.{_≡_, refl, sym, ap, _∙_}
 use mathlib.Core.Bool.{Bool, true, false, not, cond}
 use mathlib.Core.List.{List, [], _∷_, _++_, append-nil, map, List·Memᴰ, List·Memᴰ·head, List·Memᴰ·tail, Memᴰ·of-map}
-use Prim.Native.Nat.{ℕ, suc, _≤_, _<_}
+use Prim.Native.Nat.{ℕ, suc, _+_, _≤_, _<_}
 use native.Mathlib.Omega.{arith}
 use borrow.Author.Tests.{not-true}
-use lib.ListN.{length, getD, take, length-map}
+use lib.ListN.{length, getD, take, drop, length-append, length-map, take-append-drop}
 use lib.Seq.{take-suc}
 use Rattle.sets.specs.Masks.{has, RisingFrom, holds}
 use Rattle.sets.proofs.Bools.{not-not, clash, false-of}
@@ -91,10 +91,21 @@ module _ (index i : ℕ) (sets : List ℕ) (h : i < length sets) where
   unfolding setsWithout
   without-kept lacks = one-more ∙ simp lacks
 
+  -- and counted
+  pub without-longer : has (getD sets i 0) index ≡ false → length (setsWithout index (take (suc i) sets)) ≡ length (setsWithout index (take i sets)) + 1
+  without-longer lacks = ap length (without-kept lacks) ∙ length-append (setsWithout index (take i sets)) (lowered index (getD sets i 0) ∷ [])
+
   -- one that names it is not
   pub without-gone : has (getD sets i 0) index ≡ true → setsWithout index (take (suc i) sets) ≡ setsWithout index (take i sets)
   unfolding setsWithout
   without-gone names = one-more ∙ simp names (append-nil _)
+
+-- no more of the first sets are kept than of all
+pub without-part : (index i : ℕ) (sets : List ℕ) → length (setsWithout index (take i sets)) ≤ length (setsWithout index sets)
+without-part index i sets =
+    let whole : setsWithout index sets ≡ setsWithout index (take i sets) ++ setsWithout index (drop i sets) =
+    ap (setsWithout index) (sym (take-append-drop i sets)) ∙ without-append index (take i sets) (drop i sets) in
+    omega (arith, ap length whole, length-append (setsWithout index (take i sets)) (setsWithout index (drop i sets)))
 
 -- no more sets are kept than there are
 pub without-fewer : (index : ℕ) (sets : List ℕ) → length (setsWithout index sets) ≤ length sets

@@ -1,46 +1,24 @@
 -- What a change writes is accepted again and read as the design that the change gives; so is a first record.
 -- Assumes nothing.
 use mathlib.Core.Path.{_≡_, refl, sym, ap, _∙_}
-use mathlib.Core.Bool.{Bool, true, false, cond}
-use mathlib.Core.List.{List, _++_}
+use mathlib.Core.List.{List}
 use Prim.Native.Nat.{ℕ}
 use native.Mathlib.Omega.{arith}
-use lib.Dec.{leb}
-use lib.ListN.{length, take, drop}
-use lib.Seq.{take-append-seam}
-use Rattle.answer.specs.Refusals.{shortBuffer}
+use lib.ListN.{take}
 use Rattle.answer.specs.Outcome.{at, Outcome, outcome, delivered}
-use Rattle.answer.specs.declared.Verdict.{Verdict}
 use Rattle.answer.specs.declared.Verdict.the-variants as verdict
+use Rattle.answer.specs.declared.Written.{Written}
 use Rattle.answer.specs.declared.Written.the-variants as written
+use Rattle.answer.proofs.Deliveries.{given}
 use Rattle.codec.proofs.WriteAfterRead.{Bytes}
 use Rattle.structure.specs.Checks.{listRefusal}
-use Rattle.record.specs.Records.{Read, found, refused, Design, wholeRecord}
+use Rattle.heading.specs.Headings.{Read, found, refused}
+use Rattle.record.specs.Records.{Design, wholeRecord}
 use Rattle.record.specs.RecordBytes.{recordBytes, DesignRules}
 use Rattle.record.proofs.RoundTrip.{whole-written, whole-read}
 use Rattle.changes.specs.Changes.{Change, changeRefusal, changed, firstDesign}
 use Rattle.changes.specs.Records.{changedRead, changedRecord, firstRecord}
 use Rattle.changes.proofs.Rules.{changed-rules, first-rules}
-
--- what a given result means: nothing refused it, and it stands in front of the buffer
-pub record Given (refusal : Verdict) (result : List ℕ) (outcome : Outcome ℕ) (n : ℕ) : Type 0 where
-  pub accepted : refusal ≡ verdict.Accepted
-  pub counted : n ≡ length result
-  pub written : take n (outcome .buffer) ≡ result
-
-pub given : (v : Verdict) (result buffer : List ℕ) (n : ℕ) → delivered v result buffer .answer ≡ written.Length n → Given v result (delivered v result buffer) n
-given (verdict.Refused r) result buffer n e = let z : _≡_ {A = ℕ} 0 1 = cc in absurd (omega arith)
-given verdict.Accepted result buffer n e = cases (leb (length result) (length buffer)) e
-  where
-    choice : Bool → Outcome ℕ
-    choice fits =
-        cond fits (outcome (written.Length (length result)) (result ++ drop (length result) buffer)) (outcome (written.Refused (at shortBuffer (length result))) buffer)
-
-    cases : (fits : Bool) → choice fits .answer ≡ written.Length n → Given verdict.Accepted result (choice fits) n
-    cases true e =
-        let counted : n ≡ length result = cc in
-        record { accepted = refl; counted = counted; written = rw counted (take-append-seam result (drop (length result) buffer)) }
-    cases false e = let z : _≡_ {A = ℕ} 0 1 = cc in absurd (omega arith)
 
 -- What a change that was made means: nothing refused it; what it gives keeps the rules, stands in front of the buffer in its byte form, and
 -- is read again as that design.
@@ -58,13 +36,14 @@ module _ (change : Change) (bytes buffer : List ℕ) (n : ℕ) (e : changedRecor
     where
       made : changedRead change (found d next) buffer .answer ≡ written.Length n → Made change d (changedRead change (found d next) buffer) n
       made e =
-          let g = given (changeRefusal change d) (recordBytes (changed change d)) buffer n e in
+          let left = changedRead change (found d next) buffer .buffer in
+          let g = given (changeRefusal change d) (recordBytes (changed change d)) buffer left n (ap (λ (w : Written). outcome w left) (sym e)) in
           let again = changed-rules change d rules (g .accepted) in
           record {
             accepted = g .accepted;
             again = again;
-            written = g .written;
-            accepted-again = ap wholeRecord (g .written) ∙ whole-read (changed change d) again ∙ ap (found (changed change d)) (sym (g .counted));
+            written = g .front;
+            accepted-again = ap wholeRecord (g .front) ∙ whole-read (changed change d) again ∙ ap (found (changed change d)) (sym (g .counted));
           }
 
   -- only a record is changed
@@ -86,5 +65,6 @@ module _ (change : Change) (bytes buffer : List ℕ) (n : ℕ) (e : changedRecor
 pub first-read : (n : ℕ) (list buffer : List ℕ) (k : ℕ) → firstRecord n list buffer .answer ≡ written.Length k → wholeRecord (take k (firstRecord n list buffer .buffer)) ≡ found (firstDesign n list) k
 unfolding firstRecord
 first-read n list buffer k e =
-    let g = given (listRefusal n list) (recordBytes (firstDesign n list)) buffer k e in
-    ap wholeRecord (g .written) ∙ whole-read (firstDesign n list) (first-rules n list (g .accepted)) ∙ ap (found (firstDesign n list)) (sym (g .counted))
+    let left = delivered (listRefusal n list) (recordBytes (firstDesign n list)) buffer .buffer in
+    let g = given (listRefusal n list) (recordBytes (firstDesign n list)) buffer left k (ap (λ (w : Written). outcome w left) (sym e)) in
+    ap wholeRecord (g .front) ∙ whole-read (firstDesign n list) (first-rules n list (g .accepted)) ∙ ap (found (firstDesign n list)) (sym (g .counted))

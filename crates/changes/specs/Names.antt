@@ -4,12 +4,11 @@ use mathlib.Core.List.{List, [], _∷_, map, List·Memᴰ}
 use mathlib.Core.Path.{_≡_}
 use Prim.Native.Nat.{ℕ, _-_, _/_}
 use lib.Dec.{eqb}
-use lib.ListN.{length, getD}
+use lib.ListN.{getD}
 use Rattle.algebra.specs.Sums.{some}
 use Rattle.parts.specs.PartLists.{numbersOf}
 use Rattle.parts.specs.Lines.{In}
 use Rattle.sets.specs.Masks.{has}
-use Rattle.sets.specs.Tables.{packed}
 use Rattle.record.specs.Records.{Design}
 use Rattle.changes.specs.Changes.{every}
 
@@ -38,7 +37,3 @@ LeastNamed sets set =
 -- The structure by part numbers: the machine runs while those parts work, since all parts of some minimal set do.
 abbrev pub runs : Design → (ℕ → Bool) → Bool
 runs d working = some (every working) (namedSets d)
-
--- the set by positions of those that work among the parts with these numbers
-abbrev pub workingSet : List ℕ → (ℕ → Bool) → ℕ
-workingSet numbers working = packed (length numbers) (λ i. working (getD numbers i 0))

@@ -5,7 +5,8 @@ use Prim.Native.Nat.{ℕ}
 use Rattle.answer.specs.Outcome.{Outcome, delivered}
 use Rattle.answer.specs.declared.Verdict.the-variants as verdict
 use Rattle.structure.specs.Checks.{listRefusal}
-use Rattle.record.specs.Records.{Read, found, refused, Design, wholeRecord}
+use Rattle.heading.specs.Headings.{Read, found, refused}
+use Rattle.record.specs.Records.{Design, wholeRecord}
 use Rattle.record.specs.RecordBytes.{recordBytes}
 use Rattle.changes.specs.Changes.{Change, changeRefusal, changed, firstDesign}
 

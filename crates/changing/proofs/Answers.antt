@@ -1,22 +1,20 @@
 -- A record that was opened for a change: a refused one refuses the change, and an accepted one has a design, whose sets stand in front of the
 -- array. What the design refuses the change for is then the answer, and else the changed design is written.
 -- Assumes nothing.
-use mathlib.Core.Path.{_≡_, refl, sym, ap, ap₂, _∙_}
-use mathlib.Core.List.{List, [], _∷_, _++_, List·Memᴰ, List·Memᴰ·head, List·Memᴰ·tail, List·Memᴰ·eq-of-singleton, List·Memᴰ·append-cases}
-use mathlib.Core.Logic.{⊎-elim}
-use Prim.Native.Nat.{ℕ, _+_, _-_, _^_, _≤_, _<_}
+use mathlib.Core.Path.{_≡_, refl, sym, ap, ap₂, _∙_, subst}
+use mathlib.Core.List.{List, []}
+use Prim.Native.Nat.{ℕ, _-_, _≤_}
 use native.Mathlib.Omega.{arith}
-use borrow.Author.Tests.{eq-eqb, ne-eqb, le-ltb, le-leb, lt-leb}
-use lib.Dec.{leb, eqb}
-use lib.ListN.{length, take, drop, set, length-append, length-replicate}
+use borrow.Author.Tests.{ne-eqb, le-ltb}
+use lib.ListN.{length, take, drop, length-replicate}
 use lib.Seq.{take-append-seam}
-use Rattle.answer.specs.Refusals.{unknownPart, emptySet, inEverySet}
-use Rattle.answer.specs.Outcome.{at, outcome, refuse, delivered}
+use Rattle.answer.specs.Refusals.{inEverySet}
+use Rattle.answer.specs.Outcome.{at, outcome, refuse, andThen, delivered}
 use Rattle.answer.specs.declared.Refusal.{Refusal}
 use Rattle.answer.specs.declared.Verdict.{Verdict}
 use Rattle.answer.specs.declared.Verdict.the-variants.{Accepted, Refused}
 use Rattle.answer.specs.declared.Written.the-variants as written
-use Rattle.answer.proofs.Outcomes.{refuse-passed, refuse-held, InFront, in-front-one, in-front-length}
+use Rattle.answer.proofs.Outcomes.{refuse-passed, refuse-held, InFront, in-front-length}
 use Rattle.codec.proofs.WriteAfterRead.{Bytes}
 use Rattle.parts.specs.declared.PartList.{PartList}
 use Rattle.parts.specs.declared.Changed.{Changed}
@@ -25,18 +23,18 @@ use Rattle.parts.specs.Changes.{addRefusal, added, takenOut, withPart, withoutP
 use Rattle.parts.specs.Changes as parts
 use Rattle.parts.proofs.OneChange.{added-whole, taken-out-whole, take-out-accepted}
 use Rattle.sets.specs.Masks.{has}
-use Rattle.sets.specs.Structures.{listed, minimalSets}
-use Rattle.sets.proofs.Structures.{minimalSets-same}
-use Rattle.record.specs.Records.{Read, found, refused, Design, design, wholeRecord}
+use Rattle.heading.specs.Headings.{Read, found, refused}
+use Rattle.record.specs.Records.{Design, design, wholeRecord}
 use Rattle.record.specs.RecordBytes.{recordBytes, DesignRules}
 use Rattle.record.proofs.RoundTrip.{whole-written}
+use Rattle.record.proofs.MinimalSets.{design-list}
 use Rattle.changes.specs.Changes.{Change, addPart, takeOut, addSet, every, setsWithout, changeRefusal, changed}
 use Rattle.changes.specs.Records.{changedRead, changedRecord}
 use Rattle.changes.proofs.TakenOut.{without-none, without-some}
-use Rattle.changes.proofs.Rules.{take-out-agrees, with-set-within}
+use Rattle.changes.proofs.Rules.{changed-rules, take-out-agrees}
 use Rattle.changing.specs.declared.Opened.{Opened}
-use Rattle.changing.specs.Steps.{openedOf, SomeSets}
-use Rattle.changing.proofs.ListSets.{listed-behind}
+use Rattle.changing.specs.Steps.{openedOf}
+use Rattle.lists.specs.Lists.{withSetRefusal}
 use Rattle.changing.proofs.Loading.{room}
 
 -- a result in front of an array is what its first cells hold
@@ -99,15 +97,10 @@ module _ {bytes : List ℕ} {o : Opened} (w : DesignOpened bytes o) where
   pub sets-few : o .count ≤ 12870
   sets-few = omega (arith, sets-counted, w .rules .sets .most)
 
-  pub sets-room : length (o .sets) ≡ 12871
+  pub sets-room : length (o .sets) ≡ 12870
   sets-room =
-      in-front-length room (w .d .sets) (o .sets) (o .count) (w .front) (omega (arith, w .rules .sets .most, length-replicate {A = ℕ} 12871 0))
-      ∙ length-replicate {A = ℕ} 12871 0
-
-  -- one set more behind them
-  pub set-behind : (value : ℕ) → take (o .count + 1) (set (o .sets) (o .count) value) ≡ w .d .sets ++ (value ∷ [])
-  set-behind value =
-      front-taken (in-front-one room (w .d .sets) (o .sets) (o .count) value (w .front) (omega (arith, w .rules .sets .most, length-replicate {A = ℕ} 12871 0)))
+      in-front-length room (w .d .sets) (o .sets) (o .count) (w .front) (omega (arith, w .rules .sets .most, length-replicate {A = ℕ} 12870 0))
+      ∙ length-replicate {A = ℕ} 12870 0
 
   -- ---- the answer
 
@@ -118,7 +111,11 @@ module _ {bytes : List ℕ} {o : Opened} (w : DesignOpened bytes o) where
   change-refused change why h buffer =
       ap (λ (v : Verdict). delivered v (recordBytes (changed change (w .d))) buffer) (sym h) ∙ ap (λ (r : Read Design). changedRead change r buffer) (sym (w .read))
 
-  -- and else the changed design is written
+  -- and else the changed design keeps the rules and is written
+  pub change-rules : (change : Change) → changeRefusal change (w .d) ≡ Accepted → (list : PartList) (sets : List ℕ) → list ≡ changed change (w .d) .parts → sets ≡ changed change (w .d) .sets
+      → DesignRules (design list sets)
+  change-rules change h list sets lists same = subst DesignRules (sym (ap₂ design lists same)) (changed-rules change (w .d) (w .rules) h)
+
   pub change-made : (change : Change) → changeRefusal change (w .d) ≡ Accepted → (list : PartList) (sets buffer : List ℕ) → list ≡ changed change (w .d) .parts
       → sets ≡ changed change (w .d) .sets → delivered Accepted (recordBytes (design list sets)) buffer ≡ changedRecord change bytes buffer
   unfolding changedRecord
@@ -180,30 +177,6 @@ module _ (d : Design) (r : DesignRules d) where
       out-some some =
           out-left k e .2 ∙ refuse-passed (every (λ s. has s (position - 1)) (d .sets)) inEverySet 0 Accepted (without-some (position - 1) (d .sets) some)
 
-  -- 4 and 5
-  module _ (value : ℕ) where
-    pub set-unknown : 2 ^ (d .parts .count) ≤ value → changeRefusal (addSet value) d ≡ Refused (at unknownPart 0)
-    set-unknown h = refuse-held (leb (2 ^ (d .parts .count)) value) unknownPart 0 _ (le-leb (2 ^ (d .parts .count)) value h)
-
-    pub set-empty : value < 2 ^ (d .parts .count) → value ≡ 0 → changeRefusal (addSet value) d ≡ Refused (at emptySet 0)
-    set-empty h none =
-        refuse-passed (leb (2 ^ (d .parts .count)) value) unknownPart 0 _ (lt-leb (2 ^ (d .parts .count)) value h)
-        ∙ refuse-held (eqb value 0) emptySet 0 Accepted (eq-eqb value 0 none)
-
-  -- the old sets and the new one
-  module _ (value : ℕ) (accepted : changeRefusal (addSet value) d ≡ Accepted) where
-    pub with-set : SomeSets (d .parts .count) (d .sets ++ (value ∷ []))
-    with-set =
-        record {
-          some = r .parts .rules .some;
-          few = r .parts .rules .few;
-          any-set = omega (arith, length-append (d .sets) (value ∷ []));
-          within = λ b m.
-              with-set-within value d r accepted b
-              (⊎-elim (λ (k : List·Memᴰ b (d .sets)). List·Memᴰ·tail k) (λ (k : List·Memᴰ b (value ∷ [])). List·Memᴰ·head (List·Memᴰ·eq-of-singleton k))
-              (List·Memᴰ·append-cases (d .sets) m));
-        }
-
-    pub with-set-sets : minimalSets (d .parts .count) (listed (d .sets ++ (value ∷ []))) ≡ changed (addSet value) d .sets
-    with-set-sets =
-        minimalSets-same (d .parts .count) (listed (d .sets ++ (value ∷ []))) (listed (value ∷ d .sets)) (λ a h. listed-behind (d .sets) value a)
+  -- the sets of a design are a list that nothing refuses, so 4 and 5 of the new one are what is left
+  pub with-set : (value : ℕ) → withSetRefusal (d .parts .count) (d .sets) value ≡ changeRefusal (addSet value) d
+  with-set value = ap (λ (v : Verdict). andThen v (changeRefusal (addSet value) d)) (design-list d r)

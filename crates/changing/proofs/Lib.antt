@@ -1,4 +1,3 @@
-pub mod Writing
-pub mod ListSets
+mod FirstNumbers
 pub mod Loading
 pub mod Answers

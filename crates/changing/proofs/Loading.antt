@@ -15,7 +15,8 @@ use Rattle.record.specs.declared.Contents.{Contents}
 use Rattle.record.specs.declared.Cursor.{Cursor}
 use Rattle.record.specs.declared.Step.{Step}
 use Rattle.record.specs.declared.Step.the-variants.{Set, End}
-use Rattle.record.specs.Records.{Read, found, refused, Design, wholeRecord}
+use Rattle.heading.specs.Headings.{Read, found, refused}
+use Rattle.record.specs.Records.{Design, wholeRecord}
 use Rattle.record.specs.Contents.{wholeContents, cursor, stepAt, metIn}
 use Rattle.record.proofs.Whole.{refused-contents, design-read, walk-meets}
 use Rattle.changing.specs.Steps.{setCells, openedOf}
@@ -23,7 +24,7 @@ use Rattle.changing.specs.Steps.{setCells, openedOf}
 -- ---- a walk along the sets
 
 abbrev pub room : List ℕ
-room = replicate 12871 0
+room = replicate 12870 0
 
 -- where a walk is that began at a cursor: the sets met stand in front of the array, and those that it meets from here on are the rest
 pub record SetWalk (bytes : List ℕ) (count : ℕ) (first : Cursor) (sets : List ℕ) (here : Cursor) (read : ℕ) : Type 0 where
@@ -76,7 +77,7 @@ module _ {bytes : List ℕ} {count : ℕ} {first : Cursor} {sets : List ℕ} {he
           record {
             within = omega arith;
             done = w .done ++ (value ∷ []);
-            front = in-front-one room (w .done) sets read value (w .front) (omega (arith, w .front .ends, length-replicate {A = ℕ} 12871 0));
+            front = in-front-one room (w .done) sets read value (w .front) (omega (arith, w .front .ends, length-replicate {A = ℕ} 12870 0));
             rest = append-assoc (w .done) (value ∷ []) left ∙ ap (λ (l : List ℕ). w .done ++ l) (sym one) ∙ w .rest;
           }
 

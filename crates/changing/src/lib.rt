@@ -1,6 +1,5 @@
 // Changes of design records (01, "Records on disk"): a first record, and the three changes of record bytes. The whole record is checked as a
 // reader checks it, then the change, then the new record is written.
-use answer::Refusal;
 use answer::Verdict;
 use answer::Written;
 use parts::Numbered;
@@ -8,30 +7,24 @@ use parts::PartList;
 use record::Cursor;
 use record::Step;
 ghost use mathlib.Core.Path.{_≡_};
-ghost use Prim.Native.Nat.{ℕ, _+_, _*_, _^_, _≤_, _<_};
+ghost use Prim.Native.Nat.{ℕ, _+_, _≤_, _<_};
 ghost use mathlib.Core.List.{List·Memᴰ};
 ghost use lib.ListN.{length};
-ghost use Rattle.answer.specs.Outcome.{at, outcome, delivered};
-ghost use Rattle.codec.specs.ByteForm.{placed, leaves};
+ghost use Rattle.answer.specs.Outcome.{outcome, delivered};
 ghost use Rattle.orders.specs.Antichains.{mostSets};
-ghost use Rattle.numbering.specs.Numbering.{mostParts};
-ghost use Rattle.parts.specs.PartLists.{listOf, WellFormed};
 ghost use Rattle.record.specs.Records.{design, wholeRecord};
 ghost use Rattle.record.specs.Contents.{stepAt, metIn};
-ghost use Rattle.record.specs.RecordBytes.{formsOf, recordBytes};
-ghost use Rattle.sets.specs.Masks.{has};
-ghost use Rattle.sets.specs.Structures.{listed, minimalSets};
-ghost use Rattle.structure.specs.Checks.{listRefusal};
-ghost use Rattle.changes.specs.Changes.{addPart, takeOut, addSet, lowered, setsWithout};
+ghost use Rattle.record.specs.RecordBytes.{recordBytes, DesignRules};
+ghost use Rattle.changes.specs.Changes.{addPart, takeOut, addSet, setsWithout};
 ghost use Rattle.changes.specs.Records.{changedRecord, firstRecord};
-ghost use Rattle.changing.specs.Steps.{setCells, openedOf, SomeSets};
+ghost use Rattle.changing.specs.Steps.{setCells, openedOf};
 
-// What a change works on: the part list of a record, the number of its sets, and these sets in front of an array that has room for one more.
+// What a change works on: the part list of a record, the number of its sets, and these sets in front of an array.
 // Of a refused record: a list of no parts and no sets.
 struct Opened {
     list: PartList,
     count: usize,
-    sets: [u16; 12871],
+    sets: [u16; 12870],
     verdict: Verdict,
 }
 
@@ -77,7 +70,7 @@ pub fn take_out(bytes: &[u8], position: usize, buffer: &mut [u8]) -> Written
     let mut kept = [0u16; 12870];
     let left = sets_without(&sets[..count], position - 1, &mut kept);
     if left == 0 {
-        return refused(answer::IN_EVERY_SET);
+        return answer::unwritten(answer::IN_EVERY_SET, 0);
     }
     write_design(list, &kept[..left], buffer)
 }
@@ -93,18 +86,10 @@ pub fn add_set(bytes: &[u8], set: u16, buffer: &mut [u8]) -> Written
     }
     let list = opened.list;
     let n = list.count;
-    if power(n) <= set as u32 {
-        return refused(answer::UNKNOWN_PART);
-    }
-    if set == 0 {
-        return refused(answer::EMPTY_SET);
-    }
-    let mut sets = opened.sets;
+    let sets = opened.sets;
     let count = opened.count;
-    sets[count] = set;
-    let all = count + 1;
     let mut minimal = [0u16; 12870];
-    let found = minimal_of_sets(n, &sets[..all], &mut minimal);
+    let found = lists::minimal_with(n, &sets[..count], set, &mut minimal);
     match found {
         Written::Refused(refusal) => Written::Refused(refusal),
         Written::Length(left) => write_design(list, &minimal[..left], buffer),
@@ -116,33 +101,14 @@ pub fn first_record(n: usize, list: &[u16], buffer: &mut [u8]) -> Written
     ensures { λ r. ⌜ outcome r (now (buffer .exit)) ≡ firstRecord n (now (list .entry)) (now (buffer .entry)) ⌝ }
 {
     let mut sets = [0u16; 12870];
-    let found = minimal_of_list(n, list, &mut sets);
+    let found = lists::minimal_of_list(n, list, &mut sets);
     match found {
         Written::Refused(refusal) => Written::Refused(refusal),
         Written::Length(count) => {
             let numbers: [u64; 16] = [1, 2, 3, 4, 5, 6, 7, 8, 9, 10, 11, 12, 13, 14, 15, 16];
-            write_record(n as u64, &numbers[..n], &sets[..count], buffer)
+            writer::write_record(n as u64, &numbers[..n], &sets[..count], buffer)
         }
     }
-}
-
-// A set without the part at an index: higher positions move down by one.
-pub fn lowered(set: u16, index: usize) -> u16
-    ensures { λ r. ⌜ r ≡ lowered index set ⌝ }
-{
-    if 16 <= index {
-        return set;
-    }
-    let unit = power(index);
-    let wide = set as u32;
-    (wide / (2 * unit) * unit + wide % unit) as u16
-}
-
-// A refusal of a change, which is at place 0.
-fn refused(number: u8) -> Written
-    ensures { λ r. ⌜ r ≡ Written.Refused (at number 0) ⌝ }
-{
-    Written::Refused(Refusal { number, place: 0 })
 }
 
 // The record that the bytes are, checked whole, and its sets loaded.
@@ -166,12 +132,12 @@ fn open_record(bytes: &[u8]) -> Opened
 }
 
 // The sets that a walk from a cursor meets.
-fn load_sets(bytes: &[u8], first: Cursor) -> [u16; 12871]
+fn load_sets(bytes: &[u8], first: Cursor) -> [u16; 12870]
     requires { ⌜ first .left ≤ mostSets ⌝ }
     requires { ⌜ ((set : ℕ) → List·Memᴰ set (metIn (first .left) (now bytes) (stepAt (now bytes) first)) → set < 65536) ⌝ }
     ensures { λ r. ⌜ r ≡ setCells (metIn (first .left) (now (bytes .entry)) (stepAt (now (bytes .entry)) first)) ⌝ }
 {
-    let mut sets = [0u16; 12871];
+    let mut sets = [0u16; 12870];
     let count = first.left;
     let mut cursor = first;
     let mut read = 0;
@@ -193,148 +159,22 @@ fn load_sets(bytes: &[u8], first: Cursor) -> [u16; 12871]
 
 // The sets that do not name the part at an index, with higher positions moved down by one, into a local array, and how many they are.
 fn sets_without(sets: &[u16], index: usize, kept: &mut [u16]) -> usize
-    requires { ⌜ index ≤ 16 ⌝ }
     requires { ⌜ length (now sets) ≤ length (now kept) ⌝ }
     ensures { λ r. ⌜ outcome (Written.Length r) (now (kept .exit)) ≡ delivered Verdict.Accepted (setsWithout index (now (sets .entry))) (now (kept .entry)) ⌝ }
 {
-    let mut next = 0;
-    for i in 0..sets.len() {
-        let set = sets[i];
-        if !has_part(set, index) {
-            kept[next] = lowered(set, index);
-            next += 1;
-        }
+    let written = lists::sets_without(sets, index, kept);
+    match written {
+        Written::Refused(_) => 0,
+        Written::Length(left) => left,
     }
-    next
-}
-
-// Whether a set names the part at an index.
-fn has_part(set: u16, index: usize) -> bool
-    requires { ⌜ index ≤ 16 ⌝ }
-    ensures { λ r. ⌜ r ≡ has set index ⌝ }
-{
-    (set as u32) / power(index) % 2 == 1
-}
-
-// 2 to the index of a part.
-fn power(index: usize) -> u32
-    requires { ⌜ index ≤ 16 ⌝ }
-    ensures { λ r. ⌜ r ≡ 2 ^ index ⌝ }
-{
-    1 << index
-}
-
-// The minimal sets of a list of sets, ascending, into a lent buffer.
-fn minimal_of_list(n: usize, list: &[u16], sets: &mut [u16]) -> Written
-    ensures { λ r. ⌜ outcome r (now (sets .exit)) ≡ delivered (listRefusal n (now (list .entry))) (minimalSets n (listed (now (list .entry)))) (now (sets .entry)) ⌝ }
-{
-    let verdict = structure::list_verdict(n, list);
-    match verdict {
-        Verdict::Refused(refusal) => Written::Refused(refusal),
-        Verdict::Accepted => minimal_of_sets(n, list, sets),
-    }
-}
-
-// The minimal sets of some sets, ascending, into a local array. These may be one more than a list or a record has.
-fn minimal_of_sets(n: usize, sets: &[u16], minimal: &mut [u16]) -> Written
-    requires { ⌜ SomeSets n (now sets) ⌝ }
-    ensures { λ r. ⌜ outcome r (now (minimal .exit)) ≡ delivered Verdict.Accepted (minimalSets n (listed (now (sets .entry)))) (now (minimal .entry)) ⌝ }
-{
-    let marks = words::marked(sets);
-    let reached = closure::carried(&marks, n);
-    let least = closure::trimmed(&reached, n);
-    words::list(&least, minimal)
 }
 
 // Writes the record of this part list and these minimal sets into a lent buffer, or says how many bytes it needs.
 fn write_design(list: PartList, sets: &[u16], buffer: &mut [u8]) -> Written
-    requires { ⌜ WellFormed list ⌝ }
-    requires { ⌜ length (now sets) ≤ mostSets ⌝ }
+    requires { ⌜ DesignRules (design list (now sets)) ⌝ }
     ensures { λ r. ⌜ outcome r (now (buffer .exit)) ≡ delivered Verdict.Accepted (recordBytes (design list (now (sets .entry)))) (now (buffer .entry)) ⌝ }
 {
     let numbers = list.numbers;
     let count = list.count;
-    write_record(list.mark, &numbers[..count], sets, buffer)
-}
-
-// Writes the record with this mark, these part numbers and these minimal sets into a lent buffer, or says how many bytes it needs.
-fn write_record(mark: u64, numbers: &[u64], sets: &[u16], buffer: &mut [u8]) -> Written
-    requires { ⌜ length (now numbers) ≤ mostParts ⌝ }
-    requires { ⌜ length (now sets) ≤ mostSets ⌝ }
-    ensures { λ r. ⌜ outcome r (now (buffer .exit)) ≡ delivered Verdict.Accepted (recordBytes (design (listOf mark (now (numbers .entry))) (now (sets .entry)))) (now (buffer .entry)) ⌝ }
-{
-    let needed = record_length(mark, numbers, sets);
-    if buffer.len() < needed {
-        return Written::Refused(Refusal {
-            number: answer::SHORT_BUFFER,
-            place: needed,
-        });
-    }
-    let first = codec::write_number(buffer, 0, numbers.len() as u64);
-    let second = codec::write_number(buffer, first, mark);
-    let third = write_numbers(buffer, second, numbers);
-    let fourth = codec::write_number(buffer, third, sets.len() as u64);
-    let end = write_sets(buffer, fourth, sets);
-    Written::Length(end)
-}
-
-// How many bytes that record takes.
-fn record_length(mark: u64, numbers: &[u64], sets: &[u16]) -> usize
-    requires { ⌜ length (now numbers) ≤ mostParts ⌝ }
-    requires { ⌜ length (now sets) ≤ mostSets ⌝ }
-    ensures { λ r. ⌜ r ≡ length (recordBytes (design (listOf mark (now (numbers .entry))) (now (sets .entry)))) ⌝ }
-{
-    let front = codec::number_length(numbers.len() as u64) + codec::number_length(mark);
-    let head = front + numbers_length(numbers) + codec::number_length(sets.len() as u64);
-    head + sets_length(sets)
-}
-
-// How many bytes these sets take in a record.
-fn sets_length(sets: &[u16]) -> usize
-    requires { ⌜ length (now sets) ≤ mostSets ⌝ }
-    ensures { λ r. ⌜ r ≡ length (formsOf (now (sets .entry))) ⌝ }
-    ensures { λ r. ⌜ r ≤ 3 * mostSets ⌝ }
-{
-    let mut total = 0;
-    for i in 0..sets.len() {
-        total += codec::number_length(sets[i] as u64);
-    }
-    total
-}
-
-// Writes these sets from a position on, where there is room for all of them, and answers the position after them.
-fn write_sets(buffer: &mut [u8], at: usize, sets: &[u16]) -> usize
-    requires { ⌜ at + length (formsOf (now sets)) ≤ length (now buffer) ⌝ }
-    ensures { λ r. ⌜ leaves r (now (buffer .exit)) ≡ placed (now (buffer .entry)) at (formsOf (now (sets .entry))) ⌝ }
-{
-    let mut next = at;
-    for i in 0..sets.len() {
-        next = codec::write_number(buffer, next, sets[i] as u64);
-    }
-    next
-}
-
-// How many bytes these part numbers take in a record.
-fn numbers_length(numbers: &[u64]) -> usize
-    requires { ⌜ length (now numbers) ≤ mostParts ⌝ }
-    ensures { λ r. ⌜ r ≡ length (formsOf (now (numbers .entry))) ⌝ }
-    ensures { λ r. ⌜ r ≤ 10 * mostParts ⌝ }
-{
-    let mut total = 0;
-    for i in 0..numbers.len() {
-        total += codec::number_length(numbers[i]);
-    }
-    total
-}
-
-// Writes these part numbers from a position on, where there is room for all of them, and answers the position after them.
-fn write_numbers(buffer: &mut [u8], at: usize, numbers: &[u64]) -> usize
-    requires { ⌜ at + length (formsOf (now numbers)) ≤ length (now buffer) ⌝ }
-    ensures { λ r. ⌜ leaves r (now (buffer .exit)) ≡ placed (now (buffer .entry)) at (formsOf (now (numbers .entry))) ⌝ }
-{
-    let mut next = at;
-    for i in 0..numbers.len() {
-        next = codec::write_number(buffer, next, numbers[i]);
-    }
-    next
+    writer::write_record(list.mark, &numbers[..count], sets, buffer)
 }

@@ -11,10 +11,10 @@ use native.Mathlib.Omega.{arith}
 use lib.Bits.{or-lt}
 use lib.ListN.{getD}
 use lib.Pow.{pow-pos, pow-add, shr-le}
-use Rattle.sets.specs.Masks.{has, meet, join}
+use Rattle.sets.specs.Masks.{has, meet}
 use Rattle.sets.specs.Tables.{packed}
 use Rattle.sets.proofs.Bools.{true-or-false, or-true, or-false, and-swap, not-not}
-use Rattle.sets.proofs.Masks.{has-le, has-flip, has-above, has-full, has-low, has-meet, has-join, has-shift, add-below, bit-of-odd, bit-of-even}
+use Rattle.sets.proofs.Masks.{join, has-le, has-flip, has-above, has-full, has-low, has-meet, has-join, has-shift, add-below, bit-of-odd, bit-of-even}
 use Rattle.sets.proofs.Ranges.{below-or-above}
 use Rattle.sets.proofs.Tables.{has-packed, packed-below}
 use Rattle.words.specs.Words.{inWords, wordOf}

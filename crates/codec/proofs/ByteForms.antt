@@ -3,20 +3,16 @@
 -- Assumes nothing.
 use mathlib.Core.Path.{_≡_, refl, sym, ap, _∙_}
 use mathlib.Core.List.{List, [], _∷_}
-use mathlib.Core.Logic.{_⊎_, inl, inr, ⊎-elim}
+use mathlib.Core.Logic.{⊎-elim}
 use Prim.Native.Nat.{ℕ, zero, suc, _+_, _/_, _%_, _^_, _≤_, _<_}
 use native.Mathlib.Nat.{le-refl, pow-suc}
-use native.Mathlib.Decide.{decLt}
 use native.Mathlib.Omega.{arith}
 use borrow.Author.Tests.{lt-ltb, le-ltb}
 use native.Mathlib.Numerals.{add-one}
 use lib.ListN.{length, set}
 use lib.Seq.{sets}
+use Rattle.sets.proofs.Ranges.{below-or-above}
 use Rattle.codec.specs.ByteForm.{grouped, bytesOf}
-
--- every number is below a bound or not
-pub below-or-not : (a b : ℕ) → (a < b) ⊎ (b ≤ a)
-below-or-not a b = elim (decLt a b) [ yes h ↦ inl h | no h ↦ inr (omega arith) ]
 
 -- what holds of every single group, and of a number where it holds of what is left without the lowest group, holds of every number
 pub by-groups : (P : ℕ → Type 0) → ((v : ℕ) → v < 128 → P v) → ((v : ℕ) → 128 ≤ v → P (v / 128) → P v) → (v : ℕ) → P v
@@ -26,7 +22,7 @@ by-groups P one more v = go v v (le-refl v)
     go zero v h = one v (omega arith)
     go (suc steps) v h =
         let rest : 128 ≤ v → P (v / 128) = λ g. go steps (v / 128) (omega arith) in
-        ⊎-elim (λ g. one v g) (λ g. more v g (rest g)) (below-or-not v 128)
+        ⊎-elim (λ g. one v g) (λ g. more v g (rest g)) (below-or-above v 128)
 
 grouped-small : (more v : ℕ) → v < 128 → grouped more v ≡ v ∷ []
 unfolding grouped
@@ -46,7 +42,7 @@ grouped-enough (suc more) (suc less) v h g =
     λ l. grouped-enough more less (v / 128) (omega arith) (omega arith) in
     ⊎-elim (λ l. grouped-small (suc more) v l ∙ sym (grouped-small (suc less) v l))
     (λ l. grouped-large more v l ∙ ap (λ (r : List ℕ). (v % 128 + 128) ∷ r) (rest l) ∙ sym (grouped-large less v l))
-    (below-or-not v 128)
+    (below-or-above v 128)
 
 -- a number below 128 is its own group
 pub bytes-small : (v : ℕ) → v < 128 → bytesOf v ≡ v ∷ []
@@ -72,7 +68,7 @@ bytes-at-most zero v some h = absurd (omega arith)
 bytes-at-most (suc zero) v some h = rw (bytes-small v h) (le-refl 1)
 bytes-at-most (suc (suc k)) v some h =
     let rest : length (bytesOf (v / 128)) ≤ suc k = bytes-at-most (suc k) (v / 128) (omega arith) (omega (arith, h, pow-suc 128 (suc k))) in
-    ⊎-elim (λ l. rw (bytes-small v l) (omega arith)) (λ l. rw (bytes-large v l) (omega arith)) (below-or-not v 128)
+    ⊎-elim (λ l. rw (bytes-small v l) (omega arith)) (λ l. rw (bytes-large v l) (omega arith)) (below-or-above v 128)
 
 -- how many groups: one, or one more than what is left takes
 pub length-small : (v : ℕ) → v < 128 → length (bytesOf v) ≡ 1

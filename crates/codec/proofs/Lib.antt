@@ -1,7 +1,6 @@
 pub mod Fields
 pub mod Groups
 pub mod ByteForms
-pub mod Placing
 pub mod Readings
 pub mod Walk
 pub mod ReadAfterWrite

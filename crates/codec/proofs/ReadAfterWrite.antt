@@ -16,12 +16,14 @@ use Rattle.answer.specs.Refusals.{wrongNumber}
 use Rattle.codec.specs.declared.Field.{Field}
 use Rattle.codec.specs.declared.Reading.the-variants.{Number}
 use Rattle.codec.specs.Fields.{groups, top}
-use Rattle.codec.specs.ByteForm.{bytesOf, placed}
+use Rattle.answer.specs.Placed.{placed}
+use Rattle.codec.specs.ByteForm.{bytesOf}
 use Rattle.codec.specs.Reading.{carried, valueOf, least, check, refused, numberIn, numberAt}
 use Rattle.codec.proofs.Fields.{allowed}
-use Rattle.codec.proofs.ByteForms.{by-groups, below-or-not, bytes-small, bytes-large, bytes-some, bytes-at-most, length-small, length-large}
+use Rattle.codec.proofs.ByteForms.{by-groups, bytes-small, bytes-large, bytes-some, bytes-at-most, length-small, length-large}
 use Rattle.codec.proofs.Groups.{carried-none, carried-some, carried-take}
-use Rattle.codec.proofs.Placing.{placed-fits}
+use Rattle.answer.proofs.Placing.{placed-fits}
+use Rattle.sets.proofs.Ranges.{below-or-above}
 use Rattle.codec.proofs.Readings.{found-last, ends-over}
 
 -- all bytes of a form but the last carry
@@ -76,7 +78,7 @@ pub form-groups : (field : Field) (v : ℕ) → v ≤ top field → length (byte
 form-groups field v h = bytes-at-most (groups field) v (allowed field .some) (omega (arith, allowed field .holds))
 
 groups-over : (field : Field) (v : ℕ) → groups field < length (bytesOf v) → top field < v
-groups-over field v h = ⊎-elim (λ l. l) (λ l. absurd (omega (arith, form-groups field v l))) (below-or-not (top field) v)
+groups-over field v h = ⊎-elim (λ l. l) (λ l. absurd (omega (arith, form-groups field v l))) (below-or-above (top field) v)
 
 -- what is read where a number's form stands: the number, up to the field's top value, and 22 at its first byte above it
 pub form-read : (bytes : List ℕ) (start : ℕ) (field : Field) (v : ℕ) (rest : List ℕ) → drop start bytes ≡ bytesOf v ++ rest → numberAt bytes start field ≡ check (ltb (top field) v) (refused wrongNumber start) (Number v (start + length (bytesOf v)))
@@ -87,7 +89,7 @@ form-read bytes start field v rest e =
     (λ (h : groups field < length (bytesOf v)).
     form-over (groups field) (top field) start (length bytes) v rest h ∙ simp (lt-ltb (top field) v (groups-over field v h)))
     (λ (h : length (bytesOf v) ≤ groups field). form-within (groups field) (top field) start (length bytes) v rest h)
-    (below-or-not (groups field) (length (bytesOf v)))
+    (below-or-above (groups field) (length (bytesOf v)))
 
 behind : (front form rest : List ℕ) → drop (length front) (front ++ form ++ rest) ≡ form ++ rest
 behind front form rest = ap (drop (length front)) (append-assoc front form rest) ∙ drop-append-seam front (form ++ rest)
@@ -105,7 +107,7 @@ read-over field v front rest h =
 -- so a number's form is read as that number exactly if the field allows the number
 pub read-exactly : (field : Field) (v : ℕ) (front rest : List ℕ) → (numberAt (front ++ bytesOf v ++ rest) (length front) field ≡ Number v (length front + length (bytesOf v))) ↔ (v ≤ top field)
 read-exactly field v front rest = (
-  λ e. ⊎-elim (λ l. let z : _≡_ {A = ℕ} 0 1 = cc (read-over field v front rest l) in absurd (omega arith)) (λ l. l) (below-or-not (top field) v),
+  λ e. ⊎-elim (λ l. let z : _≡_ {A = ℕ} 0 1 = cc (read-over field v front rest l) in absurd (omega arith)) (λ l. l) (below-or-above (top field) v),
   read-written field v front rest,
 )
 

@@ -17,10 +17,12 @@ use Rattle.codec.specs.declared.Field.{Field}
 use Rattle.codec.specs.declared.Reading.{Reading}
 use Rattle.codec.specs.declared.Reading.the-variants.{Number}
 use Rattle.codec.specs.Fields.{groups, top}
-use Rattle.codec.specs.ByteForm.{bytesOf, placed, leaves}
+use Rattle.answer.specs.Placed.{placed, leaves}
+use Rattle.codec.specs.ByteForm.{bytesOf}
 use Rattle.codec.specs.Reading.{carried, valueOf, least, check, refused, numberIn, numberAt}
-use Rattle.codec.proofs.ByteForms.{below-or-not, bytes-small, bytes-large}
-use Rattle.codec.proofs.Placing.{placed-fits}
+use Rattle.codec.proofs.ByteForms.{bytes-small, bytes-large}
+use Rattle.answer.proofs.Placing.{placed-fits}
+use Rattle.sets.proofs.Ranges.{below-or-above}
 use Rattle.codec.proofs.Groups.{carried-none, carried-some}
 
 -- every element is a byte, as it is in what a slice of bytes holds
@@ -68,11 +70,11 @@ accepted most high start total window v next e =
 pub form-only : (bytes : List ℕ) (k : ℕ) → Bytes bytes → carried bytes ≡ k → k < length bytes → least k ≤ valueOf (take (suc k) bytes) → take (suc k) bytes ≡ bytesOf (valueOf (take (suc k) bytes))
 form-only [] k small e h low = absurd (omega arith)
 form-only (byte ∷ bytes) zero small e h low =
-    let single : byte < 128 = ⊎-elim (λ l. l) (λ l. absurd (omega (arith, carried-some byte bytes l))) (below-or-not byte 128) in
+    let single : byte < 128 = ⊎-elim (λ l. l) (λ l. absurd (omega (arith, carried-some byte bytes l))) (below-or-above byte 128) in
     let v : byte % 128 + 128 * 0 ≡ byte = omega arith in
     sym (ap bytesOf v ∙ bytes-small byte single)
 form-only (byte ∷ bytes) (suc k) small e h low =
-    let more : 128 ≤ byte = ⊎-elim (λ l. absurd (omega (arith, carried-none byte bytes l))) (λ l. l) (below-or-not byte 128) in
+    let more : 128 ≤ byte = ⊎-elim (λ l. absurd (omega (arith, carried-none byte bytes l))) (λ l. l) (below-or-above byte 128) in
     let rest : ℕ = valueOf (take (suc k) bytes) in
     let value : ℕ = byte % 128 + 128 * rest in
     let large : 128 ^ k ≤ rest = omega (arith, low, pow-succ' 128 k) in
@@ -96,7 +98,7 @@ part-small bytes start most small i =
     ⊎-elim
     (λ (h : i < most). rw (getD-take most (drop start bytes) i 0 h, getD-drop) (small (start + i)))
     (λ (h : most ≤ i). rw (List·getD-eq-default (take most (drop start bytes)) 0 {n = i} (omega (arith, length-take most (drop start bytes)))) (omega arith))
-    (below-or-not i most)
+    (below-or-above i most)
 
 pub read-form : (bytes : List ℕ) (start : ℕ) (field : Field) (v next : ℕ) → Bytes bytes → numberAt bytes start field ≡ Number v next → ReadForm bytes start field v next
 unfolding numberAt

@@ -4,7 +4,8 @@ ghost use Prim.Native.Nat.{_+_, _≤_};
 ghost use lib.ListN.{length};
 ghost use lib.Seq.{sets};
 ghost use Rattle.codec.specs.Fields.{groups, top};
-ghost use Rattle.codec.specs.ByteForm.{bytesOf, placed, leaves};
+ghost use Rattle.answer.specs.Placed.{placed, leaves};
+ghost use Rattle.codec.specs.ByteForm.{bytesOf};
 ghost use Rattle.codec.specs.Reading.{numberAt, ended, refused};
 use answer::Refusal;
 
@@ -111,7 +112,7 @@ fn ended(value: u64, least: u64, top: u64, start: usize, next: usize) -> Reading
 }
 
 // The answer where a check refuses.
-fn refused(number: u8, place: usize) -> Reading
+pub fn refused(number: u8, place: usize) -> Reading
     ensures { λ r. ⌜ r ≡ refused number place ⌝ }
 {
     Reading::Refused(Refusal { number, place })

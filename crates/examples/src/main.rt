@@ -1,12 +1,9 @@
-// Runs worked examples of 01 on the calculator and prints what it answers; the file stdout beside this one holds what it must print.
+// Runs worked examples of 01 on machines and vectors and prints what the calculator answers; the file stdout beside this one's folder holds what
+// it must print.
 use answer::Verdict;
 use answer::Written;
-use codec::Field;
-use codec::Reading;
 use kind::Kind;
 use libc::STDOUT_FILENO;
-use parts::PartList;
-use reader::Found;
 
 fn main() {
     tables();
@@ -14,8 +11,6 @@ fn main() {
     figures();
     shares();
     vectors();
-    numbers();
-    replayed();
 }
 
 // Verdicts on tables.
@@ -90,6 +85,7 @@ fn refused_lists() {
 fn figures() {
     say(b"figures\n");
     small_systems();
+    bridge();
     systems_with_the_same_figures();
     systems_of_remark_4();
     modules();
@@ -100,6 +96,9 @@ fn small_systems() {
     figures_of_list(b"n = 2, {1} {2} (001, example 1)", 2, &[1, 2]);
     figures_of_list(b"n = 2, {1,2}", 2, &[3]);
     figures_of_list(b"n = 2, {1}", 2, &[1]);
+}
+
+fn bridge() {
     figures_of_list(
         b"the bridge (000, examples 1 to 4; 001, example 2; 003, examples 2 and 3)",
         5,
@@ -143,15 +142,38 @@ fn figures_of_front(n: usize, bytes: &[u8], length: usize) {
 }
 
 fn figures_of_table(n: usize, bytes: &[u8]) {
+    path_counts_of_table(n, bytes);
+    tail_of_table(n, bytes);
+    signature_of_table(n, bytes);
+    domination_of_table(n, bytes);
+    importances_of_table(n, bytes);
+}
+
+fn path_counts_of_table(n: usize, bytes: &[u8]) {
     let mut cells = [0i64; 9];
     let counted = signature::path_counts(n, bytes, &mut cells);
     vector(b"  path counts", counted, &cells);
+}
+
+fn tail_of_table(n: usize, bytes: &[u8]) {
+    let mut cells = [0i64; 9];
     let tailed = signature::tail(n, bytes, &mut cells);
     vector(b"  tail", tailed, &cells);
+}
+
+fn signature_of_table(n: usize, bytes: &[u8]) {
+    let mut cells = [0i64; 9];
     let signed = signature::signature(n, bytes, &mut cells);
     vector(b"  signature", signed, &cells);
+}
+
+fn domination_of_table(n: usize, bytes: &[u8]) {
+    let mut cells = [0i64; 9];
     let dominated = signature::domination(n, bytes, &mut cells);
     vector(b"  domination", dominated, &cells);
+}
+
+fn importances_of_table(n: usize, bytes: &[u8]) {
     let mut counts = [0u64; 8];
     let weighed = signature::importance(n, bytes, &mut counts);
     importances(weighed, &counts);
@@ -190,12 +212,26 @@ fn shares_of_group(name: &[u8], group: usize) {
     say(name);
     say(b":\n");
     let bridge = [0x00u8, 0xEA, 0xEC, 0xEE];
+    shares_by_sets(&bridge, group);
+    shares_through_h(&bridge, group);
+    coefficients_of_h(&bridge, group);
+}
+
+fn shares_by_sets(table: &[u8], group: usize) {
     let mut cells = [0i64; 12];
-    let by_sets = subsignature::shares_by_sets(5, &bridge, group, &mut cells);
+    let by_sets = set_route::shares_by_sets(5, table, group, &mut cells);
     vector(b"  set by set", by_sets, &cells);
-    let through = subsignature::shares_by_reliability(5, &bridge, group, &mut cells);
+}
+
+fn shares_through_h(table: &[u8], group: usize) {
+    let mut cells = [0i64; 12];
+    let through = reliability_route::shares_by_reliability(5, table, group, &mut cells);
     vector(b"  through h", through, &cells);
-    let coefficients = subsignature::reliability(5, &bridge, group, &mut cells);
+}
+
+fn coefficients_of_h(table: &[u8], group: usize) {
+    let mut cells = [0i64; 12];
+    let coefficients = reliability::reliability(5, table, group, &mut cells);
     vector(b"  h", coefficients, &cells);
 }
 
@@ -260,127 +296,6 @@ fn conversion(name: &[u8], kind: Kind, entries: &[i64], target: Kind) {
     vector(name, converted, &cells);
 }
 
-// Numbers in groups of seven bits, on an edge.
-fn numbers() {
-    say(b"numbers\n");
-    number(b"AC 02", &[0xAC, 0x02]);
-    number(b"80 00", &[0x80, 0x00]);
-    number(b"80", &[0x80]);
-    number(b"FF FF FF FF 0F", &[0xFF, 0xFF, 0xFF, 0xFF, 0x0F]);
-    number(b"FF FF FF FF 10", &[0xFF, 0xFF, 0xFF, 0xFF, 0x10]);
-    number(b"FF FF FF FF FF", &[0xFF, 0xFF, 0xFF, 0xFF, 0xFF]);
-}
-
-fn number(name: &[u8], bytes: &[u8]) {
-    say(name);
-    say(b": ");
-    let found = codec::read_number(bytes, 0, Field::Record);
-    match found {
-        Reading::Refused(refusal) => refused(refusal.number, refusal.place),
-        Reading::Number { value, next: _ } => {
-            io::print_decimal(STDOUT_FILENO, value);
-        }
-    }
-    say(b"\n");
-}
-
-// The spreadsheet's fault replayed: a pump is taken out and a sensor added. The sensor's number is new, and it stands in no set.
-fn replayed() {
-    say(b"the spreadsheet's fault replayed\n");
-    let mut bytes = [0u8; 12];
-    let made = changing::first_record(3, &[3, 5], &mut bytes);
-    match made {
-        Written::Refused(refusal) => refused(refusal.number, refusal.place),
-        Written::Length(length) => with_spare_pump(&bytes, length),
-    }
-}
-
-fn with_spare_pump(bytes: &[u8], length: usize) {
-    if length <= bytes.len() {
-        take_pump_out(&bytes[..length]);
-    }
-}
-
-fn take_pump_out(record: &[u8]) {
-    design(b"controller 1, pump 2, spare pump 3", record);
-    let mut bytes = [0u8; 12];
-    let made = changing::take_out(record, 3, &mut bytes);
-    match made {
-        Written::Refused(refusal) => refused(refusal.number, refusal.place),
-        Written::Length(length) => without_spare_pump(&bytes, length),
-    }
-}
-
-fn without_spare_pump(bytes: &[u8], length: usize) {
-    if length <= bytes.len() {
-        add_sensor(&bytes[..length]);
-    }
-}
-
-fn add_sensor(record: &[u8]) {
-    design(b"the spare pump taken out", record);
-    let mut bytes = [0u8; 12];
-    let made = changing::add_part(record, &mut bytes);
-    match made {
-        Written::Refused(refusal) => refused(refusal.number, refusal.place),
-        Written::Length(length) => with_sensor(&bytes, length),
-    }
-}
-
-fn with_sensor(bytes: &[u8], length: usize) {
-    if length <= bytes.len() {
-        sensor_design(&bytes[..length]);
-    }
-}
-
-fn sensor_design(record: &[u8]) {
-    design(b"an oxygen sensor added", record);
-}
-
-// A design by its part numbers.
-fn design(name: &[u8], record: &[u8]) {
-    let contents = record::whole_record(record);
-    let list = contents.list;
-    say(name);
-    say(b": parts");
-    show_parts(list, 65535);
-    say(b"; mark ");
-    io::print_decimal(STDOUT_FILENO, list.mark);
-    say(b"; sets");
-    show_named(record, list, contents.begin, contents.sets);
-    say(b"\n");
-}
-
-// So many sets of a record from an offset on, by part numbers.
-fn show_named(record: &[u8], list: PartList, begin: usize, count: usize) {
-    let mut offset = begin;
-    for _ in 0..count {
-        let found = reader::read_set(record, offset);
-        match found {
-            Found::End => return,
-            Found::Set { set, next } => {
-                say(b" {");
-                show_parts(list, set);
-                say(b" }");
-                offset = next;
-            }
-        }
-    }
-}
-
-// The numbers of the parts that a set names.
-fn show_parts(list: PartList, set: u64) {
-    let numbers = list.numbers;
-    for i in 0..PartList::MOST_PARTS {
-        if i < list.count {
-            if (set >> i) % 2 == 1 {
-                say(b" ");
-                io::print_decimal(STDOUT_FILENO, numbers[i]);
-            }
-        }
-    }
-}
-
 fn table(name: &[u8], n: usize, bytes: &[u8]) {
     say(name);
     say(b": ");
@@ -391,28 +306,36 @@ fn table(name: &[u8], n: usize, bytes: &[u8]) {
 fn list(name: &[u8], n: usize, masks: &[u16]) {
     say(name);
     say(b": ");
+    table_and_minimal(n, masks);
+    say(b"\n");
+}
+
+fn table_and_minimal(n: usize, masks: &[u16]) {
     let mut bytes = [0u8; 4];
     let wrote = forms::table_of_list(n, masks, &mut bytes);
     match wrote {
         Written::Refused(refusal) => refused(refusal.number, refusal.place),
         Written::Length(length) => {
             show_bytes(&bytes, length);
-            say(b"; minimal");
             minimal(n, &bytes, length);
         }
     }
-    say(b"\n");
 }
 
 // The minimal sets of the table in front of a buffer.
 fn minimal(n: usize, bytes: &[u8], length: usize) {
-    let mut sets = [0u16; 8];
+    say(b"; minimal");
     if length <= bytes.len() {
-        let wrote = forms::minimal_sets(n, &bytes[..length], &mut sets);
-        match wrote {
-            Written::Refused(refusal) => refused(refusal.number, refusal.place),
-            Written::Length(count) => show_sets(&sets, count),
-        }
+        minimal_of_table(n, &bytes[..length]);
+    }
+}
+
+fn minimal_of_table(n: usize, bytes: &[u8]) {
+    let mut sets = [0u16; 8];
+    let wrote = forms::minimal_sets(n, bytes, &mut sets);
+    match wrote {
+        Written::Refused(refusal) => refused(refusal.number, refusal.place),
+        Written::Length(count) => show_sets(&sets, count),
     }
 }
 

@@ -10,11 +10,10 @@ use lib.IntN.{ℤ, pos, negℤ, _+ℤ_, _*ℤ_, *ℤ-comm, *ℤ-zero, zero-*ℤ}
 use Rattle.numbers.specs.Counts.{choose}
 use Rattle.numbers.proofs.Counts.{choose-above}
 use Rattle.algebra.specs.Sums.{indicator, sumBelow, sumBelowℤ}
-use Rattle.algebra.specs.Differences.{difference, power, expansion}
 use Rattle.algebra.proofs.Sums.{sumBelow-same, sumBelow-zero}
 use Rattle.algebra.proofs.Integers.{*ℤ-unit, unit-*ℤ, ring}
 use Rattle.algebra.proofs.IntegerSums.{sumBelowℤ-same, sumBelowℤ-mul, sumBelowℤ-exchange}
-use Rattle.algebra.proofs.Differences.{power-same, power-other, sum-expansion}
+use Rattle.algebra.proofs.Differences.{difference, power, expansion, power-same, power-other, sum-expansion}
 use Rattle.algebra.proofs.Binomials.{difference-below, difference-power, difference-choose}
 use Rattle.sets.specs.Masks.{has, size, holds}
 use Rattle.orders.specs.Formulas.{pathCount}

@@ -12,10 +12,9 @@ use lib.Dec.{eqb}
 use lib.IntN.{ℤ, pos, negℤ, _+ℤ_, _*ℤ_, pow, one, +ℤ-idl, +ℤ-idr, +ℤ-invr, *ℤ-zero}
 use borrow.Author.Tests.{eqb-true, eqb-false}
 use Rattle.algebra.specs.Sums.{indicator, sumBelowℤ}
-use Rattle.algebra.specs.Differences.{power}
 use Rattle.algebra.proofs.Integers.{*ℤ-unit, *ℤ-negℤ, ring}
 use Rattle.algebra.proofs.IntegerSums.{sumBelowℤ-same, sumBelowℤ-zero, sumBelowℤ-neg, sumBelowℤ-mul, sumBelowℤ-exchange}
-use Rattle.algebra.proofs.Differences.{power-same, power-other}
+use Rattle.algebra.proofs.Differences.{power, power-same, power-other}
 use Rattle.sets.specs.Masks.{size, holds}
 use Rattle.sets.proofs.Bools.{and-right, true-or-false}
 use Rattle.sets.proofs.Ranges.{below-or-above}

@@ -15,13 +15,13 @@ twice x = ap (λ (u : ℤ). u *ℤ negsuc 0) (minus x) ∙ minus (negℤ x) ∙ 
     minus : (y : ℤ) → y *ℤ negsuc 0 ≡ negℤ y
     minus y = *ℤ-negℤ y (pos 1) ∙ ap negℤ (*ℤ-unit y)
 
-sign-even : (m : ℕ) → m % 2 ≡ 0 → sign m ≡ pos 1
+pub sign-even : (m : ℕ) → m % 2 ≡ 0 → sign m ≡ pos 1
 unfolding pow one
 sign-even zero h = refl
 sign-even (suc zero) h = absurd (omega arith)
 sign-even (suc (suc m)) h = twice (sign m) ∙ sign-even m (omega arith)
 
-sign-odd : (m : ℕ) → m % 2 ≡ 1 → sign m ≡ negsuc 0
+pub sign-odd : (m : ℕ) → m % 2 ≡ 1 → sign m ≡ negsuc 0
 unfolding pow one
 sign-odd zero h = absurd (omega arith)
 sign-odd (suc zero) h = refl

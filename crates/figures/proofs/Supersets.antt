@@ -12,7 +12,7 @@ use lib.Arith.{lt-one}
 use lib.Count.{ones, onesIn}
 use lib.IntN.{ℤ, pos, negsuc, negℤ, _+ℤ_, _-ℤ_, _*ℤ_, pow, one, +ℤ-idl}
 use Rattle.algebra.specs.Sums.{indicator, sumBelow, sumBelowℤ}
-use Rattle.algebra.specs.Differences.{difference}
+use Rattle.algebra.proofs.Differences.{difference}
 use Rattle.algebra.proofs.Sums.{sumBelow-same}
 use Rattle.algebra.proofs.Integers.{*ℤ-unit, *ℤ-negℤ, ring}
 use Rattle.algebra.proofs.IntegerSums.{sumBelowℤ-same, sumBelowℤ-zero, sumBelowℤ-neg}

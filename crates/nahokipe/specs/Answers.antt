@@ -16,8 +16,8 @@ use Rattle.record.specs.declared.Step.the-variants as step
 use Rattle.nahokipe.specs.declared.Answer.{Answer}
 use Rattle.nahokipe.specs.declared.Record.{Record}
 use Rattle.kind.specs.Kinds.{kindNumber}
-use Rattle.sheet.specs.declared.Received.{Received}
-use Rattle.sheet.specs.Answers.{ReceivedOutcome}
+use Rattle.sheet_entries.specs.declared.Received.{Received}
+use Rattle.sheet_entries.specs.Answers.{ReceivedOutcome}
 use Rattle.report_text.specs.Reporting.{ReportOutcome}
 use Rattle.nahokipe.specs.declared.NextSet.{NextSet}
 use Rattle.nahokipe.specs.declared.Sheet.{Sheet}

@@ -4,7 +4,7 @@ use answer::Written;
 use record::Contents;
 use record::Cursor;
 use record::Step;
-use sheet::Received;
+use sheet_entries::Received;
 ghost use mathlib.Core.Path.{_≡_};
 ghost use Rattle.answer.specs.Outcome.{delivered};
 ghost use Rattle.sets.specs.Structures.{listed, minimalSets};
@@ -22,8 +22,8 @@ ghost use Rattle.answer.specs.Outcome.{at};
 ghost use Rattle.changes.specs.Changes.{addPart, takeOut, addSet};
 ghost use Rattle.changes.specs.Records.{firstRecord, changedRecord};
 ghost use Rattle.sheet.specs.Sheets.{sheetBytes, sheetOf};
-ghost use Rattle.sheet.specs.Answers.{received};
-ghost use Rattle.report_text.specs.Reports.{refusedLine};
+ghost use Rattle.sheet_entries.specs.Answers.{received};
+ghost use Rattle.report_lines.specs.Lines.{refusedLine};
 ghost use Rattle.report_text.specs.Reporting.{reported};
 ghost use Prim.Native.Nat.{_-_};
 ghost use Rattle.nahokipe.specs.Answers.{ofVerdict, ofWritten, ofContents, ofStep, ofReceived, Leaves, LeavesAll, LeavesBoth, LeavesSheet, LeavesReport};
@@ -164,7 +164,7 @@ pub extern "C" fn nahokipe_shares_by_sets(
 ) -> Answer
     ensures { λ r. ⌜ Leaves (delivered (sharesRefusal n (now (table .entry)) group) (sharesBySets n (inTable (now (table .entry))) group) (now (cells .entry))) r (now (cells .exit)) ⌝ }
 {
-    of_written(subsignature::shares_by_sets(n, table, group, cells))
+    of_written(set_route::shares_by_sets(n, table, group, cells))
 }
 
 // The shares of a group through h(x,z).
@@ -177,7 +177,7 @@ pub extern "C" fn nahokipe_shares_by_reliability(
 ) -> Answer
     ensures { λ r. ⌜ Leaves (delivered (sharesRefusal n (now (table .entry)) group) (sharesByReliability n (inTable (now (table .entry))) group) (now (cells .entry))) r (now (cells .exit)) ⌝ }
 {
-    of_written(subsignature::shares_by_reliability(n, table, group, cells))
+    of_written(reliability_route::shares_by_reliability(n, table, group, cells))
 }
 
 // The coefficients of h(x,z), where x stands for the parts of the group.
@@ -190,7 +190,7 @@ pub extern "C" fn nahokipe_reliability(
 ) -> Answer
     ensures { λ r. ⌜ Leaves (delivered (sharesRefusal n (now (table .entry)) group) (reliabilityCells n (inTable (now (table .entry))) group) (now (cells .entry))) r (now (cells .exit)) ⌝ }
 {
-    of_written(subsignature::reliability(n, table, group, cells))
+    of_written(reliability::reliability(n, table, group, cells))
 }
 
 // The shares of a group by both routes: the counts of failure orders, twice.
@@ -247,7 +247,7 @@ pub extern "C" fn nahokipe_write_sheet(
 pub extern "C" fn nahokipe_read_sheet(bytes: &[u8], cells: &mut [i64]) -> Sheet
     ensures { λ r. ⌜ LeavesSheet (received (sheetOf (now (bytes .entry))) (now (cells .entry))) r (now (cells .exit)) ⌝ }
 {
-    of_received(sheet::read_sheet(bytes, cells))
+    of_received(sheet_entries::read_sheet(bytes, cells))
 }
 
 // What stands in the record that the bytes are.
@@ -328,7 +328,7 @@ pub extern "C" fn nahokipe_report(bytes: &[u8], table: &mut [u8], text: &mut [u8
 pub extern "C" fn nahokipe_refused_line(number: u8, place: usize, text: &mut [u8]) -> Answer
     ensures { λ r. ⌜ Leaves (delivered Verdict.Accepted (refusedLine (at number place)) (now (text .entry))) r (now (text .exit)) ⌝ }
 {
-    of_written(report_text::refused_line(number, place, text))
+    of_written(report_lines::refused_line(number, place, text))
 }
 
 fn of_verdict(verdict: Verdict) -> Answer

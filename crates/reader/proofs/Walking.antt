@@ -19,10 +19,11 @@ use Rattle.codec.proofs.Walk.{walked-none, walked-short}
 use Rattle.codec.proofs.ReadAfterWrite.{form-read}
 use Rattle.codec.proofs.WriteAfterRead.{Bytes, read-form}
 use Rattle.record.specs.declared.Contents.{Contents}
-use Rattle.record.specs.Records.{Design, found, wholeRecord}
-use Rattle.record.specs.RecordBytes.{formsOf}
+use Rattle.heading.specs.Headings.{found}
+use Rattle.record.specs.Records.{Design, wholeRecord}
+use Rattle.heading.specs.HeadingBytes.{formsOf}
 use Rattle.record.specs.Contents.{wholeContents, cursor, stepOn, stepAt}
-use Rattle.record.proofs.Found.{Stands, behind}
+use Rattle.heading.proofs.Found.{Stands, behind}
 use Rattle.record.proofs.RoundTrip.{whole-found}
 use Rattle.record.proofs.Whole.{design-read}
 use Rattle.reader.specs.Places.{foundBy, setAt, metFrom}

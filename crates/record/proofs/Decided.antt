@@ -30,11 +30,13 @@ use Rattle.codec.proofs.WriteAfterRead.{Bytes}
 use Rattle.parts.specs.declared.PartList.{PartList}
 use Rattle.parts.specs.PartLists.{listOf}
 use Rattle.sets.proofs.Bools.{clash}
-use Rattle.record.specs.Records.{Read, found, refused, then, judged, fieldAt, partCountRefusal, markRefusal, lastOf, partNumberRefusal, setCountRefusal, setRefusal, numbersAt, partsAt, Head, headAt, setsAt, Design, design, recordAt, alone, wholeRecord}
+use Rattle.heading.specs.Headings.{Read, found, refused, then, judged, fieldAt, partCountRefusal, markRefusal, lastOf, partNumberRefusal, setCountRefusal, numbersAt, partsAt, Head, headAt}
+use Rattle.record.specs.Records.{setRefusal, setsAt, Design, design, recordAt, alone, wholeRecord}
 use Rattle.record.specs.Contents.{wholeContents}
-use Rattle.record.proofs.Found.{then-found, field-found}
-use Rattle.record.proofs.PartNumbers.{count-few}
-use Rattle.record.proofs.RoundTrip.{head-found, whole-found}
+use Rattle.heading.proofs.Found.{then-found, field-found}
+use Rattle.heading.proofs.PartNumbers.{count-few}
+use Rattle.heading.proofs.RoundTrip.{head-found}
+use Rattle.record.proofs.RoundTrip.{whole-found}
 use Rattle.record.proofs.Whole.{refused-contents}
 
 -- ---- where a record ends at the latest

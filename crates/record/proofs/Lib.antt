@@ -1,6 +1,3 @@
-pub mod Found
-pub mod PartNumbers
-pub mod PartWalk
 pub mod Sets
 pub mod Answers
 pub mod Marking

@@ -8,7 +8,7 @@ use Rattle.sets.specs.Structures.{listed, minimal, minimalSets}
 use Rattle.sets.specs.Tables.{inTable, tableOf}
 use Rattle.sets.proofs.Ranges.{those-elim, those-rising}
 use Rattle.sets.proofs.Structures.{minimal-works, minimal-least}
-use Rattle.structure.specs.Checks.{tableRefusal}
+use Rattle.structure.specs.Checks.{listRefusal, tableRefusal}
 use Rattle.structure.proofs.Acceptance.{AcceptedList, accepted-list, list-accepted, list-table, list-minimal, minimal-accepted}
 use Rattle.record.specs.Records.{Design}
 use Rattle.record.specs.RecordBytes.{SetRules, DesignRules}
@@ -17,18 +17,17 @@ use Rattle.record.specs.RecordBytes.{SetRules, DesignRules}
 pub rules-accepted-list : (n : ℕ) (sets : List ℕ) → 1 ≤ n → n ≤ 16 → SetRules n sets → AcceptedList n sets
 rules-accepted-list n sets some few r = record { some = some; few = few; any-set = r .some; most = r .most; sets = r .within }
 
+pub design-list : (d : Design) → DesignRules d → listRefusal (d .parts .count) (d .sets) ≡ Accepted
+design-list d r =
+    list-accepted (d .parts .count) (d .sets) (rules-accepted-list (d .parts .count) (d .sets) (r .parts .rules .some) (r .parts .rules .few) (r .sets))
+
 -- so they give a table that every calculation accepts
 pub design-table : (d : Design) → DesignRules d → tableRefusal (d .parts .count) (tableOf (d .parts .count) (listed (d .sets))) ≡ Accepted
-design-table d r =
-    let n : ℕ = d .parts .count in
-    list-table n (d .sets) (list-accepted n (d .sets) (rules-accepted-list n (d .sets) (r .parts .rules .some) (r .parts .rules .few) (r .sets)))
+design-table d r = list-table (d .parts .count) (d .sets) (design-list d r)
 
 -- and they are the minimal sets of that table
 pub design-minimal : (d : Design) → DesignRules d → minimalSets (d .parts .count) (inTable (tableOf (d .parts .count) (listed (d .sets)))) ≡ d .sets
-design-minimal d r =
-    let n : ℕ = d .parts .count in
-    list-minimal n (d .sets) (list-accepted n (d .sets) (rules-accepted-list n (d .sets) (r .parts .rules .some) (r .parts .rules .few) (r .sets)))
-    (r .sets .rising) (r .sets .apart)
+design-minimal d r = list-minimal (d .parts .count) (d .sets) (design-list d r) (r .sets .rising) (r .sets .apart)
 
 -- the minimal sets of an accepted table keep the rules of a record's sets
 pub minimal-rules : (n : ℕ) (table : List ℕ) → tableRefusal n table ≡ Accepted → SetRules n (minimalSets n (inTable table))

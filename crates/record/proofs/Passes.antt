@@ -34,7 +34,8 @@ use Rattle.words.proofs.Words.{inWords-wordsOf}
 use Rattle.structure.proofs.Spread.{spread-listed}
 use Rattle.structure.proofs.Trimmed.{trimmed-minimal}
 use Rattle.structure.proofs.Walks.{trimmed-same, spread-same}
-use Rattle.record.specs.Records.{Read, found, then, unless, judged, fieldAt, lastOf, misplaced, setRefusal, setsAt}
+use Rattle.heading.specs.Headings.{Read, found, then, unless, judged, fieldAt, lastOf}
+use Rattle.record.specs.Records.{misplaced, setRefusal, setsAt}
 use Rattle.record.specs.Steps.{risingRefusal, Pass, passed, passOn, risingAt, nestedOn, nestedAt, decided}
 use Rattle.record.proofs.Sets.{misplaced-none, none-misplaced, rising-before}
 use Rattle.record.proofs.Marking.{climb}

@@ -19,9 +19,11 @@ use Rattle.sets.specs.Masks.{holds, RisingFrom, Rising}
 use Rattle.sets.proofs.Bools.{clash, false-of}
 use Rattle.sets.proofs.Masks.{holds-le}
 use Rattle.sets.proofs.Ranges.{rising-above}
-use Rattle.record.specs.Records.{Read, found, then, fieldAt, misplaced, setRefusal, setsAt}
-use Rattle.record.specs.RecordBytes.{formsOf, SetRules}
-use Rattle.record.proofs.Found.{then-found, Stands, stands-none, stands-both, behind, field-found, field-read}
+use Rattle.heading.specs.Headings.{Read, found, then, fieldAt}
+use Rattle.record.specs.Records.{misplaced, setRefusal, setsAt}
+use Rattle.heading.specs.HeadingBytes.{formsOf}
+use Rattle.record.specs.RecordBytes.{SetRules}
+use Rattle.heading.proofs.Found.{then-found, Stands, stands-none, stands-both, behind, field-found, field-read}
 
 -- ---- 24
 

@@ -11,11 +11,11 @@ use Rattle.codec.specs.declared.Reading.the-variants as reading
 use Rattle.codec.specs.Reading.{numberAt}
 use Rattle.parts.specs.PartLists.{listOf}
 use Rattle.record.specs.declared.Contents.{Contents}
-use Rattle.record.specs.declared.Heading.{Heading}
 use Rattle.record.specs.declared.Cursor.{Cursor}
 use Rattle.record.specs.declared.Step.{Step}
 use Rattle.record.specs.declared.Step.the-variants.{Set, End}
-use Rattle.record.specs.Records.{Read, found, refused, Head, headAt, Design, design, recordAt, wholeRecord}
+use Rattle.heading.specs.Headings.{Read, found, refused, Head, headAt}
+use Rattle.record.specs.Records.{Design, design, recordAt, wholeRecord}
 
 -- of a refused record: the refusal, a list of no parts and an empty stretch
 abbrev pub nothing : Refusal → Contents
@@ -28,11 +28,6 @@ contentsOf (found head begin) (found d end) =
     record { list = d .parts; sets = length (d .sets); begin = begin; end = end; verdict = Accepted }
 contentsOf (found head begin) (refused refusal) = nothing refusal
 contentsOf (refused refusal) read = nothing refusal
-
--- what stands before the sets, or the refusal beside a list of no parts
-abbrev pub headingOf : Read Head → Heading
-headingOf (found head begin) = record { list = head .parts; sets = head .count; begin = begin; verdict = Accepted }
-headingOf (refused refusal) = record { list = listOf 0 []; sets = 0; begin = 0; verdict = Refused refusal }
 
 -- the contents of the record at that position
 unfoldable pub contentsAt : List ℕ → ℕ → Contents

@@ -1,30 +1,16 @@
 -- How a design record is written (01, "Records on disk"), and what 01 asks of the design in one.
 use mathlib.Core.Bool.{true}
-use mathlib.Core.List.{List, [], _∷_, _++_, List·Memᴰ}
+use mathlib.Core.List.{List, _++_, List·Memᴰ}
 use mathlib.Core.Path.{_≡_}
 use Prim.Native.Nat.{ℕ, _^_, _≤_, _<_}
 use lib.ListN.{length}
-use Rattle.codec.specs.ByteForm.{bytesOf}
 use Rattle.orders.specs.Antichains.{mostSets}
-use Rattle.parts.specs.declared.PartList.{PartList}
-use Rattle.parts.specs.PartLists.{numbersOf, WellFormed}
+use Rattle.parts.specs.PartLists.{WellFormed}
 use Rattle.sets.specs.Masks.{holds, Rising}
+use Rattle.heading.specs.HeadingBytes.{formsOf, headBytes}
 use Rattle.record.specs.Records.{Design}
 
--- numbers one after the other
-unfoldable pub formsOf : List ℕ → List ℕ
-formsOf [] = []
-formsOf (number ∷ numbers) = bytesOf number ++ formsOf numbers
-
--- n; the mark; n part numbers
-unfoldable pub partsBytes : PartList → List ℕ
-partsBytes parts = bytesOf (parts .count) ++ (bytesOf (parts .mark) ++ formsOf (numbersOf parts))
-
--- then the count of minimal sets
-unfoldable pub headBytes : PartList → ℕ → List ℕ
-headBytes parts count = partsBytes parts ++ bytesOf count
-
--- and then the sets
+-- n; the mark; n part numbers; the count of minimal sets; and then the sets
 unfoldable pub recordBytes : Design → List ℕ
 recordBytes design = headBytes (design .parts) (length (design .sets)) ++ formsOf (design .sets)
 

@@ -12,24 +12,11 @@ use Rattle.codec.specs.declared.Field.the-variants.{Record}
 use Rattle.codec.specs.declared.Reading.{Reading}
 use Rattle.codec.specs.declared.Reading.the-variants as reading
 use Rattle.codec.specs.Reading.{numberAt}
-use Rattle.parts.specs.declared.PartList.{PartList}
-use Rattle.parts.specs.PartLists.{listOf}
 use Rattle.words.specs.Words.{wordsOf, among}
-use Rattle.record.specs.declared.Parts.{Parts}
 use Rattle.record.specs.declared.Marked.{Marked}
 use Rattle.record.specs.declared.Ending.{Ending}
 use Rattle.record.specs.declared.Ending.the-variants as ending
-use Rattle.record.specs.Records.{Read, found, refused, fieldAt, lastOf}
-
--- a number as it is read
-abbrev pub asRead : Reading → Read ℕ
-asRead (reading.Number value next) = found value next
-asRead (reading.Refused refusal) = refused refusal
-
--- a part list and the position after it, or a refusal
-abbrev pub partsOf : Read PartList → Parts
-partsOf (found list next) = record { list = list; next = next; verdict = verdict.Accepted }
-partsOf (refused refusal) = record { list = listOf 0 []; next = 0; verdict = verdict.Refused refusal }
+use Rattle.heading.specs.Headings.{Read, found, refused, fieldAt, lastOf}
 
 -- where the sets end, or a refusal
 abbrev pub endingOf : Read (List ℕ) → Ending

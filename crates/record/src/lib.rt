@@ -7,17 +7,17 @@ use codec::Reading;
 use parts::PartList;
 ghost use mathlib.Core.Path.{_≡_};
 ghost use mathlib.Core.List.{[]};
-ghost use Prim.Native.Nat.{_+_, _^_, _≤_, _<_};
+ghost use Prim.Native.Nat.{_+_, _≤_, _<_};
 ghost use denote.Ref.{ptr};
 ghost use Rattle.answer.specs.Outcome.{at, outcome, delivered};
-ghost use Rattle.numbering.specs.Numbering.{mostParts};
-ghost use Rattle.parts.specs.PartLists.{listOf};
 ghost use Rattle.sets.specs.Structures.{listed};
-ghost use Rattle.sets.specs.Tables.{tableOf, tableLength};
+ghost use Rattle.sets.specs.Tables.{tableOf};
 ghost use Rattle.words.specs.Words.{inWords};
-ghost use Rattle.record.specs.Records.{found, then, fieldAt, partCountRefusal, partNumberRefusal, setCountRefusal, numbersAt, partsAt, headAt, setsAt};
-ghost use Rattle.record.specs.Contents.{nothing, headingOf, contentsAt, wholeContents, recordRefusal, designIn, stretchOf, firstCursor, stepAt};
-ghost use Rattle.record.specs.Steps.{asRead, partsOf, endingOf, risingRefusal, risingAt, markedOf, nestedAt};
+ghost use Rattle.heading.specs.Headings.{fieldAt};
+ghost use Rattle.record.specs.Records.{setsAt};
+ghost use Rattle.record.specs.Contents.{nothing, contentsAt, wholeContents, recordRefusal, designIn, stretchOf, firstCursor, stepAt};
+ghost use Rattle.heading.specs.Steps.{asRead};
+ghost use Rattle.record.specs.Steps.{endingOf, risingRefusal, risingAt, markedOf, nestedAt};
 
 // What reading a record finds: its part list, the number of its sets, and where their bytes begin and end, which is where the record ends.
 // Of a refused record: a list of no parts and an empty stretch at 0.
@@ -41,22 +41,6 @@ pub enum Step {
     End,
 }
 
-// A part list and the position after it.
-struct Parts {
-    list: PartList,
-    next: usize,
-    verdict: Verdict,
-}
-
-// What stands before the sets: the part list and the number of sets, and where the sets begin. Where it is refused: a list of no parts, no
-// set and 0.
-pub struct Heading {
-    pub list: PartList,
-    pub sets: usize,
-    pub begin: usize,
-    pub verdict: Verdict,
-}
-
 // The sets up to the first that does not rise, or is refused for another reason than holding an earlier one: marked, counted, with the
 // position after them and that refusal.
 struct Marked {
@@ -76,7 +60,7 @@ enum Ending {
 pub fn read_record(bytes: &[u8], start: usize) -> Contents
     ensures { λ r. ⌜ r ≡ contentsAt (now (bytes .entry)) start ⌝ }
 {
-    let heading = read_heading(bytes, start);
+    let heading = heading::read_heading(bytes, start);
     let verdict = heading.verdict;
     match verdict {
         Verdict::Refused(refusal) => refused_contents(refusal.number, refusal.place),
@@ -108,9 +92,9 @@ pub fn whole_record(bytes: &[u8]) -> Contents
     match verdict {
         Verdict::Refused(_) => contents,
         Verdict::Accepted => {
-            let end = contents.end;
-            if end < bytes.len() {
-                return refused_contents(answer::BYTES_LEFT, end);
+            let next = contents.end;
+            if next < bytes.len() {
+                return refused_contents(answer::BYTES_LEFT, next);
             }
             contents
         }
@@ -174,149 +158,15 @@ pub fn table_of_record(bytes: &[u8], table: &mut [u8]) -> Written
         Verdict::Accepted => {
             let list = contents.list;
             let n = list.count;
-            let needed = table_length(n);
+            let needed = structure::table_length(n);
             if table.len() < needed {
-                return Written::Refused(Refusal {
-                    number: answer::SHORT_BUFFER,
-                    place: needed,
-                });
+                return answer::short(needed);
             }
             let marked = mark_sets(bytes, contents.begin, n, contents.sets);
             let words = marked.words;
             let reached = closure::carried(&words, n);
             words::store(&reached, &mut table[..needed]);
             Written::Length(needed)
-        }
-    }
-}
-
-// n, the mark and n part numbers.
-fn read_parts(bytes: &[u8], start: usize) -> Parts
-    ensures { λ r. ⌜ r ≡ partsOf (partsAt (now (bytes .entry)) start) ⌝ }
-{
-    let count = read_part_count(bytes, start);
-    match count {
-        Reading::Refused(refusal) => refused_parts(refusal.number, refusal.place),
-        Reading::Number { value, next } => {
-            let mark = codec::read_number(bytes, next, Field::Record);
-            match mark {
-                Reading::Refused(refusal) => refused_parts(refusal.number, refusal.place),
-                Reading::Number {
-                    value: highest,
-                    next: after,
-                } => { read_part_numbers(bytes, after, value as usize, highest) }
-            }
-        }
-    }
-}
-
-// So many part numbers under a mark, as a part list.
-fn read_part_numbers(bytes: &[u8], start: usize, count: usize, mark: u64) -> Parts
-    requires { ⌜ count ≤ mostParts ⌝ }
-    ensures { λ r. ⌜ r ≡ partsOf (then (numbersAt (now (bytes .entry)) mark count [] start) (λ numbers end. found (listOf mark numbers) end)) ⌝ }
-{
-    let mut numbers = [0; PartList::MOST_PARTS];
-    let mut previous: u64 = 0;
-    let mut next = start;
-    let mut index = 0;
-    while index < count {
-        let number = read_part_number(bytes, next, previous, mark);
-        match number {
-            Reading::Refused(refusal) => return refused_parts(refusal.number, refusal.place),
-            Reading::Number { value, next: after } => {
-                numbers[index] = value;
-                previous = value;
-                next = after;
-                index += 1;
-            }
-        }
-    }
-    Parts {
-        list: PartList {
-            count,
-            mark,
-            numbers,
-        },
-        next,
-        verdict: Verdict::Accepted,
-    }
-}
-
-// What stands before the sets of the record at a position. The sets are not looked at.
-pub fn read_heading(bytes: &[u8], start: usize) -> Heading
-    ensures { λ r. ⌜ r ≡ headingOf (headAt (now (bytes .entry)) start) ⌝ }
-{
-    let parts = read_parts(bytes, start);
-    let verdict = parts.verdict;
-    match verdict {
-        Verdict::Refused(refusal) => refused_heading(refusal.number, refusal.place),
-        Verdict::Accepted => {
-            let list = parts.list;
-            let next = parts.next;
-            let count = read_set_count(bytes, next);
-            match count {
-                Reading::Refused(refusal) => refused_heading(refusal.number, refusal.place),
-                Reading::Number { value, next: begin } => Heading {
-                    list,
-                    sets: value as usize,
-                    begin,
-                    verdict: Verdict::Accepted,
-                },
-            }
-        }
-    }
-}
-
-// n, of 1 to 16.
-fn read_part_count(bytes: &[u8], start: usize) -> Reading
-    ensures { λ r. ⌜ asRead r ≡ fieldAt (now (bytes .entry)) start (partCountRefusal start) ⌝ }
-{
-    let number = codec::read_number(bytes, start, Field::Record);
-    match number {
-        Reading::Refused(refusal) => Reading::Refused(refusal),
-        Reading::Number { value, next } => {
-            if value == 0 {
-                return refused(answer::WRONG_PART_COUNT, start);
-            }
-            if (PartList::MOST_PARTS as u64) < value {
-                return refused(answer::WRONG_PART_COUNT, start);
-            }
-            Reading::Number { value, next }
-        }
-    }
-}
-
-// A part number, after the one before it and under the mark.
-fn read_part_number(bytes: &[u8], start: usize, previous: u64, mark: u64) -> Reading
-    ensures { λ r. ⌜ asRead r ≡ fieldAt (now (bytes .entry)) start (partNumberRefusal mark previous start) ⌝ }
-{
-    let number = codec::read_number(bytes, start, Field::Record);
-    match number {
-        Reading::Refused(refusal) => Reading::Refused(refusal),
-        Reading::Number { value, next } => {
-            if numbering::misnumbered(previous, mark, value) {
-                return refused(answer::WRONG_PART_NUMBER, start);
-            }
-            Reading::Number { value, next }
-        }
-    }
-}
-
-// The count of sets, of 1 to 12,870.
-fn read_set_count(bytes: &[u8], start: usize) -> Reading
-    ensures { λ r. ⌜ asRead r ≡ fieldAt (now (bytes .entry)) start (setCountRefusal start) ⌝ }
-{
-    let number = codec::read_number(bytes, start, Field::Record);
-    match number {
-        Reading::Refused(refusal) => Reading::Refused(refusal),
-        Reading::Number { value, next } => {
-            if value == 0 {
-                return refused(answer::EMPTY_LIST, start);
-            }
-            if 12870 < value {
-                return refused(answer::LONG_LIST, start);
-            }
-            Reading::Number { value, next }
         }
     }
 }
@@ -330,69 +180,17 @@ fn read_set(bytes: &[u8], start: usize, n: usize, previous: u64) -> Reading
     match number {
         Reading::Refused(refusal) => Reading::Refused(refusal),
         Reading::Number { value, next } => {
-            if power(n) <= value {
-                return refused(answer::UNKNOWN_PART, start);
+            if numbers::power(n) as u64 <= value {
+                return codec::refused(answer::UNKNOWN_PART, start);
             }
             if value == 0 {
-                return refused(answer::EMPTY_SET, start);
+                return codec::refused(answer::EMPTY_SET, start);
             }
             if value <= previous {
-                return refused(answer::WRONG_SET, start);
+                return codec::refused(answer::WRONG_SET, start);
             }
             Reading::Number { value, next }
         }
-    }
-}
-
-// 2^n, for the parts that a machine may have.
-fn power(n: usize) -> u64
-    requires { ⌜ n ≤ 16 ⌝ }
-    ensures { λ r. ⌜ r ≡ 2 ^ n ⌝ }
-{
-    1 << n
-}
-
-// The bytes of a table of n parts.
-fn table_length(n: usize) -> usize
-    requires { ⌜ n ≤ 16 ⌝ }
-    ensures { λ r. ⌜ r ≡ tableLength n ⌝ }
-{
-    if n < 3 { 1 } else { power(n - 3) as usize }
-}
-
-// The answers where a check refuses.
-fn refused(number: u8, place: usize) -> Reading
-    ensures { λ r. ⌜ r ≡ Reading.Refused (at number place) ⌝ }
-{
-    Reading::Refused(Refusal { number, place })
-}
-
-fn refused_parts(number: u8, place: usize) -> Parts
-    ensures { λ r. ⌜ r ≡ record { list = listOf 0 []; next = 0; verdict = Verdict.Refused (at number place) } ⌝ }
-{
-    Parts {
-        list: PartList {
-            count: 0,
-            mark: 0,
-            numbers: [0; PartList::MOST_PARTS],
-        },
-        next: 0,
-        verdict: Verdict::Refused(Refusal { number, place }),
-    }
-}
-
-fn refused_heading(number: u8, place: usize) -> Heading
-    ensures { λ r. ⌜ r ≡ record { list = listOf 0 []; sets = 0; begin = 0; verdict = Verdict.Refused (at number place) } ⌝ }
-{
-    Heading {
-        list: PartList {
-            count: 0,
-            mark: 0,
-            numbers: [0; PartList::MOST_PARTS],
-        },
-        sets: 0,
-        begin: 0,
-        verdict: Verdict::Refused(Refusal { number, place }),
     }
 }
 
@@ -482,10 +280,7 @@ fn first_nested(bytes: &[u8], start: usize, count: usize, minimal: &[u64]) -> Ve
             return Verdict::Accepted;
         };
         if !words::works(minimal, value as usize) {
-            return Verdict::Refused(Refusal {
-                number: answer::WRONG_SET,
-                place: next,
-            });
+            return answer::refused(answer::WRONG_SET, next);
         }
         next = after;
         index += 1;

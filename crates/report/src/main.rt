@@ -28,7 +28,7 @@ fn make_text(bytes: &[u8], text: &mut [u8]) -> usize
     match made {
         Written::Length(end) => end,
         Written::Refused(refusal) => {
-            let said = report_text::refused_line(refusal.number, refusal.place, text);
+            let said = report_lines::refused_line(refusal.number, refusal.place, text);
             match said {
                 Written::Length(end) => end,
                 Written::Refused(_) => 0,

@@ -1,29 +1,30 @@
 -- What the table of a record in an array of 8,192 zeros tells of the record: its design and its table, or its refusal.
 -- Assumes nothing.
-use mathlib.Core.Path.{_≡_, refl, ap, ap₂, _∙_}
-use mathlib.Core.List.{List, _++_}
+use mathlib.Core.Path.{_≡_, refl, sym, ap, _∙_, subst}
+use mathlib.Core.List.{List}
 use mathlib.Core.Logic.{⊎-elim}
 use Prim.Native.Nat.{ℕ, _≤_, _<_}
 use native.Mathlib.Omega.{arith}
-use borrow.Author.Tests.{le-leb}
-use lib.ListN.{length, take, drop, replicate, length-replicate}
+use lib.ListN.{length, take, replicate, length-replicate}
 use lib.Pow.{pow-mono}
-use lib.Seq.{take-append-seam}
 use Rattle.answer.specs.Outcome.{Outcome, outcome, delivered}
 use Rattle.answer.specs.declared.Refusal.{Refusal}
 use Rattle.answer.specs.declared.Verdict.{Verdict}
 use Rattle.answer.specs.declared.Verdict.the-variants as verdict
 use Rattle.answer.specs.declared.Written.{Written}
 use Rattle.answer.specs.declared.Written.the-variants.{Length, Refused}
+use Rattle.answer.proofs.Deliveries.{Given, given, refused-by}
 use Rattle.codec.proofs.WriteAfterRead.{Bytes}
 use Rattle.sets.specs.Structures.{listed}
 use Rattle.sets.specs.Tables.{tableOf}
 use Rattle.sets.proofs.Ranges.{below-or-above}
 use Rattle.sets.proofs.Tables.{tableOf-length, tableLength-small, tableLength-large}
 use Rattle.record.specs.declared.Contents.{Contents}
-use Rattle.record.specs.Records.{Read, found, refused, Head, headAt, Design, wholeRecord}
+use Rattle.heading.specs.Headings.{Read, found, refused, Head, headAt}
+use Rattle.record.specs.Records.{Design, wholeRecord}
 use Rattle.record.specs.RecordBytes.{DesignRules}
-use Rattle.record.specs.Contents.{recordRefusal, headingOf, designOr, designIn}
+use Rattle.heading.specs.Headings.{headingOf}
+use Rattle.record.specs.Contents.{recordRefusal, designOr, designIn}
 use Rattle.record.proofs.Whole.{design-read, refused-contents}
 
 -- the table of a design
@@ -51,34 +52,32 @@ pub record Built (bytes own : List ℕ) (size : ℕ) : Type 0 where
   pub most : size ≤ 8192
   pub front : take size own ≡ designTable design
 
-module _ (bytes : List ℕ) (small : Bytes bytes) (w : Written) (own : List ℕ) (wrote : outcome w own ≡ delivered (recordRefusal bytes) (designTable (designIn bytes)) (replicate 8192 0)) where
-  no-table : (why : Refusal) → wholeRecord bytes ≡ refused why → w ≡ Refused why
-  no-table why here =
-      ap (λ (o : Outcome ℕ). o .answer) (wrote ∙ ap (λ (v : Verdict). delivered v (designTable (designIn bytes)) (replicate 8192 0)) (ap (λ (k : Contents). k .verdict) (refused-contents bytes why here)))
+-- the design in an accepted record
+pub design-in : (bytes : List ℕ) (d : Design) (end : ℕ) → wholeRecord bytes ≡ found d end → designIn bytes ≡ d
+unfolding designIn
+design-in bytes d end here = ap designOr here
 
-  whole-table : (d : Design) (end : ℕ) → wholeRecord bytes ≡ found d end
-      → outcome w own ≡ outcome (Length (length (designTable d))) (designTable d ++ drop (length (designTable d)) (replicate 8192 0))
-  unfolding designIn
-  whole-table d end here =
-      let r = design-read bytes small d end here in
-      let fits : length (designTable d) ≤ length (replicate {A = ℕ} 8192 0) = omega (arith, table-most d (r .rules .parts .rules .few), length-replicate {A = ℕ} 8192 0) in
-      let all : delivered verdict.Accepted (designTable d) (replicate 8192 0) ≡ outcome (Length (length (designTable d))) (designTable d ++ drop (length (designTable d)) (replicate 8192 0)) =
-      simp (le-leb (length (designTable d)) (length (replicate {A = ℕ} 8192 0)) fits) in
-      wrote ∙ ap₂ (λ (v : Verdict) (e : Design). delivered v (designTable e) (replicate 8192 0)) (ap (λ (k : Contents). k .verdict) (r .contents)) (ap designOr here) ∙ all
+module _ (bytes : List ℕ) (small : Bytes bytes) (w : Written) (own : List ℕ) (wrote : outcome w own ≡ delivered (recordRefusal bytes) (designTable (designIn bytes)) (replicate 8192 0)) where
+  -- what the call left for an answer
+  left-by : (answer : Written) → w ≡ answer → outcome answer own ≡ delivered (recordRefusal bytes) (designTable (designIn bytes)) (replicate 8192 0)
+  left-by answer e = ap (λ (x : Written). outcome x own) (sym e) ∙ wrote
+
+  refused-verdict : (why : Refusal) → wholeRecord bytes ≡ refused why → recordRefusal bytes ≡ verdict.Refused why
+  refused-verdict why here = ap (λ (k : Contents). k .verdict) (refused-contents bytes why here)
 
   pub built-given : (size : ℕ) → w ≡ Length size → Built bytes own size
   built-given size e = cases (wholeRecord bytes) refl
     where
+      all : Given (recordRefusal bytes) (designTable (designIn bytes)) (replicate 8192 0) own size
+      all = given (recordRefusal bytes) (designTable (designIn bytes)) (replicate 8192 0) own size (left-by (Length size) e)
+
       cases : (read : Read Design) → wholeRecord bytes ≡ read → Built bytes own size
       cases (refused why) here =
-          let other : w ≡ Refused why = no-table why here in
-          let z : _≡_ {A = ℕ} 0 1 = cc in
+          let clash : _≡_ {A = ℕ} 0 1 = cc (sym (refused-verdict why here) ∙ all .accepted) in
           absurd (omega arith)
       cases (found d end) here =
           let r = design-read bytes small d end here in
-          let all = whole-table d end here in
-          let answered : w ≡ Length (length (designTable d)) = ap (λ (o : Outcome ℕ). o .answer) all in
-          let counted : size ≡ length (designTable d) = cc in
+          let counted : size ≡ length (designTable d) = all .counted ∙ ap (λ (x : Design). length (designTable x)) (design-in bytes d end here) in
           record {
             design = d;
             end = end;
@@ -88,7 +87,7 @@ module _ (bytes : List ℕ) (small : Bytes bytes) (w : Written) (own : List ℕ)
             sets = ap (λ (h : Read Head). headingOf h .sets) (r .head);
             counted = counted;
             most = omega (arith, table-most d (r .rules .parts .rules .few));
-            front = ap₂ (λ (k : ℕ) (o : Outcome ℕ). take k (o .buffer)) counted all ∙ take-append-seam (designTable d) (drop (length (designTable d)) (replicate 8192 0));
+            front = all .front ∙ ap designTable (design-in bytes d end here);
           }
 
   pub built-refused : (why : Refusal) → w ≡ Refused why → wholeRecord bytes ≡ refused why
@@ -96,9 +95,15 @@ module _ (bytes : List ℕ) (small : Bytes bytes) (w : Written) (own : List ℕ)
     where
       cases : (read : Read Design) → wholeRecord bytes ≡ read → wholeRecord bytes ≡ refused why
       cases (refused other) here =
-          let same : w ≡ Refused other = no-table other here in
-          here ∙ ap refused (cc)
+          let judged = refused-verdict other here in
+          let left : outcome (Refused why) own ≡ outcome (Refused other) (replicate 8192 0) =
+          left-by (Refused why) e ∙ ap (λ (v : Verdict). delivered v (designTable (designIn bytes)) (replicate 8192 0)) judged in
+          here ∙ ap refused (sym (cc (ap (λ (o : Outcome ℕ). o .answer) left)))
       cases (found d end) here =
-          let answered : w ≡ Length (length (designTable d)) = ap (λ (o : Outcome ℕ). o .answer) (whole-table d end here) in
-          let z : _≡_ {A = ℕ} 0 1 = cc in
+          let r = design-read bytes small d end here in
+          let fits : length (designTable (designIn bytes)) ≤ length (replicate {A = ℕ} 8192 0) =
+          subst (λ (x : Design). length (designTable x) ≤ length (replicate {A = ℕ} 8192 0)) (sym (design-in bytes d end here))
+          (omega (arith, table-most d (r .rules .parts .rules .few), length-replicate {A = ℕ} 8192 0)) in
+          let judged = refused-by (recordRefusal bytes) (designTable (designIn bytes)) (replicate 8192 0) own why (λ accepted. fits) (left-by (Refused why) e) in
+          let clash : _≡_ {A = ℕ} 0 1 = cc (sym judged ∙ ap (λ (k : Contents). k .verdict) (r .contents)) in
           absurd (omega arith)

@@ -3,7 +3,7 @@
 -- Assumes nothing.
 use mathlib.Core.Path.{_≡_, sym, ap, ap₂, _∙_, fun-ext}
 use mathlib.Core.Bool.{Bool, true, false, cond, not, _&&_}
-use mathlib.Core.List.{List, _++_, append-assoc}
+use mathlib.Core.List.{List, _++_}
 use mathlib.Core.Logic.{_⊎_, inl, inr}
 use Prim.Native.Nat.{ℕ, suc, _+_, _-_, _*_, _^_, _≤_, _<_}
 use native.Mathlib.Omega.{arith}
@@ -38,10 +38,12 @@ use Rattle.figures.proofs.Importances.{importance-is-count}
 use Rattle.record.specs.Records.{Design}
 use Rattle.record.specs.RecordBytes.{DesignRules}
 use Rattle.record.proofs.MinimalSets.{design-table}
-use Rattle.text.specs.Texts.{ascii, decimal, signed, lines}
+use Rattle.text.specs.Texts.{decimal, signed, lines}
 use Rattle.report_text.specs.Reports.{firstLine, orderLine, domLine, partLine, reportOf}
-use Rattle.report_text.specs.Steps.{numbered, lineOf, headLine, cellLine, countLine, textBy, tableText}
-use Rattle.report_text.proofs.Lines.{lines-same}
+use Rattle.report_lines.specs.Lines.{headLine, figureLine}
+use Rattle.figures_text.specs.FiguresText.{cellLine, countLine, linesBy, textBy}
+use Rattle.figures_text.proofs.Blocks.{lines-same, few-parts}
+use Rattle.report_text.specs.Steps.{tableText}
 
 -- ---- the cells of a vector in front of an array
 
@@ -69,22 +71,22 @@ module _ (list : PartList) (sets : ℕ) (works : ℕ → Bool) (few : list .coun
   pub figures-text : (orders dominated : List ℤ) (parts : List ℕ) (r1 r2 : List ℤ) (r3 : List ℕ) → orders ≡ signatures (list .count) works ++ r1
       → dominated ≡ dominations (list .count) works ++ r2 → parts ≡ importances (list .count) works ++ r3
       → textBy list sets orders (take 16 (drop 1 dominated)) parts ≡ tableText list sets works
-  unfolding textBy tableText cellLine countLine
+  unfolding linesBy tableText cellLine countLine
   figures-text orders dominated parts r1 r2 r3 e1 e2 e3 =
       let n : ℕ = list .count in
       let φ : ℕ → ℕ = pathCount n works in
-      let one : lines (λ k. lineOf (ascii "order") k (signed (getD orders (k - 1) (pos 0)))) n ≡ lines (λ k. lineOf (ascii "order") k (signed (signature n φ k))) n =
-      lines-same _ _ n (λ k low high. ap (λ (z : ℤ). lineOf (ascii "order") k (signed z))
+      let one : lines (λ k. figureLine "order" k (signed (getD orders (k - 1) (pos 0)))) n ≡ lines (λ k. figureLine "order" k (signed (signature n φ k))) n =
+      lines-same _ _ n (λ k low high. ap (λ (z : ℤ). figureLine "order" k (signed z))
       (ap (λ (cells : List ℤ). getD cells (k - 1) (pos 0)) e1 ∙ front-cell n (λ i. signature n φ (suc i)) r1 (k - 1) (pos 0) (omega arith) ∙ ap (signature n φ) (one-back k low))) in
-      let two : lines (λ k. lineOf (ascii "dom") k (signed (getD (take 16 (drop 1 dominated)) (k - 1) (pos 0)))) n ≡ lines (λ k. lineOf (ascii "dom") k (signed (domination n φ k))) n =
-      lines-same _ _ n (λ k low high. ap (λ (z : ℤ). lineOf (ascii "dom") k (signed z))
+      let two : lines (λ k. figureLine "dom" k (signed (getD (take 16 (drop 1 dominated)) (k - 1) (pos 0)))) n ≡ lines (λ k. figureLine "dom" k (signed (domination n φ k))) n =
+      lines-same _ _ n (λ k low high. ap (λ (z : ℤ). figureLine "dom" k (signed z))
       (getD-take 16 (drop 1 dominated) (k - 1) (pos 0) (omega arith) ∙ getD-drop 1 dominated (k - 1) (pos 0)
       ∙ ap₂ (λ (cells : List ℤ) (i : ℕ). getD cells i (pos 0)) e2 (omega arith) ∙ front-cell (n + 1) (domination n φ) r2 k (pos 0) (omega arith))) in
-      let three : lines (λ i. lineOf (ascii "part") (getD (list .numbers) (i - 1) 0) (decimal (getD parts (i - 1) 0))) n
-      ≡ lines (λ i. lineOf (ascii "part") (getD (list .numbers) (i - 1) 0) (decimal (importance n works i))) n =
-      lines-same _ _ n (λ i low high. ap (λ (x : ℕ). lineOf (ascii "part") (getD (list .numbers) (i - 1) 0) (decimal x))
+      let three : lines (λ i. figureLine "part" (getD (list .numbers) (i - 1) 0) (decimal (getD parts (i - 1) 0))) n
+      ≡ lines (λ i. figureLine "part" (getD (list .numbers) (i - 1) 0) (decimal (importance n works i))) n =
+      lines-same _ _ n (λ i low high. ap (λ (x : ℕ). figureLine "part" (getD (list .numbers) (i - 1) 0) (decimal x))
       (ap (λ (cells : List ℕ). getD cells (i - 1) 0) e3 ∙ front-cell n (λ j. importance n works (suc j)) r3 (i - 1) 0 (omega arith) ∙ ap (importance n works) (one-back i low))) in
-      ap₂ (λ (x y : List ℕ). headLine n sets (list .mark) ++ (x ++ y)) one (ap₂ (λ (x y : List ℕ). x ++ y) two three)
+      few-parts list sets orders (take 16 (drop 1 dominated)) parts few ∙ ap₂ (λ (x y : List ℕ). headLine n sets (list .mark) ++ (x ++ y)) one (ap₂ (λ (x y : List ℕ). x ++ y) two three)
 
 -- ---- structures that agree on the sets of n parts have the same figures
 
@@ -107,10 +109,6 @@ module _ (n : ℕ) (f g : ℕ → Bool) (same : (a : ℕ) → a < 2 ^ n → f a 
 
 -- ---- the report of a design
 
-line-figure : (word : List ℕ) (number : ℕ) (figure : List ℕ) → lineOf word number figure ≡ word ++ (ascii " " ++ (decimal number ++ (ascii " " ++ (figure ++ ascii "\n"))))
-unfolding numbered
-line-figure word number figure = simp append-assoc
-
 module _ (d : Design) (rules : DesignRules d) where
   abbrev n : ℕ
   n = d .parts .count
@@ -128,19 +126,16 @@ module _ (d : Design) (rules : DesignRules d) where
   counts-same = fun-ext (pathCount-same n (inTable table) (listed (d .sets)) works-same)
 
   pub design-text : tableText (d .parts) (length (d .sets)) (inTable table) ≡ reportOf d
-  unfolding tableText reportOf firstLine headLine orderLine domLine partLine signed
+  unfolding tableText reportOf firstLine orderLine domLine partLine signed
   design-text =
       let works : ℕ → Bool = listed (d .sets) in
-      let one = lines-same (λ k. lineOf (ascii "order") k (signed (signature n (pathCount n (inTable table)) k))) (orderLine d) n (λ k low high.
-      line-figure (ascii "order") k (signed (signature n (pathCount n (inTable table)) k))
-      ∙ ap (λ (z : ℤ). ascii "order" ++ (ascii " " ++ (decimal k ++ (ascii " " ++ (signed z ++ ascii "\n")))))
+      let one = lines-same (λ k. figureLine "order" k (signed (signature n (pathCount n (inTable table)) k))) (orderLine d) n (λ k low high.
+      ap (λ (z : ℤ). figureLine "order" k (signed z))
       (ap (λ (φ : ℕ → ℕ). signature n φ k) counts-same ∙ signature-is-count n works coherent k low high)) in
-      let two = lines-same (λ k. lineOf (ascii "dom") k (signed (domination n (pathCount n (inTable table)) k))) (domLine d) n (λ k low high.
-      line-figure (ascii "dom") k (signed (domination n (pathCount n (inTable table)) k))
-      ∙ ap (λ (φ : ℕ → ℕ). ascii "dom" ++ (ascii " " ++ (decimal k ++ (ascii " " ++ (signed (domination n φ k) ++ ascii "\n"))))) counts-same) in
-      let three = lines-same (λ i. lineOf (ascii "part") (getD (d .parts .numbers) (i - 1) 0) (decimal (importance n (inTable table) i))) (partLine d) n (λ i low high.
-      line-figure (ascii "part") (getD (d .parts .numbers) (i - 1) 0) (decimal (importance n (inTable table) i))
-      ∙ ap₂ (λ (number figure : ℕ). ascii "part" ++ (ascii " " ++ (decimal number ++ (ascii " " ++ (decimal figure ++ ascii "\n")))))
+      let two = lines-same (λ k. figureLine "dom" k (signed (domination n (pathCount n (inTable table)) k))) (domLine d) n (λ k low high.
+      ap (λ (φ : ℕ → ℕ). figureLine "dom" k (signed (domination n φ k))) counts-same) in
+      let three = lines-same (λ i. figureLine "part" (getD (d .parts .numbers) (i - 1) 0) (decimal (importance n (inTable table) i))) (partLine d) n (λ i low high.
+      ap₂ (λ (number figure : ℕ). figureLine "part" number (decimal figure))
       (sym (getD-take n (d .parts .numbers) (i - 1) 0 (omega arith)))
       (importance-same n (inTable table) works works-same i low high ∙ importance-is-count n works coherent i low high)) in
       ap₂ (λ (x y : List ℕ). firstLine d ++ (x ++ y)) one (ap₂ (λ (x y : List ℕ). x ++ y) two three)

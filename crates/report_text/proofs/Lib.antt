@@ -1,7 +1,5 @@
 pub mod Examples
-pub mod Placing
-pub mod Lines
-pub mod Handing
-pub mod Figures
+mod Handing
+mod Figures
 pub mod Built
 pub mod Printed

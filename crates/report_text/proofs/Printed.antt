@@ -14,23 +14,20 @@ use Rattle.answer.specs.declared.Verdict.the-variants.{Accepted}
 use Rattle.answer.specs.declared.Written.the-variants.{Length, Refused}
 use Rattle.answer.proofs.Outcomes.{in-front-delivered}
 use Rattle.codec.proofs.WriteAfterRead.{Bytes}
-use Rattle.record.specs.Records.{Read, found, refused, Design, wholeRecord}
-use Rattle.record.specs.Contents.{designOr, designIn}
+use Rattle.heading.specs.Headings.{Read, found, refused}
+use Rattle.record.specs.Records.{Design, wholeRecord}
+use Rattle.record.specs.Contents.{designIn}
 use Rattle.record.proofs.Whole.{design-read}
 use Rattle.record.proofs.Decided.{whole-first}
 use Rattle.text.specs.Texts.{decimal, spelled, lines}
-use Rattle.report_text.specs.Reports.{firstLine, reportOf, refusedLine, printedFor, printed}
+use Rattle.report_text.specs.Reports.{firstLine, reportOf, printedFor, printed}
+use Rattle.report_lines.specs.Lines.{headLine, refusedLine}
 use Rattle.report_text.specs.Reporting.{ReportOutcome, reportOutcome, reportedRead, reported}
-use Rattle.report_text.proofs.Built.{designTable, table-most}
-
--- the design in an accepted record
-pub design-in : (bytes : List ℕ) (d : Design) (end : ℕ) → wholeRecord bytes ≡ found d end → designIn bytes ≡ d
-unfolding designIn
-design-in bytes d end here = ap designOr here
+use Rattle.report_text.proofs.Built.{designTable, table-most, design-in}
 
 -- the report of a design of no parts, which stands for that of a refused record
 pub no-report : (bytes : List ℕ) (why : Refusal) → wholeRecord bytes ≡ refused why → length (reportOf (designIn bytes)) ≤ 4096
-unfolding designIn reportOf firstLine decimal spelled lines
+unfolding designIn reportOf firstLine headLine decimal spelled lines
 no-report bytes why here = rw here (omega arith)
 
 -- any input of at least 40,000 bytes prints what its first 40,000 do

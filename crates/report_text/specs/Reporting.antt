@@ -10,7 +10,8 @@ use Rattle.answer.specs.declared.Written.{Written}
 use Rattle.answer.specs.declared.Written.the-variants.{Length, Refused}
 use Rattle.sets.specs.Structures.{listed}
 use Rattle.sets.specs.Tables.{tableOf}
-use Rattle.record.specs.Records.{Read, found, refused, Design, wholeRecord}
+use Rattle.heading.specs.Headings.{Read, found, refused}
+use Rattle.record.specs.Records.{Design, wholeRecord}
 use Rattle.report_text.specs.Reports.{reportOf}
 
 -- its answer, and the two lent buffers afterwards

@@ -2,27 +2,20 @@
 -- 01, "Counting", defines; none is stated by a formula.
 use mathlib.Core.List.{List, _++_}
 use Prim.Native.Nat.{ℕ, _-_, _^_}
-use Prim.Native.String.{String}
 use lib.ListN.{length, getD}
-use Rattle.answer.specs.declared.Refusal.{Refusal}
 use Rattle.sets.specs.Structures.{listed}
 use Rattle.orders.specs.Counting.{count}
 use Rattle.orders.specs.Formulas.{pathCount}
 use Rattle.parts.specs.PartLists.{numbersOf}
 use Rattle.figures.specs.Figures.{domination}
-use Rattle.record.specs.Records.{Read, found, refused, Design, wholeRecord}
-use Rattle.text.specs.Texts.{ascii, decimal, signed, lines}
+use Rattle.heading.specs.Headings.{Read, found, refused}
+use Rattle.record.specs.Records.{Design, wholeRecord}
+use Rattle.text.specs.Texts.{decimal, signed, lines}
+use Rattle.report_lines.specs.Lines.{headLine, figureLine, refusedLine}
 
 -- n, the count of minimal sets and the mark
 unfoldable pub firstLine : Design → List ℕ
-firstLine d =
-    ascii "parts " ++ (decimal (d .parts .count)
-    ++ (ascii " sets " ++ (decimal (length (d .sets))
-    ++ (ascii " mark " ++ (decimal (d .parts .mark) ++ ascii "\n")))))
-
--- a word, a number and a figure
-abbrev pub figureLine : String → ℕ → List ℕ → List ℕ
-figureLine word number figure = ascii word ++ (ascii " " ++ (decimal number ++ (ascii " " ++ (figure ++ ascii "\n"))))
+firstLine d = headLine (d .parts .count) (length (d .sets)) (d .parts .mark)
 
 -- `order k`: in how many failure orders the k-th failure stops the machine
 unfoldable pub orderLine : Design → ℕ → List ℕ
@@ -43,10 +36,6 @@ partLine d i =
 unfoldable pub reportOf : Design → List ℕ
 reportOf d =
     firstLine d ++ (lines (orderLine d) (d .parts .count) ++ (lines (domLine d) (d .parts .count) ++ lines (partLine d) (d .parts .count)))
-
--- the one line of a refusal
-unfoldable pub refusedLine : Refusal → List ℕ
-refusedLine r = ascii "refused " ++ (decimal (r .number) ++ (ascii " " ++ (decimal (r .place) ++ ascii "\n")))
 
 -- what is printed for what was read
 abbrev pub printedFor : Read Design → List ℕ

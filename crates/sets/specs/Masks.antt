@@ -2,7 +2,7 @@
 use mathlib.Core.Bool.{Bool, false, cond, _||_}
 use mathlib.Core.List.{List, [], _∷_, _++_}
 use Prim.Native.Nat.{ℕ, zero, suc, _/_, _%_, _^_, _≤_}
-use lib.Bits.{bitAnd, bitOr}
+use lib.Bits.{bitAnd}
 use lib.Count.{ones}
 use lib.Dec.{eqb}
 use lib.ListN.{getD}
@@ -15,12 +15,9 @@ has a i = eqb (a / 2 ^ i % 2) 1
 abbrev pub size : ℕ → ℕ
 size a = ones a
 
--- the parts that two sets share, and those that either has
+-- the parts that two sets share
 abbrev pub meet : ℕ → ℕ → ℕ
 meet a b = bitAnd a b
-
-abbrev pub join : ℕ → ℕ → ℕ
-join a b = bitOr a b
 
 -- the set a holds the set b: the parts that they share are all of b's
 unfoldable pub holds : ℕ → ℕ → Bool

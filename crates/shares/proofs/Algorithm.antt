@@ -8,10 +8,9 @@ use native.Mathlib.Omega.{arith}
 use lib.IntN.{ℤ, pos, _+ℤ_, _-ℤ_, _*ℤ_, +ℤ-idl, zero-*ℤ, pos-+ℤ-pos}
 use Rattle.numbers.specs.Counts.{choose}
 use Rattle.algebra.specs.Sums.{sumBelowℤ}
-use Rattle.algebra.specs.Differences.{difference, power}
 use Rattle.algebra.proofs.Integers.{ring}
 use Rattle.algebra.proofs.IntegerSums.{sumBelowℤ-same, sumBelowℤ-first, sumBelowℤ-reversed}
-use Rattle.algebra.proofs.Differences.{difference-factor}
+use Rattle.algebra.proofs.Differences.{difference, power, difference-factor}
 use Rattle.algebra.proofs.Binomials.{difference-choose, difference-falls}
 use Rattle.shares.specs.Polynomials.{derivative, reflected, shifted, coefficient, integral}
 use Rattle.shares.proofs.Integrals.{integral-falls}

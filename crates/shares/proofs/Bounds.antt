@@ -24,10 +24,10 @@ use Rattle.figures.specs.Figures.{sign, setDomination}
 use Rattle.figures.proofs.Holding.{holds-more, holds-never, holds-last}
 use Rattle.figures.proofs.Supersets.{opposite, having, having-without, having-with}
 use Rattle.shares.specs.Shares.{inside, outside, reliability, reliabilityCells, inCells}
-use Rattle.shares.specs.Steps.{typeCount, Bounded}
+use Rattle.shares.specs.Steps.{Bounded}
 use Rattle.shares.proofs.Cells.{in-cells}
 use Rattle.shares.proofs.Magnitudes.{natAbs-product, natAbs-sum, natAbs-sign}
-use Rattle.shares.proofs.Types.{having-inside, having-outside, inside-and-outside}
+use Rattle.shares.proofs.Types.{having-inside, having-outside, inside-and-outside, typeCount}
 
 -- ---- the sets that a set holds
 

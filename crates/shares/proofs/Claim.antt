@@ -52,6 +52,7 @@ module _ (n : ℕ) (works : ℕ → Bool) (coherent : Semicoherent n works) (gro
 -- ---- the checks
 
 pub record AcceptedGroup (n : ℕ) (table : List ℕ) (group : ℕ) : Type 0 where
+  pub few : n ≤ 16
   pub coherent : Semicoherent n (inTable table)
   pub some : 0 < group
   pub within : group < 2 ^ n
@@ -64,6 +65,7 @@ accepted-group n table group h =
     let known = refuse-accepted (leb (2 ^ n) group) unknownGroupPart 0 Accepted (checked .1) in
     let some : group ≡ 0 → ⊥ = eqb-false group 0 (checked .0) in
     record {
+      few = accepted-table n table (both .0) .few;
       coherent = accepted-table n table (both .0) .semicoherent;
       some = omega arith;
       within = omega (arith, leb-false (2 ^ n) group (known .0));

@@ -5,6 +5,7 @@ pub mod Reliability
 pub mod Algorithm
 pub mod Routes
 pub mod Cells
+pub mod Sums
 pub mod Claim
 pub mod Magnitudes
 pub mod Groups

@@ -16,9 +16,21 @@ use Rattle.sets.proofs.Bools.{not-not}
 use Rattle.sets.proofs.Ranges.{any-none}
 use Rattle.figures.proofs.Binomials.{factor-same}
 use Rattle.shares.specs.Polynomials.{integral, shareFrom}
-use Rattle.shares.specs.Steps.{common, powerWeight, powerSum, regrouped}
+use Rattle.shares.specs.Steps.{common, powerWeight}
 use Rattle.shares.proofs.Integrals.{integral-choose}
 use Rattle.shares.proofs.Algorithm.{coefficient-powers}
+use Rattle.algebra.specs.Sums.{sumBelowℤ}
+
+-- the coefficient of z^j in c_(k-1)(z), by the powers of x (001, eq. 9): the term of x^i in the derivative, and their sum
+abbrev pub powerTerm : ℕ → (ℕ → ℕ → ℤ) → ℕ → ℕ → ℕ → ℤ
+powerTerm m h k j i = pos (choose (m - 1 - i) (k - 1)) *ℤ (pos (i + 1) *ℤ h (i + 1) j)
+
+unfoldable pub powerSum : ℕ → (ℕ → ℕ → ℤ) → ℕ → ℕ → ℤ
+powerSum m h k j = sumBelowℤ (powerTerm m h k j) m
+
+-- what n!/L times is the share
+unfoldable pub regrouped : ℕ → ℕ → (ℕ → ℕ → ℤ) → ℕ → ℤ
+regrouped n m h k = sumBelowℤ (λ j. powerSum m h k j *ℤ pos (powerWeight n m k j)) (suc (n - m))
 
 -- ---- by computing
 

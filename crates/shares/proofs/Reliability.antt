@@ -9,17 +9,15 @@ use lib.Dec.{eqb}
 use lib.IntN.{ℤ, pos, _-ℤ_, _*ℤ_, pow, one, *ℤ-comm, zero-*ℤ}
 use Rattle.numbers.specs.Counts.{choose}
 use Rattle.algebra.specs.Sums.{indicator, sumBelowℤ}
-use Rattle.algebra.specs.Differences.{difference, power, expansion}
 use Rattle.algebra.proofs.Integers.{*ℤ-unit, unit-*ℤ, ring}
 use Rattle.algebra.proofs.IntegerSums.{sumBelowℤ-same}
-use Rattle.algebra.proofs.Differences.{power-same, power-other}
+use Rattle.algebra.proofs.Differences.{difference, power, expansion, power-same, power-other}
 use Rattle.sets.specs.Masks.{size}
 use Rattle.figures.specs.Figures.{sign, domination}
 use Rattle.algebra.proofs.IntegerSums.{sumBelowℤ-only, sumBelow-pos}
 use Rattle.figures.proofs.Dominations.{expansion-terms, domination-coefficient}
 use Rattle.shares.specs.Shares.{inside, outside, reliability}
-use Rattle.shares.specs.Steps.{typeCount}
-use Rattle.shares.proofs.Types.{sumOfType, sum-types, sum-reliability}
+use Rattle.shares.proofs.Types.{sumOfType, sum-types, sum-reliability, typeCount}
 
 -- ---- the value of h
 

@@ -12,10 +12,9 @@ use lib.IntN.{ℤ, pos, negℤ, _+ℤ_, _-ℤ_, _*ℤ_, *ℤ-zero, zero-*ℤ, po
 use borrow.Author.Tests.{eqb-true, eqb-false}
 use Rattle.numbers.specs.Counts.{factorial}
 use Rattle.algebra.specs.Sums.{indicator}
-use Rattle.algebra.specs.Differences.{difference, power}
 use Rattle.algebra.proofs.Integers.{*ℤ-unit, unit-*ℤ, ring}
 use Rattle.algebra.proofs.IntegerSums.{sumBelowℤ-same, sumBelowℤ-add, sumBelowℤ-neg}
-use Rattle.algebra.proofs.Differences.{power-same, power-other}
+use Rattle.algebra.proofs.Differences.{difference, power, power-same, power-other}
 use Rattle.sets.specs.Masks.{size, meet}
 use Rattle.sets.specs.Structures.{Semicoherent}
 use Rattle.sets.proofs.Bools.{true-or-false}

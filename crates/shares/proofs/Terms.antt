@@ -19,9 +19,13 @@ use Rattle.sets.specs.Masks.{any}
 use Rattle.sets.proofs.Bools.{not-not}
 use Rattle.sets.proofs.Ranges.{any-none, below-or-above}
 use Rattle.figures.proofs.Binomials.{factor-same, factorial-suc, choose-factorials}
-use Rattle.shares.specs.Steps.{common, powerWeight, powerTerm, powerSum, Bounded, limit}
+use Rattle.shares.specs.Steps.{common, powerWeight, Bounded}
 use Rattle.shares.proofs.Magnitudes.{natAbs-product, natAbs-sum}
-use Rattle.shares.proofs.Regrouped.{powerWeight-whole}
+use Rattle.shares.proofs.Regrouped.{powerWeight-whole, powerTerm, powerSum}
+
+-- the bound
+abbrev pub limit : ℕ → ℕ → ℕ
+limit n k = 2 * (common n * 3 ^ (n - k))
 
 -- ---- binomials
 

@@ -7,8 +7,8 @@ use native.Mathlib.Omega.{arith}
 use lib.Dec.{eqb}
 use lib.IntN.{ℤ, pos, _*ℤ_, *ℤ-zero, *ℤ-comm}
 use borrow.Author.Tests.{eq-eqb, ne-eqb}
-use Rattle.algebra.specs.Sums.{indicator, sumBelow, sumBelowℤ}
-use Rattle.algebra.specs.Differences.{difference}
+use Rattle.algebra.specs.Sums.{indicator, sumBelow, sumBelowℤ, sumSets}
+use Rattle.algebra.proofs.Differences.{difference}
 use Rattle.algebra.proofs.Sums.{sumBelow-same, sumBelow-add}
 use Rattle.algebra.proofs.Integers.{ring}
 use Rattle.algebra.proofs.IntegerSums.{sumBelowℤ-same, sumBelowℤ-mul, sumBelowℤ-exchange}
@@ -20,6 +20,10 @@ use Rattle.algebra.proofs.IntegerSums.{sumBelowℤ-only}
 use Rattle.figures.proofs.Supersets.{above-same, opposite, having, lacking, sum-above}
 use Rattle.figures.proofs.Dominations.{sum-dominations}
 use Rattle.shares.specs.Shares.{inside, outside, reliability}
+
+-- how many path sets have i parts in the group and j outside
+unfoldable pub typeCount : ℕ → (ℕ → Bool) → ℕ → ℕ → ℕ → ℕ
+typeCount n works group i j = sumSets n (λ a. works a && (eqb (inside group a) i && eqb (outside group a) j)) (λ a. 1)
 
 -- ---- the parts that a set has and lacks
 

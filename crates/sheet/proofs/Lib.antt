@@ -1,9 +1,3 @@
 pub mod Codes
-pub mod Bounds
-pub mod Written
-pub mod Walk
-pub mod Reading
-pub mod ReadSheet
-pub mod WriteSheet
-pub mod RoundTrip
+mod Written
 pub mod Examples

@@ -1,38 +1,16 @@
 -- A sheet written number by number: each entry stands behind those before it. Assumes nothing.
 use mathlib.Core.Path.{_≡_, refl, sym, ap, _∙_}
 use mathlib.Core.List.{List, [], _∷_, _++_, append-assoc, append-nil}
-use Prim.Native.Nat.{ℕ, suc, _+_, _≤_, _<_}
+use Prim.Native.Nat.{ℕ, suc, _≤_, _<_}
 use native.Mathlib.Omega.{arith}
 use lib.IntN.{ℤ, pos}
 use lib.ListN.{length, take, drop, length-append, take-append-drop}
-use lib.Seq.{take-suc, drop-append-seam, drop-append-add, drop-drop}
-use Rattle.answer.proofs.Outcomes.{InFront}
+use lib.Seq.{take-suc}
 use Rattle.codec.specs.ByteForm.{bytesOf}
 use Rattle.kind.specs.Kinds.{kindNumber}
 use Rattle.conversion.specs.Vectors.{entryAt}
 use Rattle.kind.specs.declared.Kind.{Kind}
 use Rattle.sheet.specs.Sheets.{coded, entryBytes, sheetBytes}
-
--- ---- a result in front of a buffer, and a longer one
-
--- a result in front of a buffer stands in front of what is there now, too
-pub in-front-now : {A : Type 0} {buffer result now : List A} {next : ℕ} → InFront buffer result now next → InFront now result now next
-in-front-now {A} {buffer} {result} {now} {next} before = record {
-  ends = before .ends;
-  stands = before .stands ∙ ap (λ (l : List A). result ++ l) (sym (ap (drop (length result)) (before .stands) ∙ drop-append-seam result (drop (length result) buffer)));
-}
-
--- what stands in front of that, and begins with the result, stands in front of the buffer
-pub in-front-on : {A : Type 0} {buffer result middle now : List A} {start next : ℕ} → InFront buffer result middle start → (more : List A) → InFront middle (result ++ more) now next
-    → InFront buffer (result ++ more) now next
-in-front-on {A} {buffer} {result} {middle} {now} {start} {next} before more after =
-    let long : length (result ++ more) ≡ length result + length more = length-append result more in
-    let rest : drop (length (result ++ more)) middle ≡ drop (length (result ++ more)) buffer =
-    ap (λ (k : ℕ). drop k middle) long ∙ ap (drop (length result + length more)) (before .stands)
-    ∙ drop-append-add result (drop (length result) buffer) (length more) ∙ drop-drop (length more) (length result) buffer ∙ ap (λ (k : ℕ). drop k buffer) (sym long) in
-    record { ends = after .ends; stands = after .stands ∙ ap (λ (l : List A). (result ++ more) ++ l) rest }
-
--- ---- a sheet, entry by entry
 
 module _ (kind : Kind) where
   entries-append : (front behind : List ℤ) → entryBytes kind (front ++ behind) ≡ entryBytes kind front ++ entryBytes kind behind

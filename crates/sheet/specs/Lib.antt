@@ -1,3 +1,1 @@
 pub mod Sheets
-pub mod Answers
-pub mod Steps

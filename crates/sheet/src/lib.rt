@@ -1,40 +1,16 @@
-// Vector sheets (01, "Records on disk"): written from a vector and read as one.
-use answer::Refusal;
+// Vector sheets (01, "Records on disk"), written from a vector.
 use answer::Verdict;
 use answer::Written;
-use codec::Field;
-use codec::Reading;
 use kind::Kind;
 use vector::Vector;
 ghost use mathlib.Core.Path.{_≡_};
 ghost use Prim.Native.Nat.{_≤_};
-ghost use lib.Dec.{ltb};
-ghost use lib.IntN.{natAbs};
-ghost use mathlib.Core.List.{_++_};
-ghost use lib.ListN.{length, drop};
-ghost use Rattle.answer.specs.Outcome.{at, refuse, andThen, outcome, delivered};
-ghost use Rattle.answer.specs.Refusals.{bytesLeft};
-ghost use Rattle.codec.specs.Fields.{top};
-ghost use Rattle.codec.specs.Reading.{numberAt};
-ghost use Rattle.vector.specs.Held.{entryCells, entriesOf, heldRefusal};
+ghost use lib.ListN.{length};
+ghost use Rattle.answer.specs.Outcome.{outcome, delivered};
+ghost use Rattle.vector.specs.Held.{entriesOf, heldRefusal};
 ghost use Rattle.kind.specs.Kinds.{kindOf, kindRefusal};
-ghost use Rattle.conversion.specs.Vectors.{vectorRefusal, countsRefusal};
-ghost use Rattle.sheet.specs.Answers.{sheetRead, receivedOutcome, received};
-ghost use Rattle.sheet.specs.Sheets.{coded, decoded, Refused, sheetBytes, sheetOf, afterNumber};
-ghost use Rattle.sheet.specs.Steps.{ended, entered, numbered};
-
-// What reading a sheet finds: its vector, or why there is none, and then a vector of no entries.
-pub struct SheetRead {
-    pub vector: Vector,
-    pub verdict: Verdict,
-}
-
-// What reading a sheet into a lent buffer answers: its kind, n and the number of its entries; of a refused sheet path counts and 0.
-pub struct Received {
-    pub kind: Kind,
-    pub n: usize,
-    pub answer: Written,
-}
+ghost use Rattle.conversion.specs.Vectors.{vectorRefusal};
+ghost use Rattle.sheet.specs.Sheets.{coded, sheetBytes};
 
 // The sheet of a vector, into a lent buffer.
 pub fn write_sheet(kind: Kind, n: usize, entries: &[i64], buffer: &mut [u8]) -> Written
@@ -46,10 +22,7 @@ pub fn write_sheet(kind: Kind, n: usize, entries: &[i64], buffer: &mut [u8]) -> 
         Verdict::Accepted => {
             let needed = sheet_length(kind, n, entries);
             if buffer.len() < needed {
-                return Written::Refused(Refusal {
-                    number: answer::SHORT_BUFFER,
-                    place: needed,
-                });
+                return answer::short(needed);
             }
             let length = write_numbers(kind, n, entries, buffer);
             Written::Length(length)
@@ -64,10 +37,7 @@ pub fn write_sheet_numbered(kind: u8, n: usize, entries: &[i64], buffer: &mut [u
     if kind::is_kind(kind) {
         return write_sheet(kind::kind_of(kind), n, entries, buffer);
     }
-    Written::Refused(Refusal {
-        number: answer::WRONG_KIND,
-        place: 0,
-    })
+    answer::unwritten(answer::WRONG_KIND, 0)
 }
 
 // The sheet of a vector in a struct, into a lent buffer.
@@ -84,206 +54,6 @@ pub fn sheet_of_vector(vector: Vector, buffer: &mut [u8]) -> Written
             write_sheet(kind, vector.n, &entries[..length], buffer)
         }
     }
-}
-
-// The vector of a sheet.
-pub fn vector_of_sheet(bytes: &[u8]) -> SheetRead
-    ensures { λ r. ⌜ r ≡ sheetRead (sheetOf (now (bytes .entry))) ⌝ }
-{
-    let number = codec::read_number(bytes, 0, Field::Sheet);
-    match number {
-        Reading::Refused(refusal) => refused_sheet(refusal.number, refusal.place),
-        Reading::Number { value, next } => {
-            if value < 1 {
-                return refused_sheet(answer::WRONG_KIND, 0);
-            }
-            if 4 < value {
-                return refused_sheet(answer::WRONG_KIND, 0);
-            }
-            read_parts(bytes, kind::kind_of(value as u8), next)
-        }
-    }
-}
-
-// The entries of a sheet, into a lent buffer.
-pub fn read_sheet(bytes: &[u8], cells: &mut [i64]) -> Received
-    ensures { λ r. ⌜ receivedOutcome r (now (cells .exit)) ≡ received (sheetOf (now (bytes .entry))) (now (cells .entry)) ⌝ }
-{
-    let read = vector_of_sheet(bytes);
-    let verdict = read.verdict;
-    match verdict {
-        Verdict::Refused(refusal) => not_received(refusal.number, refusal.place),
-        Verdict::Accepted => {
-            let vector = read.vector;
-            let length = vector.length;
-            if cells.len() < length {
-                return not_received(answer::SHORT_BUFFER, length);
-            }
-            let entries = vector.entries;
-            copy(&entries[..length], cells);
-            let kind = vector.kind;
-            Received {
-                kind,
-                n: vector.n,
-                answer: Written::Length(length),
-            }
-        }
-    }
-}
-
-// A refused sheet.
-fn refused_sheet(number: u8, place: usize) -> SheetRead
-    ensures { λ r. ⌜ r ≡ sheetRead (Refused (at number place)) ⌝ }
-{
-    SheetRead {
-        vector: Vector {
-            kind: Kind::PathCounts,
-            n: 0,
-            length: 0,
-            entries: [0i64; 17],
-        },
-        verdict: Verdict::Refused(Refusal { number, place }),
-    }
-}
-
-// A sheet that is not received.
-fn not_received(number: u8, place: usize) -> Received
-    ensures { λ r. ⌜ r ≡ record { kind = Kind.PathCounts; n = 0; answer = Written.Refused (at number place) } ⌝ }
-{
-    Received {
-        kind: Kind::PathCounts,
-        n: 0,
-        answer: Written::Refused(Refusal { number, place }),
-    }
-}
-
-// n and what stands behind it, of a sheet of a kind.
-fn read_parts(bytes: &[u8], kind: Kind, start: usize) -> SheetRead
-    ensures { λ r. ⌜ r ≡ sheetRead (afterNumber (numberAt (now (bytes .entry)) start Field.Sheet) (numbered (now (bytes .entry)) kind)) ⌝ }
-{
-    let number = codec::read_number(bytes, start, Field::Sheet);
-    match number {
-        Reading::Refused(refusal) => refused_sheet(refusal.number, refusal.place),
-        Reading::Number { value, next } => {
-            if value < 1 {
-                return refused_sheet(answer::WRONG_PART_COUNT, 0);
-            }
-            if value <= 16 {
-                return read_entries(bytes, kind, value as usize, next);
-            }
-            refused_sheet(answer::WRONG_PART_COUNT, 0)
-        }
-    }
-}
-
-// The entries of a sheet, and what stands behind them.
-fn read_entries(bytes: &[u8], kind: Kind, n: usize, start: usize) -> SheetRead
-    requires { ⌜ 1 ≤ n ⌝ }
-    requires { ⌜ n ≤ 16 ⌝ }
-    ensures { λ r. ⌜ r ≡ sheetRead (entered (now (bytes .entry)) kind n start) ⌝ }
-{
-    let length = kind.entries(n);
-    let mut entries = [0i64; 17];
-    let mut next = start;
-    let mut index = 0;
-    while index < length {
-        let number = codec::read_number(bytes, next, Field::Sheet);
-        match number {
-            Reading::Refused(refusal) => return refused_sheet(refusal.number, refusal.place),
-            Reading::Number { value, next: after } => {
-                entries[index] = decode(kind, value);
-                next = after;
-                index += 1;
-            }
-        }
-    }
-    let vector = Vector {
-        kind,
-        n,
-        length,
-        entries,
-    };
-    judged_sheet(bytes, vector, next)
-}
-
-// The sheet of a vector whose entries are read: bytes left behind them are refused before its path counts are judged.
-fn judged_sheet(bytes: &[u8], vector: Vector, end: usize) -> SheetRead
-    requires { ⌜ vectorRefusal (vector .kind) (vector .n) (entriesOf vector) ≡ countsRefusal (vector .kind) (vector .n) (entriesOf vector) ⌝ }
-    requires { ⌜ length (entriesOf vector) ≡ vector .length ⌝ }
-    requires { ⌜ vector .entries ≡ entryCells (entriesOf vector) ⌝ }
-    ensures { λ r. ⌜ r ≡ sheetRead (ended (now (bytes .entry)) (vector .kind) (vector .n) (entriesOf vector) end) ⌝ }
-{
-    let left = bytes_left(bytes, end);
-    let kind = vector.kind;
-    let length = vector.length;
-    let entries = vector.entries;
-    let counted = conversion::judge(kind, vector.n, &entries[..length]);
-    let verdict = first_of(left, counted);
-    match verdict {
-        Verdict::Refused(refusal) => refused_sheet(refusal.number, refusal.place),
-        Verdict::Accepted => SheetRead {
-            vector,
-            verdict: Verdict::Accepted,
-        },
-    }
-}
-
-// 25 where bytes are left from a position on.
-fn bytes_left(bytes: &[u8], end: usize) -> Verdict
-    ensures { λ r. ⌜ r ≡ refuse (ltb end (length (now (bytes .entry)))) bytesLeft end Verdict.Accepted ⌝ }
-{
-    if end < bytes.len() {
-        return Verdict::Refused(Refusal {
-            number: answer::BYTES_LEFT,
-            place: end,
-        });
-    }
-    Verdict::Accepted
-}
-
-// The first of two refusals.
-fn first_of(first: Verdict, later: Verdict) -> Verdict
-    ensures { λ r. ⌜ r ≡ andThen first later ⌝ }
-{
-    match first {
-        Verdict::Refused(refusal) => Verdict::Refused(refusal),
-        Verdict::Accepted => later,
-    }
-}
-
-// Copies entries to the front of a buffer that has room for them.
-fn copy(entries: &[i64], cells: &mut [i64])
-    requires { ⌜ length (now entries) ≤ length (now cells) ⌝ }
-    ensures { λ _. ⌜ now (cells .exit) ≡ now (entries .entry) ++ drop (length (now (entries .entry))) (now (cells .entry)) ⌝ }
-{
-    for i in 0..entries.len() {
-        cells[i] = entries[i];
-    }
-}
-
-// The entry that a number stands for.
-fn decode(kind: Kind, number: u64) -> i64
-    requires { ⌜ number ≤ top Field.Sheet ⌝ }
-    ensures { λ r. ⌜ r ≡ decoded kind number ⌝ }
-{
-    match kind {
-        Kind::PathCounts => number as i64,
-        Kind::Tail => number as i64,
-        Kind::Signature => number as i64,
-        Kind::Domination => from_zigzag(number),
-    }
-}
-
-// The entry that is written with its sign in one number.
-fn from_zigzag(number: u64) -> i64
-    requires { ⌜ number ≤ top Field.Sheet ⌝ }
-    ensures { λ r. ⌜ r ≡ decoded Kind.Domination number ⌝ }
-{
-    let half = (number / 2) as i64;
-    if number % 2 == 0 {
-        return half;
-    }
-    -1 - half
 }
 
 // How many bytes a sheet takes.
@@ -316,29 +86,18 @@ fn code(kind: Kind, entry: i64) -> u64
     ensures { λ r. ⌜ r ≡ coded kind entry ⌝ }
 {
     match kind {
-        Kind::PathCounts => size(entry),
-        Kind::Tail => size(entry),
-        Kind::Signature => size(entry),
+        Kind::PathCounts => integers::magnitude(entry),
+        Kind::Tail => integers::magnitude(entry),
+        Kind::Signature => integers::magnitude(entry),
         Kind::Domination => zigzag(entry),
     }
-}
-
-// The size of an entry, whatever its sign.
-fn size(entry: i64) -> u64
-    ensures { λ r. ⌜ r ≡ natAbs entry ⌝ }
-{
-    if entry < 0 {
-        let less = (-1 - entry) as u64;
-        return less + 1;
-    }
-    entry as u64
 }
 
 // An entry and its sign in one number: 2v, or -2v-1 when negative.
 fn zigzag(entry: i64) -> u64
     ensures { λ r. ⌜ r ≡ coded Kind.Domination entry ⌝ }
 {
-    let magnitude = size(entry);
+    let magnitude = integers::magnitude(entry);
     if entry < 0 {
         return 2 * (magnitude - 1) + 1;
     }

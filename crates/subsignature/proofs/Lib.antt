@@ -1,10 +1,1 @@
-pub mod Gathering
-pub mod Sets
-pub mod Refusals
-pub mod Deliveries
-pub mod Sums
-pub mod Coefficients
-pub mod FromCells
-pub mod ThroughH
-pub mod Signs
 pub mod TwoBuffers

@@ -1,20 +1,22 @@
 -- Laws of decimal digits: a number's digits are those of its tenth and then its last one, they are the fewest that hold it, and a number of
--- 64 bits has at most 20.
+-- 64 bits has at most 20, and a sign makes it 21.
 -- Assumes nothing.
 use mathlib.Core.Path.{_≡_, refl, sym, ap, _∙_, subst}
 use mathlib.Core.Bool.{Bool, cond}
 use mathlib.Core.List.{List, [], _∷_, _++_}
 use mathlib.Core.Logic.{⊎-elim}
-use Prim.Native.Nat.{ℕ, zero, suc, _+_, _-_, _*_, _/_, _%_, _^_, _≤_, _<_, zero-le}
+use Prim.Native.Nat.{ℕ, zero, suc, _+_, _-_, _*_, _/_, _%_, _^_, _≤_, _<_}
 use native.Mathlib.Nat.{le-refl, mod-eq-of-lt, mod-lt, zero-lt-suc, pow-suc, one-le-pow, not-suc-le-zero, le-of-eq}
 use native.Mathlib.Numerals.{sub-one}
 use native.Mathlib.Omega.{arith}
-use lib.Dec.{ltb}
+use lib.IntN.{ℤ, pos, negsuc}
 use lib.ListN.{length, length-append}
+use mir.Syntax.{w64}
+use mir.Val.{Fits, SFits}
 use borrow.Author.Tests.{lt-ltb, le-ltb}
-use Rattle.codec.proofs.ByteForms.{below-or-not}
 use Rattle.io.specs.Digits.{glyph, digits, Fewest}
-use Rattle.text.specs.Texts.{spelled, decimal}
+use Rattle.sets.proofs.Ranges.{below-or-above}
+use Rattle.text.specs.Texts.{spelled, decimal, signed}
 
 -- ---- one digit, and one digit more
 
@@ -35,7 +37,7 @@ spelled-enough (suc more) (suc other) n h l =
     ⊎-elim (λ small. spelled-small (suc more) n small ∙ sym (spelled-small (suc other) n small)) (λ large.
     spelled-large more n large
     ∙ ap (λ (front : List ℕ). front ++ ((48 + n % 10) ∷ [])) (spelled-enough more other (n / 10) (omega arith) (omega arith))
-    ∙ sym (spelled-large other n large)) (below-or-not n 10)
+    ∙ sym (spelled-large other n large)) (below-or-above n 10)
 
 pub decimal-small : (n : ℕ) → n < 10 → decimal n ≡ (48 + n) ∷ []
 unfolding decimal
@@ -75,7 +77,7 @@ pub decimal-some : (n : ℕ) → 1 ≤ length (decimal n)
 decimal-some n =
     ⊎-elim (λ small. subst (λ (text : List ℕ). 1 ≤ length text) (sym (decimal-small n small)) (le-refl 1)) (λ large.
     subst (λ (text : List ℕ). 1 ≤ length text) (sym (decimal-large n large))
-    (omega (arith, length-append (decimal (n / 10)) ((48 + n % 10) ∷ [])))) (below-or-not n 10)
+    (omega (arith, length-append (decimal (n / 10)) ((48 + n % 10) ∷ [])))) (below-or-above n 10)
 
 pub decimal-most : (k n : ℕ) → n < 10 ^ suc k → length (decimal n) ≤ suc k
 decimal-most zero n h = le-of-eq (ap length (decimal-small n h))
@@ -83,4 +85,12 @@ decimal-most (suc k) n h =
     ⊎-elim (λ small. subst (λ (text : List ℕ). length text ≤ suc (suc k)) (sym (decimal-small n small)) (omega arith)) (λ large.
     let tenth : n < 10 ^ suc k * 10 = subst (λ (x : ℕ). n < x) (pow-suc 10 (suc k)) h in
     subst (λ (text : List ℕ). length text ≤ suc (suc k)) (sym (decimal-large n large))
-    (omega (arith, length-append (decimal (n / 10)) ((48 + n % 10) ∷ []), decimal-most k (n / 10) (omega arith)))) (below-or-not n 10)
+    (omega (arith, length-append (decimal (n / 10)) ((48 + n % 10) ∷ []), decimal-most k (n / 10) (omega arith)))) (below-or-above n 10)
+
+pub decimal-few : (n : ℕ) → Fits w64 n → length (decimal n) ≤ 20
+decimal-few n fits = let small : n < 10 ^ 20 = omega arith in decimal-most 19 n small
+
+pub signed-few : (z : ℤ) → SFits w64 z → length (signed z) ≤ 21
+unfolding signed
+signed-few (pos n) fits = let small : n < 10 ^ 20 = omega (arith, fits .sfits) in omega (arith, decimal-most 19 n small)
+signed-few (negsuc n) fits = let small : suc n < 10 ^ 20 = omega (arith, fits .sfits) in omega (arith, decimal-most 19 (suc n) small)

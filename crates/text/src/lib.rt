@@ -2,10 +2,9 @@
 // buffer stays as it was and the answer is the position itself.
 ghost use mathlib.Core.Path.{_≡_};
 ghost use Prim.Native.Nat.{_+_, _≤_};
-ghost use lib.IntN.{natAbs};
 ghost use lib.ListN.{length};
 ghost use lib.Seq.{paste};
-ghost use Rattle.codec.specs.ByteForm.{leaves, placed};
+ghost use Rattle.answer.specs.Placed.{leaves, placed};
 ghost use Rattle.text.specs.Texts.{decimal, signed};
 
 // Puts bytes at a position and answers the position after them.
@@ -38,10 +37,10 @@ pub fn put_signed(text: &mut [u8], at: usize, value: i64) -> usize
     if value < 0 {
         let mut spelt = [0u8; 21];
         let sign = put(&mut spelt, 0, b"-");
-        let end = put_decimal(&mut spelt, sign, size_of(value));
+        let end = put_decimal(&mut spelt, sign, integers::magnitude(value));
         return put(text, at, &spelt[..end]);
     }
-    put_decimal(text, at, size_of(value))
+    put_decimal(text, at, integers::magnitude(value))
 }
 
 // Copies bytes to a position where there is room for them.
@@ -51,16 +50,5 @@ fn copy(text: &mut [u8], at: usize, bytes: &[u8])
 {
     for i in 0..bytes.len() {
         text[at + i] = bytes[i];
-    }
-}
-
-// The size of a number without its sign.
-fn size_of(value: i64) -> u64
-    ensures { λ r. ⌜ r ≡ natAbs value ⌝ }
-{
-    if value < 0 {
-        (-1 - value) as u64 + 1
-    } else {
-        value as u64
     }
 }

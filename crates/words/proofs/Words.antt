@@ -15,9 +15,9 @@ use lib.Pow.{pow-pos, pow-lt}
 use lib.Seq.{getD-set-same, getD-set-other}
 use borrow.Author.Tests.{eqb-true, eq-eqb, ne-eqb}
 use Rattle.numbers.proofs.Tables.{tabulate-at, tabulate-length, tabulate-unique}
-use Rattle.sets.specs.Masks.{has, meet, join, any}
+use Rattle.sets.specs.Masks.{has, meet, any}
 use Rattle.sets.proofs.Bools.{same-test, or-false}
-use Rattle.sets.proofs.Masks.{has-above, has-add, has-meet, has-join}
+use Rattle.sets.proofs.Masks.{join, has-above, has-add, has-meet, has-join}
 use Rattle.sets.proofs.Tables.{has-packed, packed-below, packed-unique}
 use Rattle.words.specs.Words.{inWords, wordOf, wordsOf}
 use Rattle.words.proofs.Bits.{has-complement}

@@ -1,16 +1,14 @@
 -- `changing::add_part` meets its contract: the part list answers for the change, and the sets stay as they were read.
 -- Assumes nothing.
-use mathlib.Core.Path.{_≡_, sym, ap, _∙_, subst}
+use mathlib.Core.Path.{_≡_, sym, ap, _∙_}
 use native.Mathlib.Omega.{arith}
 use denote.Ref.{now}
 use lib.ListN.{length}
 use Rattle.answer.specs.declared.Verdict.the-variants.{Accepted}
 use Rattle.parts.specs.declared.Changed.{Changed}
-use Rattle.parts.specs.PartLists.{WellFormed}
 use Rattle.parts.specs.Changes.{added}
 use Rattle.changes.specs.Changes.{addPart, changeRefusal}
-use Rattle.changes.proofs.Rules.{changed-rules}
-use Rattle.changing.proofs.Answers.{DesignOpened, opened-design, opened-refused, sets-front, sets-counted, sets-few, sets-room, change-refused, change-made, add-refused, add-made}
+use Rattle.changing.proofs.Answers.{DesignOpened, opened-design, opened-refused, sets-front, sets-counted, sets-few, sets-room, change-refused, change-rules, change-made, add-refused, add-made}
 use borrow.Author.Needs.{needs}
 use Rattle.changing.proofs.add_part.Statement.{statement}
 use Rattle.changing.proofs.add_part.Tie as tie
@@ -59,7 +57,7 @@ write-design-requires : tie.Need-write-design-requires
 write-design-requires c κs =
     let told = c .before .before .before .before in
     let r = read (told .before .before .before .before) in
-    (subst WellFormed (sym (ap (λ (x : Changed). x .list) (list-changed (told .before .before)))) (changed-rules addPart (r .d) (r .rules) (made told) .parts), omega (arith, ap length (sets-front r), sets-counted r, sets-few r))
+    change-rules r addPart (made told) _ _ (ap (λ (x : Changed). x .list) (list-changed (told .before .before))) (sets-front r)
 
 returns : tie.Need-returns
 returns c =

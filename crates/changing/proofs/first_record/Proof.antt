@@ -8,38 +8,34 @@ use native.Mathlib.Omega.{arith}
 use denote.Ref.{now}
 use lib.ListN.{length, take, replicate, length-replicate}
 use lib.Seq.{length-take-le}
-use Rattle.answer.specs.Outcome.{Outcome, delivered}
+use Rattle.answer.specs.Outcome.{outcome, delivered}
 use Rattle.answer.specs.declared.Verdict.{Verdict}
-use Rattle.answer.specs.declared.Verdict.the-variants.{Accepted}
+use Rattle.answer.specs.declared.Written.{Written}
+use Rattle.answer.proofs.Deliveries.{refused-kept, Given, given, refused-by}
 use Rattle.orders.proofs.Sperner.{minimalSets-most}
 use Rattle.parts.specs.PartLists.{listOf}
 use Rattle.sets.specs.Structures.{listed, minimalSets}
 use Rattle.structure.specs.Checks.{listRefusal}
 use Rattle.structure.proofs.Acceptance.{accepted-list}
-use Rattle.record.specs.Records.{design}
+use Rattle.record.specs.Records.{Design, design}
 use Rattle.record.specs.RecordBytes.{recordBytes}
+use Rattle.record.proofs.MinimalSets.{design-list}
 use Rattle.changes.specs.Changes.{firstDesign}
 use Rattle.changes.specs.Records.{firstRecord}
-use Rattle.changing.proofs.ListSets.{sixteen, first-numbers, refused-by}
-use Rattle.changes.proofs.Written.{Given, given}
+use Rattle.changing.proofs.FirstNumbers.{sixteen, first-numbers}
+use Rattle.changes.proofs.Rules.{first-rules}
 use borrow.Author.Needs.{needs}
 use Rattle.changing.proofs.first_record.Statement.{statement}
 use Rattle.changing.proofs.first_record.Tie as tie
 
 -- what the call for the minimal sets was: how many, and the sets in front of the local array
 built : (c : tie.After-known-told2)
-    → Given (listRefusal (c .before .before .before .before .before .before .before .before .args .n) (now (c .before .before .before .before .before .before .before .before .args .list)))
-    (minimalSets (c .before .before .before .before .before .before .before .before .args .n) (listed (now (c .before .before .before .before .before .before .before .before .args .list))))
-    (delivered (listRefusal (c .before .before .before .before .before .before .before .before .args .n) (now (c .before .before .before .before .before .before .before .before .args .list)))
-    (minimalSets (c .before .before .before .before .before .before .before .before .args .n) (listed (now (c .before .before .before .before .before .before .before .before .args .list)))) (replicate 12870 0))
-    (c .before .found2 .given .0 .0)
+    → Given (listRefusal (c .before .before .before .before .before .before .before .before .args .n) (now (c .before .before .before .before .before .before .before .before .args .list))) (minimalSets (c .before .before .before .before .before .before .before .before .args .n) (listed (now (c .before .before .before .before .before .before .before .before .args .list)))) (replicate 12870 0)
+    (c .before .before .before .before .minimal-of-list .last .1 .1 .0) (c .before .found2 .given .0 .0)
 built c =
-    given _ _ (replicate 12870 0) (c .before .found2 .given .0 .0) (sym (ap (λ (o : Outcome ℕ). o .answer) (c .before .before .before .before .minimal-of-list .ensures)) ∙ c .before .found2 .given .1)
-
-front : (c : tie.After-known-told2) → take (c .before .found2 .given .0 .0) (c .before .before .before .before .minimal-of-list .last .1 .1 .0)
-    ≡ minimalSets (c .before .before .before .before .before .before .before .before .args .n) (listed (now (c .before .before .before .before .before .before .before .before .args .list)))
-front c =
-    ap (λ (o : Outcome ℕ). take (c .before .found2 .given .0 .0) (o .buffer)) (c .before .before .before .before .minimal-of-list .ensures) ∙ built c .written
+    let w = c .before .before .before .before in
+    given _ _ (replicate 12870 0) (w .minimal-of-list .last .1 .1 .0) (c .before .found2 .given .0 .0)
+    (ap (λ (x : Written). outcome x (w .minimal-of-list .last .1 .1 .0)) (sym (c .before .found2 .given .1)) ∙ w .minimal-of-list .ensures)
 
 few : (c : tie.After-known-told2) → c .before .before .before .before .before .before .before .before .args .n ≤ 16
 few c =
@@ -78,23 +74,22 @@ array-share-prefix-sets : tie.Need-array-share-prefix-sets
 array-share-prefix-sets c = omega (arith, most (c .before))
 
 slice-aggregate-write-record-2 : tie.Need-slice-aggregate-write-record-2
-slice-aggregate-write-record-2 c = built (c .before .before) .counted ∙ ap length (sym (front (c .before .before)))
+slice-aggregate-write-record-2 c = built (c .before .before) .counted ∙ ap length (sym (built (c .before .before) .front))
 
 write-record-requires : tie.Need-write-record-requires
-write-record-requires c κs =
-    let told = c .before .before .before in
-    (omega (arith, counted told, few told), omega (arith, ap length (front told), built told .counted, most told))
+write-record-requires c κs = search needs
 
 returns : tie.Need-returns
 unfolding firstRecord
 returns c =
-    let a = c .before .before .before .before .before .before .before .before .args in
+    let w = c .before .before .before .before in
+    let a = w .before .before .before .before .args in
     let list = now (a .list) in
-    let refused = refused-by (listRefusal (a .n) list) (minimalSets (a .n) (listed list)) (replicate 12870 0) _
+    refused-kept (listRefusal (a .n) list) (recordBytes (firstDesign (a .n) list)) (now (a .buffer)) _
+    (refused-by (listRefusal (a .n) list) (minimalSets (a .n) (listed list)) (replicate 12870 0) (w .minimal-of-list .last .1 .1 .0) _
     (λ accepted. subst (λ (k : ℕ). length (minimalSets (a .n) (listed list)) ≤ k) (sym (length-replicate {A = ℕ} 12870 0))
     (minimalSets-most (a .n) (listed list) (accepted-list (a .n) list accepted .few)))
-    (sym (ap (λ (o : Outcome ℕ). o .answer) (c .before .before .before .before .minimal-of-list .ensures)) ∙ c .before .found .given .1) in
-    ap (λ (v : Verdict). delivered v (recordBytes (firstDesign (a .n) list)) (now (a .buffer))) (sym refused)
+    (ap (λ (x : Written). outcome x (w .minimal-of-list .last .1 .1 .0)) (sym (c .before .found .given .1)) ∙ w .minimal-of-list .ensures))
 
 same-length : tie.Need-same-length
 same-length c = search needs
@@ -105,9 +100,11 @@ returns-2 c =
     let told = c .before .before .before .before .before .before in
     let a = told .before .before .before .before .before .before .before .before .args in
     let buffer = now (a .buffer) in
+    let first : Design = firstDesign (a .n) (now (a .list)) in
     c .before .before .write-record .ensures
-    ∙ ap₂ (λ (numbers sets : List ℕ). delivered Accepted (recordBytes (design (listOf (a .n) numbers) sets)) buffer) (first-numbers (a .n) (few told)) (front told)
-    ∙ ap (λ (v : Verdict). delivered v (recordBytes (firstDesign (a .n) (now (a .list)))) buffer) (sym (built told .accepted))
+    ∙ ap₂ (λ (numbers sets : List ℕ). delivered (listRefusal (length numbers) sets) (recordBytes (design (listOf (a .n) numbers) sets)) buffer) (first-numbers (a .n) (few told)) (built told .front)
+    ∙ ap (λ (v : Verdict). delivered v (recordBytes first) buffer)
+    (design-list first (first-rules (a .n) (now (a .list)) (built told .accepted)) ∙ sym (built told .accepted))
 
 pub first-record-spec : {M : Type 1} → statement M
 first-record-spec =

@@ -1,134 +1,57 @@
--- `changing::sets_without` meets its contract: each set that does not name the part is stored, lowered, behind those before it.
+-- `changing::sets_without` meets its contract: no more sets are kept than there are, so that the array is never short.
 -- Assumes nothing.
-use mathlib.Core.Path.{_≡_, sym, _∙_, subst}
-use mathlib.Core.Bool.{true, false}
-use mathlib.Core.List.{List, [], _∷_, _++_}
-use mathlib.Core.Logic.{⊎-elim}
-use Prim.Native.Nat.{ℕ, _+_, _-_, _≤_, _<_}
-use native.Mathlib.Numerals.{add-one}
+use mathlib.Core.Path.{refl, sym, ap, _∙_}
 use native.Mathlib.Omega.{arith}
-use borrow.Author.Tests.{not-true, not-false}
 use denote.Ref.{now}
-use lib.ListN.{length, getD, take}
-use lib.Seq.{take-all, length-take-le}
-use Rattle.answer.proofs.Outcomes.{InFront, in-front-none, in-front-one, in-front-length, in-front-delivered}
-use Rattle.sets.specs.Masks.{has}
-use Rattle.changes.specs.Changes.{lowered, setsWithout}
-use Rattle.changes.proofs.TakenOut.{without-fewer, without-kept, without-gone}
+use Rattle.answer.specs.Outcome.{outcome}
+use Rattle.answer.specs.declared.Verdict.the-variants.{Accepted}
+use Rattle.answer.specs.declared.Written.{Written}
+use Rattle.answer.proofs.Deliveries.{refused-by}
+use Rattle.heading.proofs.Answers.{not-both}
+use Rattle.changes.specs.Changes.{setsWithout}
+use Rattle.changes.proofs.TakenOut.{without-fewer}
 use borrow.Author.Needs.{needs}
 use Rattle.changing.proofs.sets_without.Statement.{statement}
 use Rattle.changing.proofs.sets_without.Tie as tie
 
-abbrev Inv-loop : tie.InvT-loop
-Inv-loop sets index kept₀ next₀ i₀ i-end kept next i = (i ≤ length sets) × InFront kept₀ (setsWithout index (take i sets)) kept next
+sets-without-requires : tie.Need-sets-without-requires
+sets-without-requires c κs = search needs
 
-abbrev μ-loop : tie.MeasureT-loop
-μ-loop sets index kept₀ next₀ i₀ i-end kept next i = length sets - i
+enum-told : tie.Need-enum-told
+enum-told c = search needs
 
-loop-holds : tie.Need-loop-holds Inv-loop μ-loop
-unfolding setsWithout
-loop-holds c = (omega arith, in-front-none _)
+enum-known-written : tie.Need-enum-known-written
+enum-known-written c = search needs
 
--- there is a place for one more: no more sets are kept than were passed
-place : (c : tie.In-loop Inv-loop μ-loop) → (c .before .loop .next < length (now (c .before .before .before .before .args .kept))) × (length (c .before .loop .kept) ≡ length (now (c .before .before .before .before .args .kept)))
-place c =
-    let l = c .before .loop in
-    let start = c .before .before .before .before in
-    let a = start .args in
-    let sets = now (a .sets) in
-    let passed = length-take-le (l .i) sets (l .inv .0) in
-    let fewer = without-fewer (a .index) (take (l .i) sets) in
-    let low : l .next < length (now (a .kept)) = omega (arith, l .inv .1 .ends, c .loop-test .taken, start .pre .1) in
-    (low, in-front-length (now (a .kept)) (setsWithout (a .index) (take (l .i) sets)) (l .kept) (l .next) (l .inv .1) (omega (arith, l .inv .1 .ends)))
+same-length : tie.Need-same-length
+same-length c = search needs
 
-mul-set : tie.Need-mul-set Inv-loop μ-loop
-mul-set c = omega arith
-
-shared-slice-read-set : tie.Need-shared-slice-read-set Inv-loop μ-loop
-shared-slice-read-set c = omega arith
-
-has-part-requires : tie.Need-has-part-requires Inv-loop μ-loop
-has-part-requires c κs = search needs
-
-lowered-requires : tie.Need-lowered-requires Inv-loop μ-loop
-lowered-requires c κs = search needs
-
-mul-kept : tie.Need-mul-kept Inv-loop μ-loop
-mul-kept c = omega (arith, place (c .before .before .before .before) .0)
-
-slice-write-kept : tie.Need-slice-write-kept Inv-loop μ-loop
-slice-write-kept c = let p = place (c .before .before .before .before) in omega (arith, p .0, p .1)
-
-add-next : tie.Need-add-next Inv-loop μ-loop
-add-next c = omega (arith, place (c .before .before .before .before) .0)
-
-add-i : tie.Need-add-i Inv-loop μ-loop
-add-i c = omega arith
-
-loop-less : tie.Need-loop-less Inv-loop μ-loop
-loop-less c = omega arith
-
-loop-again : tie.Need-loop-again Inv-loop μ-loop
-loop-again c =
-    let inside = c .before .before .before in
-    let l = inside .before .loop in
-    let a = inside .before .before .before .before .args in
-    let sets = now (a .sets) in
-    let set : ℕ = getD sets (l .i) 0 in
-    let here : l .i < length sets = inside .loop-test .taken in
-    ⊎-elim
-    (λ w.
-    let lacks : has set (a .index) ≡ false = sym (c .before .has-part .ensures) ∙ not-true (c .before .has-part .result) (w .0 .taken) in
-    let more : setsWithout (a .index) (take (l .i + 1) sets) ≡ setsWithout (a .index) (take (l .i) sets) ++ (lowered (a .index) set ∷ []) =
-    rw (add-one (l .i)) (without-kept (a .index) (l .i) sets here lacks) in
-    let value : w .1 .result ≡ lowered (a .index) set = w .1 .ensures in
-    let stored = in-front-one (now (a .kept)) (setsWithout (a .index) (take (l .i) sets)) (l .kept) (l .next) (w .1 .result) (l .inv .1) (omega (arith, place inside .0, l .inv .1 .ends)) in
-    rw (w .2, w .3) (omega arith, rw (more, sym value) stored))
-    (λ w.
-    let names : has set (a .index) ≡ true = sym (c .before .has-part .ensures) ∙ not-false (c .before .has-part .result) (w .0 .left) in
-    let same : setsWithout (a .index) (take (l .i + 1) sets) ≡ setsWithout (a .index) (take (l .i) sets) =
-    rw (add-one (l .i)) (without-gone (a .index) (l .i) sets here names) in
-    rw (w .1, w .2) (omega arith, rw same (l .inv .1)))
-    (c .if1 .came)
-
--- after the last set
-whole : (c : tie.After-loop Inv-loop μ-loop) → InFront (now (c .before .before .before .before .args .kept)) (setsWithout (c .before .before .before .before .args .index) (now (c .before .before .before .before .args .sets))) (c .before .loop .kept) (c .before .loop .next)
-whole c =
-    let a = c .before .before .before .before .args in
-    let l = c .before .loop in
-    subst (λ (s : List ℕ). InFront (now (a .kept)) (setsWithout (a .index) s) (l .kept) (l .next)) (take-all (l .i) (now (a .sets)) (c .loop-test .left)) (l .inv .1)
-
-room : (c : tie.After-loop Inv-loop μ-loop) → length (setsWithout (c .before .before .before .before .args .index) (now (c .before .before .before .before .args .sets))) ≤ length (now (c .before .before .before .before .args .kept))
-room c =
-    let start = c .before .before .before .before in
-    omega (arith, without-fewer (start .args .index) (now (start .args .sets)), start .pre .1)
-
-same-length : tie.Need-same-length Inv-loop μ-loop
-same-length c =
-    let a = c .before .before .before .before .args in
-    in-front-length (now (a .kept)) (setsWithout (a .index) (now (a .sets))) (c .before .loop .kept) (c .before .loop .next) (whole c) (room c)
-
-returns : tie.Need-returns Inv-loop μ-loop
+returns : tie.Need-returns
 returns c =
-    let a = c .before .before .before .before .args in
-    in-front-delivered (now (a .kept)) (setsWithout (a .index) (now (a .sets))) (c .before .loop .kept) (c .before .loop .next) (whole c) (room c)
+    let w = c .before .before .before .before in
+    let start = w .before .before .before .before in
+    let a = start .args in
+    not-both refl
+    (refused-by Accepted (setsWithout (a .index) (now (a .sets))) (now (a .kept)) (w .sets-without .last .1 .1 .0) _
+    (λ e. omega (arith, without-fewer (a .index) (now (a .sets)), start .pre))
+    (ap (λ (x : Written). outcome x (w .sets-without .last .1 .1 .0)) (sym (c .enum-told .given .1)) ∙ w .sets-without .ensures))
+
+same-length-2 : tie.Need-same-length-2
+same-length-2 c = search needs
+
+returns-2 : tie.Need-returns-2
+returns-2 c =
+    let w = c .before .before .before .before .before in
+    ap (λ (x : Written). outcome x (w .sets-without .last .1 .1 .0)) (sym (c .before .written .given .1)) ∙ w .sets-without .ensures
 
 pub sets-without-spec : {M : Type 1} → statement M
 sets-without-spec =
     tie.close
     (tie.spec
-    Inv-loop
-    μ-loop
-    loop-holds
-    mul-set
-    shared-slice-read-set
-    has-part-requires
-    lowered-requires
-    mul-kept
-    slice-write-kept
-    add-next
-    add-i
-    loop-less
-    loop-again
+    sets-without-requires
+    enum-told
+    enum-known-written
     same-length
-    returns)
+    returns
+    same-length-2
+    returns-2)

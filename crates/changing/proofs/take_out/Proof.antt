@@ -1,26 +1,24 @@
 -- `changing::take_out` meets its contract: the part list answers for the position, and 18 is said where no set is left without the part.
 -- Assumes nothing.
-use mathlib.Core.Path.{_≡_, sym, ap, _∙_, subst}
+use mathlib.Core.Path.{_≡_, sym, ap, _∙_}
 use mathlib.Core.List.{List}
 use Prim.Native.Nat.{ℕ, _-_, _≤_}
 use native.Mathlib.Omega.{arith}
 use denote.Ref.{now}
-use lib.ListN.{length, take, replicate, length-replicate}
+use lib.ListN.{length, replicate, length-replicate}
 use Rattle.answer.specs.Refusals.{inEverySet}
-use Rattle.answer.specs.Outcome.{at, Outcome, outcome, delivered}
+use Rattle.answer.specs.Outcome.{at, outcome, delivered}
 use Rattle.answer.specs.declared.Verdict.the-variants.{Accepted}
 use Rattle.answer.specs.declared.Written.{Written}
 use Rattle.answer.specs.declared.Written.the-variants.{Length}
 use Rattle.parts.specs.declared.Changed.{Changed}
 use Rattle.parts.specs.declared.PartList.{PartList}
 use Rattle.parts.specs.declared.Numbered.the-variants.{Number}
-use Rattle.parts.specs.PartLists.{WellFormed}
 use Rattle.parts.specs.Changes.{takenOut}
 use Rattle.changes.specs.Changes.{takeOut, setsWithout, changeRefusal}
-use Rattle.changes.proofs.Rules.{changed-rules}
 use Rattle.changes.proofs.TakenOut.{without-fewer}
-use Rattle.changes.proofs.Written.{Given, given}
-use Rattle.changing.proofs.Answers.{DesignOpened, opened-design, opened-refused, sets-front, sets-counted, sets-few, sets-room, change-refused, change-made, out-refused, out-left, out-none, out-some}
+use Rattle.answer.proofs.Deliveries.{Given, given}
+use Rattle.changing.proofs.Answers.{DesignOpened, opened-design, opened-refused, sets-front, sets-counted, sets-few, sets-room, change-refused, change-rules, change-made, out-refused, out-left, out-none, out-some}
 use borrow.Author.Needs.{needs}
 use Rattle.changing.proofs.take_out.Statement.{statement}
 use Rattle.changing.proofs.take_out.Tie as tie
@@ -50,11 +48,8 @@ kept c =
     c .sets-without .ensures
     ∙ ap (λ (l : List ℕ). delivered Accepted (setsWithout (c .before .before .before .before .before .before .before .before .before .before .before .before .before .before .args .position - 1) l) (replicate 12870 0)) (sets-front (read (told-of c .before .before .before .before)))
 
-built : (c : tie.After-sets-without) → Given Accepted (left-of c) (delivered Accepted (left-of c) (replicate 12870 0)) (c .sets-without .result)
-built c = given Accepted (left-of c) (replicate 12870 0) (c .sets-without .result) (sym (ap (λ (o : Outcome ℕ). o .answer) (kept c)))
-
-front : (c : tie.After-sets-without) → take (c .sets-without .result) (c .sets-without .last .1 .1 .0) ≡ left-of c
-front c = ap (λ (o : Outcome ℕ). take (c .sets-without .result) (o .buffer)) (kept c) ∙ built c .written
+built : (c : tie.After-sets-without) → Given Accepted (left-of c) (replicate 12870 0) (c .sets-without .last .1 .1 .0) (c .sets-without .result)
+built c = given Accepted (left-of c) (replicate 12870 0) (c .sets-without .last .1 .1 .0) (c .sets-without .result) (kept c)
 
 few : (c : tie.After-sets-without) → c .sets-without .result ≤ 12870
 few c =
@@ -104,13 +99,11 @@ slice-aggregate-sets-without-2 c = search needs
 
 sets-without-requires : tie.Need-sets-without-requires
 sets-without-requires c κs =
-    let told = c .before .before .before .before in
-    let r = read (told .before .before .before .before) in
-    let left = out-left (r .d) (r .rules) _ _ (number-given told) in
-    (omega (arith, left .1), omega (arith, ap length (sets-front r), sets-counted r, sets-few r, length-replicate {A = ℕ} 12870 0))
+    let r = read (c .before .before .before .before .before .before .before .before) in
+    omega (arith, ap length (sets-front r), sets-counted r, sets-few r, length-replicate {A = ℕ} 12870 0)
 
-refused-requires : tie.Need-refused-requires
-refused-requires c κs = search needs
+unwritten-requires : tie.Need-unwritten-requires
+unwritten-requires c κs = search needs
 
 returns-3 : tie.Need-returns-3
 returns-3 c =
@@ -118,7 +111,7 @@ returns-3 c =
     let told = told-of w in
     let r = read (told .before .before .before .before) in
     let a = w .before .before .before .before .before .before .before .before .before .before .before .before .before .before .args in
-    ap (λ (x : Written). outcome x (now (a .buffer))) (c .refused .ensures)
+    ap (λ (x : Written). outcome x (now (a .buffer))) (c .unwritten .ensures)
     ∙ change-refused r (takeOut (a .position)) (at inEverySet 0)
     (out-none (r .d) (r .rules) (a .position) _ (number-given told) (omega (arith, c .before .if1 .taken, built w .counted))) (now (a .buffer))
 
@@ -126,16 +119,14 @@ array-share-prefix-kept : tie.Need-array-share-prefix-kept
 array-share-prefix-kept c = omega (arith, few (c .before .before))
 
 slice-aggregate-write-design : tie.Need-slice-aggregate-write-design
-slice-aggregate-write-design c = let w = c .before .before .before in built w .counted ∙ ap length (sym (front w))
+slice-aggregate-write-design c = let w = c .before .before .before in built w .counted ∙ ap length (sym (built w .front))
 
 write-design-requires : tie.Need-write-design-requires
 write-design-requires c κs =
     let w = c .before .before .before .before in
     let told = told-of w in
-    let r = read (told .before .before .before .before) in (
-      subst WellFormed (sym (ap (λ (x : Changed). x .list) (list-changed (told .before .before)))) (changed-rules (takeOut (w .before .before .before .before .before .before .before .before .before .before .before .before .before .before .args .position)) (r .d) (r .rules) (made (c .before .before)) .parts),
-      omega (arith, ap length (front w), built w .counted, few w),
-    )
+    change-rules (read (told .before .before .before .before)) (takeOut (w .before .before .before .before .before .before .before .before .before .before .before .before .before .before .args .position))
+    (made (c .before .before)) _ _ (ap (λ (x : Changed). x .list) (list-changed (told .before .before))) (built w .front)
 
 returns : tie.Need-returns
 returns c =
@@ -163,7 +154,7 @@ returns-4 c =
     let r = read (told .before .before .before .before) in
     let a = w .before .before .before .before .before .before .before .before .before .before .before .before .before .before .args in
     c .before .before .write-design .ensures
-    ∙ change-made r (takeOut (a .position)) (made left) _ _ (now (a .buffer)) (ap (λ (x : Changed). x .list) (list-changed (told .before .before))) (front w)
+    ∙ change-made r (takeOut (a .position)) (made left) _ _ (now (a .buffer)) (ap (λ (x : Changed). x .list) (list-changed (told .before .before))) (built w .front)
 
 pub take-out-spec : {M : Type 1} → statement M
 take-out-spec =
@@ -182,7 +173,7 @@ take-out-spec =
     sub-sets-without
     slice-aggregate-sets-without-2
     sets-without-requires
-    refused-requires
+    unwritten-requires
     returns-3
     array-share-prefix-kept
     slice-aggregate-write-design

@@ -9,7 +9,7 @@ use denote.Ref.{now}
 use Rattle.numbers.proofs.Tables.{filled, filled-none, filled-again, filled-end}
 use Rattle.words.specs.Words.{inWords, wordOf}
 use Rattle.closure.specs.Closure.{without}
-use Rattle.sets.specs.Masks.{join}
+use Rattle.sets.proofs.Masks.{join}
 use Rattle.words.proofs.Words.{word-is, wordOf-or}
 use borrow.Author.Needs.{needs}
 use Rattle.closure.proofs.carried_over.Statement.{statement}

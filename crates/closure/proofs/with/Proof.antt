@@ -9,7 +9,8 @@ use denote.Ref.{now}
 use lib.ListN.{getD}
 use lib.Pow.{pow-lt}
 use Rattle.numbers.proofs.Counts.{upTo16-given}
-use Rattle.sets.specs.Masks.{has, join}
+use Rattle.sets.specs.Masks.{has}
+use Rattle.sets.proofs.Masks.{join}
 use Rattle.sets.specs.Tables.{packed}
 use Rattle.closure.proofs.Parts.{with-low, with-high, with-all, step-below}
 use borrow.Author.Needs.{needs}

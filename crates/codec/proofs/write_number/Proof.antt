@@ -4,8 +4,9 @@ use borrow.Author.Needs.{needs}
 use native.Mathlib.Omega.{arith}
 use mathlib.Core.Path.{sym, ap₂, _∙_}
 use denote.Ref.{now}
-use Rattle.codec.specs.ByteForm.{leaves, bytesOf}
-use Rattle.codec.proofs.Placing.{placed-short, stored-placed}
+use Rattle.answer.specs.Placed.{leaves}
+use Rattle.codec.specs.ByteForm.{bytesOf}
+use Rattle.answer.proofs.Placing.{placed-short, stored-placed}
 use Rattle.codec.proofs.write_number.Statement.{statement}
 use Rattle.codec.proofs.write_number.Tie as tie
 

@@ -1,4 +1,4 @@
--- `examples::minimal` is safe and ends: the part of the buffer that is judged is as long as was asked.
+-- `examples::minimal` is safe and ends: the part of the buffer that is a table is as long as was asked.
 -- Assumes nothing.
 use mathlib.Core.Path.{sym}
 use lib.Seq.{length-take-le}
@@ -6,29 +6,17 @@ use borrow.Author.Needs.{needs}
 use Rattle.examples.proofs.minimal.Statement.{statement}
 use Rattle.examples.proofs.minimal.Tie as tie
 
-slice-aggregate-minimal-sets : tie.Need-slice-aggregate-minimal-sets
-slice-aggregate-minimal-sets c = sym (length-take-le _ _ (c .before .if1 .taken))
+slice-aggregate-say : tie.Need-slice-aggregate-say
+slice-aggregate-say c = search needs
 
-slice-aggregate-minimal-sets-2 : tie.Need-slice-aggregate-minimal-sets-2
-slice-aggregate-minimal-sets-2 c = search needs
+say-requires : tie.Need-say-requires
+say-requires c κs = search needs
 
-minimal-sets-requires : tie.Need-minimal-sets-requires
-minimal-sets-requires c κs = search needs
+slice-aggregate-minimal-of-table : tie.Need-slice-aggregate-minimal-of-table
+slice-aggregate-minimal-of-table c = sym (length-take-le _ _ (c .before .if1 .taken))
 
-enum-known-wrote : tie.Need-enum-known-wrote
-enum-known-wrote c = search needs
-
-refused-requires : tie.Need-refused-requires
-refused-requires c κs = search needs
-
-enum-known-wrote-2 : tie.Need-enum-known-wrote-2
-enum-known-wrote-2 c = search needs
-
-slice-aggregate-show-sets : tie.Need-slice-aggregate-show-sets
-slice-aggregate-show-sets c = search needs
-
-show-sets-requires : tie.Need-show-sets-requires
-show-sets-requires c κs = search needs
+minimal-of-table-requires : tie.Need-minimal-of-table-requires
+minimal-of-table-requires c κs = search needs
 
 returns : tie.Need-returns
 returns c = search needs
@@ -36,21 +24,13 @@ returns c = search needs
 returns-2 : tie.Need-returns-2
 returns-2 c = search needs
 
-returns-3 : tie.Need-returns-3
-returns-3 c = search needs
-
 pub minimal-spec : {M : Type 1} → statement M
 minimal-spec =
     tie.close
     (tie.spec
-    slice-aggregate-minimal-sets
-    slice-aggregate-minimal-sets-2
-    minimal-sets-requires
-    enum-known-wrote
-    refused-requires
-    enum-known-wrote-2
-    slice-aggregate-show-sets
-    show-sets-requires
+    slice-aggregate-say
+    say-requires
+    slice-aggregate-minimal-of-table
+    minimal-of-table-requires
     returns
-    returns-2
-    returns-3)
+    returns-2)

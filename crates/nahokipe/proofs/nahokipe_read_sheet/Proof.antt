@@ -1,7 +1,7 @@
 -- `nahokipe::nahokipe_read_sheet` meets its contract: it hands out what the function behind it receives and leaves its buffer.
 -- Assumes nothing.
 use mathlib.Core.Path.{ap, _∙_}
-use Rattle.sheet.specs.Answers.{ReceivedOutcome}
+use Rattle.sheet_entries.specs.Answers.{ReceivedOutcome}
 use Rattle.nahokipe.specs.Answers.{ofReceived}
 use borrow.Author.Needs.{needs}
 use Rattle.nahokipe.proofs.nahokipe_read_sheet.Statement.{statement}

@@ -45,14 +45,18 @@ returns c =
 works-requires : tie.Need-works-requires Inv-loop μ-loop
 works-requires c κs = search needs
 
+refused-requires : tie.Need-refused-requires Inv-loop μ-loop
+refused-requires c κs = search needs
+
 returns-2 : tie.Need-returns-2 Inv-loop μ-loop
 returns-2 c =
-    let told = c .before .before .before in
+    let told = c .before .before .before .before in
     let read = told .before .before in
     let l = read .before .before in
     let a = l .before .before .before .args in
-    nested-here (now (a .bytes)) (inWords (now (a .minimal))) (a .count) (l .loop .index) (l .loop .next) (read .before .loop-test .taken) _ _
-    (sym (read .read-number .ensures) ∙ told .number .given .1) (ap not (sym (c .before .works .ensures)) ∙ c .if1 .taken) ∙ l .loop .inv .1
+    c .refused .ensures
+    ∙ nested-here (now (a .bytes)) (inWords (now (a .minimal))) (a .count) (l .loop .index) (l .loop .next) (read .before .loop-test .taken) _ _
+    (sym (read .read-number .ensures) ∙ told .number .given .1) (ap not (sym (c .before .before .works .ensures)) ∙ c .before .if1 .taken) ∙ l .loop .inv .1
 
 add-index : tie.Need-add-index Inv-loop μ-loop
 add-index c = omega arith
@@ -89,6 +93,7 @@ first-nested-spec =
     enum-told
     returns
     works-requires
+    refused-requires
     returns-2
     add-index
     loop-less

@@ -1,6 +1,6 @@
 -- `record::read_set` meets its contract: 21 and 22 come from the number, and then 4, 5 and the rising are asked.
 -- Assumes nothing.
-use mathlib.Core.Path.{ap, _∙_, subst}
+use mathlib.Core.Path.{_≡_, ap, _∙_, subst}
 use Prim.Native.Nat.{ℕ, _^_, _≤_, _<_}
 use denote.Ref.{now}
 use borrow.Author.Needs.{needs}
@@ -8,8 +8,10 @@ use borrow.Author.Tests.{eq-eqb, ne-eqb, le-leb, lt-leb}
 use Rattle.answer.specs.Refusals.{unknownPart, emptySet, wrongSet}
 use Rattle.answer.specs.Outcome.{at}
 use Rattle.answer.proofs.Outcomes.{refuse-held, refuse-passed}
-use Rattle.record.specs.Steps.{asRead, risingRefusal}
-use Rattle.record.proofs.Found.{field-ended, field-passed, field-held}
+use Rattle.numbers.proofs.Counts.{upTo16-given}
+use Rattle.heading.specs.Steps.{asRead}
+use Rattle.record.specs.Steps.{risingRefusal}
+use Rattle.heading.proofs.Found.{field-ended, field-passed, field-held}
 use Rattle.record.proofs.read_set.Statement.{statement}
 use Rattle.record.proofs.read_set.Tie as tie
 
@@ -25,6 +27,10 @@ enum-known-number-2 c = search needs
 power-requires : tie.Need-power-requires
 power-requires c κs = search needs
 
+-- the power of 2 that a set of n parts stays below
+whole : (c : tie.After-power) → c .power .result ≡ 2 ^ (c .before .before .before .before .before .before .args .n)
+whole c = let start = c .before .before .before .before .before .before in c .power .ensures ∙ upTo16-given (start .args .n) (2 ^ (start .args .n)) (start .pre)
+
 refused-requires : tie.Need-refused-requires
 refused-requires c κs = search needs
 
@@ -34,7 +40,7 @@ returns c =
     let read = told .before .before in
     let a = read .before .before .args in
     let v : ℕ = told .number2 .given .0 .0 in
-    let unknown : 2 ^ (a .n) ≤ v = subst (λ (x : ℕ). x ≤ v) (c .before .before .power .ensures) (c .before .if1 .taken) in
+    let unknown : 2 ^ (a .n) ≤ v = subst (λ (x : ℕ). x ≤ v) (whole (c .before .before)) (c .before .if1 .taken) in
     ap asRead (c .refused .ensures)
     ∙ field-held (now (a .bytes)) (a .start) (risingRefusal (a .n) (a .previous) (a .start)) (read .read-number .ensures) _ _ (at unknownPart (a .start)) (told .number2 .given .1)
     (refuse-held _ unknownPart (a .start) _ (le-leb (2 ^ (a .n)) v unknown))
@@ -48,7 +54,7 @@ returns-2 c =
     let read = told .before .before in
     let a = read .before .before .args in
     let v : ℕ = told .number2 .given .0 .0 in
-    let known : v < 2 ^ (a .n) = subst (λ (x : ℕ). v < x) (c .before .before .before .power .ensures) (c .before .before .if1 .left) in
+    let known : v < 2 ^ (a .n) = subst (λ (x : ℕ). v < x) (whole (c .before .before .before)) (c .before .before .if1 .left) in
     ap asRead (c .refused2 .ensures)
     ∙ field-held (now (a .bytes)) (a .start) (risingRefusal (a .n) (a .previous) (a .start)) (read .read-number .ensures) _ _ (at emptySet (a .start)) (told .number2 .given .1)
     (refuse-passed _ unknownPart (a .start) _ (lt-leb (2 ^ (a .n)) v known) ∙ refuse-held _ emptySet (a .start) _ (eq-eqb v 0 (c .before .if2 .taken)))
@@ -62,7 +68,7 @@ returns-3 c =
     let read = told .before .before in
     let a = read .before .before .args in
     let v : ℕ = told .number2 .given .0 .0 in
-    let known : v < 2 ^ (a .n) = subst (λ (x : ℕ). v < x) (c .before .before .before .before .power .ensures) (c .before .before .before .if1 .left) in
+    let known : v < 2 ^ (a .n) = subst (λ (x : ℕ). v < x) (whole (c .before .before .before .before)) (c .before .before .before .if1 .left) in
     ap asRead (c .refused3 .ensures)
     ∙ field-held (now (a .bytes)) (a .start) (risingRefusal (a .n) (a .previous) (a .start)) (read .read-number .ensures) _ _ (at wrongSet (a .start)) (told .number2 .given .1)
     (refuse-passed _ unknownPart (a .start) _ (lt-leb (2 ^ (a .n)) v known) ∙ refuse-passed _ emptySet (a .start) _ (ne-eqb v 0 (c .before .before .if2 .left))
@@ -80,7 +86,7 @@ returns-5 c =
     let read = told .before .before in
     let a = read .before .before .args in
     let v : ℕ = told .number2 .given .0 .0 in
-    let known : v < 2 ^ (a .n) = subst (λ (x : ℕ). v < x) (c .before .before .before .power .ensures) (c .before .before .if1 .left) in
+    let known : v < 2 ^ (a .n) = subst (λ (x : ℕ). v < x) (whole (c .before .before .before)) (c .before .before .if1 .left) in
     field-passed (now (a .bytes)) (a .start) (risingRefusal (a .n) (a .previous) (a .start)) (read .read-number .ensures) _ _ (told .number2 .given .1)
     (refuse-passed _ unknownPart (a .start) _ (lt-leb (2 ^ (a .n)) v known) ∙ refuse-passed _ emptySet (a .start) _ (ne-eqb v 0 (c .before .if2 .left))
     ∙ refuse-passed _ wrongSet (a .start) _ (lt-leb v (a .previous) (c .if3 .left)))

@@ -1,18 +1,18 @@
 -- `record::table_of_record` meets its contract: a refused record and a short buffer leave the buffer alone, and an accepted record's marked
 -- sets, carried over its parts, are its table.
 -- Assumes nothing.
-use mathlib.Core.Path.{_≡_, sym, ap, ap₂, _∙_, subst}
+use mathlib.Core.Path.{_≡_, sym, ap, ap₂, _∙_}
 use mathlib.Core.List.{List, _++_}
-use Prim.Native.Nat.{ℕ, _+_, _*_, _≤_, _<_, min}
+use Prim.Native.Nat.{ℕ, _+_, _*_, min}
 use native.Mathlib.Omega.{arith}
 use denote.Ref.{now}
 use lib.ListN.{length, drop}
 use lib.Seq.{length-take-le}
-use Rattle.answer.specs.Refusals.{shortBuffer}
-use Rattle.answer.specs.Outcome.{at, outcome, delivered}
+use Rattle.answer.specs.Outcome.{outcome, delivered}
 use Rattle.answer.specs.declared.Verdict.{Verdict}
-use Rattle.answer.specs.declared.Written.the-variants.{Refused}
-use Rattle.answer.proofs.Outcomes.{short-delivered, in-front-delivered}
+use Rattle.answer.specs.declared.Written.{Written}
+use Rattle.answer.proofs.Deliveries.{delivered-short, delivered-whole}
+use Rattle.numbers.proofs.Counts.{upTo16-given}
 use Rattle.numbers.specs.Tables.{tabulate}
 use Rattle.sets.specs.Structures.{listed}
 use Rattle.sets.specs.Tables.{packed, tableOf, tableLength}
@@ -22,7 +22,7 @@ use Rattle.words.specs.Words.{inWords, wordsOf, among}
 use Rattle.closure.specs.Closure.{spread}
 use Rattle.record.specs.declared.Contents.{Contents}
 use Rattle.record.specs.declared.Marked.{Marked}
-use Rattle.record.specs.Contents.{designIn}
+use Rattle.record.specs.Contents.{designIn, recordRefusal}
 use Rattle.record.proofs.Whole.{ContentsRead, contents-read}
 use borrow.Author.Needs.{needs}
 use Rattle.record.proofs.table_of_record.Statement.{statement}
@@ -44,21 +44,28 @@ read c =
     contents-read (now (w .before .before .before .args .bytes)) (w .whole-record .result) (λ i. omega (arith, w .before .before .shared-slice-known .given i)) (w .whole-record .ensures) (c .enum-told .given .1)
 
 table-length-requires : tie.Need-table-length-requires
-table-length-requires c κs = read (c .before) .accepted .few
+table-length-requires c κs = search needs
+
+-- the bytes of a table of n parts
+counted : (c : tie.After-table-length) → c .table-length .result ≡ tableLength (c .before .before .before .before .whole-record .result .list .count)
+counted c =
+    let n = c .before .before .before .before .whole-record .result .list .count in
+    c .table-length .ensures ∙ upTo16-given n (tableLength n) (read (c .before .before) .accepted .few)
+
+short-requires : tie.Need-short-requires
+short-requires c κs = search needs
 
 returns : tie.Need-returns
 returns c =
-    let told = c .before .before .before in
+    let fits = c .before in
+    let told = fits .before .before .before in
     let a = told .before .before .before .before .before .args in
     let r = read told in
     let d = designIn (now (a .bytes)) in
-    let table = now (a .table) in
     let result = tableOf (d .parts .count) (listed (d .sets)) in
-    let long : c .before .table-length .result ≡ length result =
-    c .before .table-length .ensures ∙ ap tableLength (r .count) ∙ sym (tableOf-length (d .parts .count) (listed (d .sets))) in
-    ap (λ (k : ℕ). outcome (Refused (at shortBuffer k)) table) long
-    ∙ short-delivered table result (subst (λ (k : ℕ). length table < k) long (c .if1 .taken))
-    ∙ ap (λ (v : Verdict). delivered v result table) (sym (r .refusal))
+    ap (λ (w : Written). outcome w (now (a .table))) (c .short .ensures)
+    ∙ delivered-short (recordRefusal (now (a .bytes))) result (now (a .table)) (r .refusal) _
+    (counted (fits .before) ∙ ap tableLength (r .count) ∙ sym (tableOf-length (d .parts .count) (listed (d .sets)))) (fits .if1 .taken)
 
 mark-sets-requires : tie.Need-mark-sets-requires
 mark-sets-requires c κs = read (c .before .before .before) .accepted .few
@@ -107,7 +114,7 @@ returns-3 c =
     let table = now (a .table) in
     let needed = fits .before .table-length .result in
     let result = tableOf (d .parts .count) (listed (d .sets)) in
-    let long : needed ≡ tableLength n = fits .before .table-length .ensures in
+    let long : needed ≡ tableLength n = counted (fits .before) in
     let whole : needed ≡ length result = long ∙ ap tableLength (r .count) ∙ sym (tableOf-length (d .parts .count) (listed (d .sets))) in
     let marked = ap (λ (m : Marked). m .words) (marks .mark-sets .ensures) ∙ ap (λ (l : List ℕ). wordsOf (among l)) (r .marks) in
     let reached = stored .before .before .before .carried .ensures ∙ ap (λ (ws : List ℕ). wordsOf (spread (min n 16) (inWords ws))) marked in
@@ -115,9 +122,7 @@ returns-3 c =
     stored .store .ensures
     ∙ ap₂ (λ (k : ℕ) (ws : List ℕ). tabulate k (λ b. packed 8 (λ i. inWords ws (8 * b + i)))) (length-take-le needed table (fits .if1 .left) ∙ long) reached
     ∙ listed-walk n (d .sets) (r .accepted) ∙ ap (λ (k : ℕ). tableOf k (listed (d .sets))) (r .count) in
-    in-front-delivered table result _ needed (record { ends = whole; stands = ap₂ (λ (xs : List ℕ) (k : ℕ). xs ++ drop k table) bytes whole })
-    (subst (λ (k : ℕ). k ≤ length table) whole (fits .if1 .left))
-    ∙ ap (λ (v : Verdict). delivered v result table) (sym (r .refusal))
+    delivered-whole (recordRefusal (now (a .bytes))) result table (r .refusal) needed whole _ (ap (λ (xs : List ℕ). xs ++ drop needed table) bytes) (fits .if1 .left)
 
 pub table-of-record-spec : {M : Type 1} → statement M
 table-of-record-spec =
@@ -127,6 +132,7 @@ table-of-record-spec =
     enum-known-verdict
     enum-told
     table-length-requires
+    short-requires
     returns
     mark-sets-requires
     slice-aggregate-carried

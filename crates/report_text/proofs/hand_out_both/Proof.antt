@@ -4,7 +4,7 @@ use mathlib.Core.Path.{sym, _∙_}
 use borrow.Author.Tests.{leb-true}
 use denote.Ref.{now}
 use Rattle.answer.proofs.Outcomes.{in-front-none}
-use Rattle.codec.proofs.Placing.{in-front-more}
+use Rattle.answer.proofs.Placing.{in-front-more}
 use Rattle.report_text.proofs.Handing.{both-handed, text-short, table-short}
 use borrow.Author.Needs.{needs}
 use Rattle.report_text.proofs.hand_out_both.Statement.{statement}

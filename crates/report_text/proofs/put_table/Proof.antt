@@ -3,10 +3,9 @@
 use mathlib.Core.Path.{ap, _∙_, subst}
 use mathlib.Core.List.{List}
 use Prim.Native.Nat.{ℕ, _≤_}
-use native.Mathlib.Omega.{arith}
 use denote.Ref.{now}
 use lib.ListN.{length}
-use Rattle.codec.specs.ByteForm.{placed}
+use Rattle.answer.specs.Placed.{placed}
 use Rattle.sets.specs.Tables.{inTable}
 use Rattle.structure.proofs.Acceptance.{accepted-table}
 use Rattle.signature.specs.All.{AllOutcome}
@@ -46,10 +45,7 @@ slice-aggregate-put-figures-2 : tie.Need-slice-aggregate-put-figures-2
 slice-aggregate-put-figures-2 c = search needs
 
 put-figures-requires : tie.Need-put-figures-requires
-put-figures-requires c κs =
-    let start = c .before .before .before .before .before .before .before .before .before .before .before .before .before .before .before .before in
-    let few : start .args .list .count ≤ 16 = accepted-table (start .args .list .count) (now (start .args .table)) (start .pre .0) .few in
-    (few, (omega arith, (omega arith, (omega arith, omega arith))))
+put-figures-requires c κs = search needs
 
 same-length : tie.Need-same-length
 same-length c = search needs
@@ -62,7 +58,7 @@ returns c =
     let a = start .args in
     let n = a .list .count in
     let table = now (a .table) in
-    let accepted = start .pre .0 in
+    let accepted = start .pre in
     let all = worked .figures .ensures ∙ all-figures n table accepted in
     let same = figures-text (a .list) (a .sets) (inTable table) (accepted-table n table accepted .few) _ _ _ _ _ _
     (ap (λ (o : AllOutcome). o .buffers .signature) all) (ap (λ (o : AllOutcome). o .buffers .domination) all) (ap (λ (o : AllOutcome). o .buffers .importance) all) in

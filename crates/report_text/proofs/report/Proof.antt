@@ -11,18 +11,18 @@ use lib.Seq.{length-take-le}
 use Rattle.parts.specs.declared.PartList.{PartList}
 use Rattle.sets.specs.Tables.{inTable}
 use Rattle.structure.specs.Checks.{tableRefusal}
-use Rattle.record.specs.declared.Heading.{Heading}
-use Rattle.record.specs.Records.{Read, Design}
+use Rattle.heading.specs.declared.Heading.{Heading}
+use Rattle.heading.specs.Headings.{Read}
+use Rattle.record.specs.Records.{Design}
 use Rattle.record.proofs.MinimalSets.{design-table}
 use Rattle.report_text.specs.Reports.{reportOf}
 use Rattle.report_text.specs.Reporting.{handedOut, reportedRead, reported}
 use Rattle.report_text.specs.Steps.{tableText}
-use Rattle.report_text.proofs.Placing.{Wrote, wrote-first, wrote-same}
-use Rattle.report_text.proofs.Lines.{wrote-front, wrote-inside}
+use Rattle.answer.proofs.Forms.{Wrote, wrote-first, wrote-same, wrote-front, wrote-inside}
 use Rattle.report_text.proofs.Figures.{design-text}
-use Rattle.report_text.proofs.Built.{designTable, Built, built-given, built-refused}
+use Rattle.report_text.proofs.Built.{designTable, Built, built-given, built-refused, design-in}
 use borrow.Author.Needs.{needs}
-use Rattle.report_text.proofs.Printed.{design-in, no-report}
+use Rattle.report_text.proofs.Printed.{no-report}
 use Rattle.report_text.proofs.report.Statement.{statement}
 use Rattle.report_text.proofs.report.Tie as tie
 
@@ -62,7 +62,7 @@ put-table-requires : tie.Need-put-table-requires
 put-table-requires c κs =
     let told = c .before .before .before .before in
     let b = built told in
-    (ap₂ (λ (list : PartList) (table : List ℕ). tableRefusal (list .count) table) (ap (λ (h : Heading). h .list) (c .before .before .before .read-heading .ensures) ∙ b .parts) (b .front) ∙ design-table (b .design) (b .rules), omega arith)
+    ap₂ (λ (list : PartList) (table : List ℕ). tableRefusal (list .count) table) (ap (λ (h : Heading). h .list) (c .before .before .before .read-heading .ensures) ∙ b .parts) (b .front) ∙ design-table (b .design) (b .rules)
 
 -- the text in front of 4,096 zeros
 text : (c : tie.After-put-table)

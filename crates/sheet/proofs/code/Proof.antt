@@ -19,20 +19,20 @@ read c = toZ-ofZ {w = w64} (c .fits .entry)
 enum-told : tie.Need-enum-told
 enum-told c = search needs
 
-size-requires : tie.Need-size-requires
-size-requires c κs = search needs
+magnitude-requires : tie.Need-magnitude-requires
+magnitude-requires c κs = search needs
 
 enum-told-2 : tie.Need-enum-told-2
 enum-told-2 c = search needs
 
-size-requires-2 : tie.Need-size-requires-2
-size-requires-2 c κs = search needs
+magnitude-requires-2 : tie.Need-magnitude-requires-2
+magnitude-requires-2 c κs = search needs
 
 enum-told-3 : tie.Need-enum-told-3
 enum-told-3 c = search needs
 
-size-requires-3 : tie.Need-size-requires-3
-size-requires-3 c κs = search needs
+magnitude-requires-3 : tie.Need-magnitude-requires-3
+magnitude-requires-3 c κs = search needs
 
 enum-told-4 : tie.Need-enum-told-4
 enum-told-4 c = search needs
@@ -41,13 +41,13 @@ zigzag-requires : tie.Need-zigzag-requires
 zigzag-requires c κs = search needs
 
 returns : tie.Need-returns
-returns c = c .size .ensures ∙ ap natAbs (read (c .before .before .before)) ∙ ap (λ (kind : Kind). coded kind (c .before .before .before .args .entry)) (sym (c .before .enum-told .given .1))
+returns c = c .magnitude .ensures ∙ ap natAbs (read (c .before .before .before)) ∙ ap (λ (kind : Kind). coded kind (c .before .before .before .args .entry)) (sym (c .before .enum-told .given .1))
 
 returns-2 : tie.Need-returns-2
-returns-2 c = c .size2 .ensures ∙ ap natAbs (read (c .before .before .before)) ∙ ap (λ (kind : Kind). coded kind (c .before .before .before .args .entry)) (sym (c .before .enum-told2 .given .1))
+returns-2 c = c .magnitude2 .ensures ∙ ap natAbs (read (c .before .before .before)) ∙ ap (λ (kind : Kind). coded kind (c .before .before .before .args .entry)) (sym (c .before .enum-told2 .given .1))
 
 returns-3 : tie.Need-returns-3
-returns-3 c = c .size3 .ensures ∙ ap natAbs (read (c .before .before .before)) ∙ ap (λ (kind : Kind). coded kind (c .before .before .before .args .entry)) (sym (c .before .enum-told3 .given .1))
+returns-3 c = c .magnitude3 .ensures ∙ ap natAbs (read (c .before .before .before)) ∙ ap (λ (kind : Kind). coded kind (c .before .before .before .args .entry)) (sym (c .before .enum-told3 .given .1))
 
 returns-4 : tie.Need-returns-4
 returns-4 c = c .zigzag .ensures ∙ ap (coded Domination) (read (c .before .before .before)) ∙ ap (λ (kind : Kind). coded kind (c .before .before .before .args .entry)) (sym (c .before .enum-told4 .given .1))
@@ -57,11 +57,11 @@ code-spec =
     tie.close
     (tie.spec
     enum-told
-    size-requires
+    magnitude-requires
     enum-told-2
-    size-requires-2
+    magnitude-requires-2
     enum-told-3
-    size-requires-3
+    magnitude-requires-3
     enum-told-4
     zigzag-requires
     returns

@@ -10,13 +10,15 @@ use lib.IntN.{ℤ}
 use lib.ListN.{length, take, length-append}
 use lib.Seq.{take-all}
 use Rattle.answer.proofs.Outcomes.{InFront, in-front-none, in-front-length, in-front-delivered}
-use Rattle.codec.specs.ByteForm.{bytesOf, placed}
-use Rattle.codec.proofs.Placing.{in-front-more}
+use Rattle.answer.proofs.Deliveries.{in-front-now, in-front-on}
+use Rattle.answer.specs.Placed.{placed}
+use Rattle.codec.specs.ByteForm.{bytesOf}
+use Rattle.answer.proofs.Placing.{in-front-more}
 use Rattle.kind.specs.Kinds.{kindNumber}
 use Rattle.conversion.specs.Vectors.{entryAt}
 use Rattle.conversion.proofs.CountAt.{entry-read}
 use Rattle.sheet.specs.Sheets.{coded, entryBytes, sheetBytes}
-use Rattle.sheet.proofs.Written.{in-front-now, in-front-on, sheet-append, sheet-front, sheet-next, sheet-part}
+use Rattle.sheet.proofs.Written.{sheet-append, sheet-front, sheet-next, sheet-part}
 use borrow.Author.Needs.{needs}
 use Rattle.sheet.proofs.write_numbers.Statement.{statement}
 use Rattle.sheet.proofs.write_numbers.Tie as tie

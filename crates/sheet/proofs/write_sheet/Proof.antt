@@ -1,16 +1,13 @@
 -- `sheet::write_sheet` meets its contract: a refused vector and a short buffer leave the bytes alone, and else the sheet's numbers are written.
 -- Assumes nothing.
-use mathlib.Core.Path.{_≡_, sym, ap, _∙_, subst}
-use Prim.Native.Nat.{ℕ, _<_}
+use mathlib.Core.Path.{_≡_, sym, ap, _∙_}
 use native.Mathlib.Nat.{le-trans, le-of-eq}
 use denote.Ref.{now}
-use lib.ListN.{length}
-use Rattle.answer.specs.Outcome.{at, outcome, delivered}
-use Rattle.answer.specs.Refusals.{shortBuffer}
+use Rattle.answer.specs.Outcome.{outcome, delivered}
 use Rattle.answer.specs.declared.Verdict.{Verdict}
 use Rattle.answer.specs.declared.Verdict.the-variants.{Accepted}
-use Rattle.answer.specs.declared.Written.the-variants.{Refused}
-use Rattle.answer.proofs.Outcomes.{short-delivered}
+use Rattle.answer.specs.declared.Written.{Written}
+use Rattle.answer.proofs.Deliveries.{delivered-short}
 use Rattle.conversion.specs.Vectors.{vectorRefusal}
 use Rattle.conversion.proofs.Acceptance.{AcceptedVector, accepted-vector}
 use Rattle.sheet.specs.Sheets.{sheetBytes}
@@ -41,15 +38,17 @@ sheet-length-requires c κs =
     let a = c .before .before .before .before .args in
     le-trans (le-of-eq (accepted c .long)) (length-few (a .kind) (a .n) (accepted c .few))
 
+short-requires : tie.Need-short-requires
+short-requires c κs = search needs
+
 returns : tie.Need-returns
 returns c =
-    let needed = c .before in
+    let needed = c .before .before in
     let a = needed .before .before .before .before .before .args in
     let buffer = now (a .buffer) in
-    let result = sheetBytes (a .kind) (a .n) (now (a .entries)) in
-    ap (λ (k : ℕ). outcome (Refused (at shortBuffer k)) buffer) (needed .sheet-length .ensures)
-    ∙ short-delivered buffer result (subst (λ (k : ℕ). length buffer < k) (needed .sheet-length .ensures) (c .if1 .taken))
-    ∙ ap (λ (v : Verdict). delivered v result buffer) (sym (verdict (needed .before)))
+    ap (λ (w : Written). outcome w buffer) (c .short .ensures)
+    ∙ delivered-short (vectorRefusal (a .kind) (a .n) (now (a .entries))) (sheetBytes (a .kind) (a .n) (now (a .entries))) buffer (verdict (needed .before)) _
+    (needed .sheet-length .ensures) (c .before .if1 .taken)
 
 write-numbers-requires : tie.Need-write-numbers-requires
 write-numbers-requires c κs = search needs
@@ -80,6 +79,7 @@ write-sheet-spec =
     enum-known-verdict
     enum-told
     sheet-length-requires
+    short-requires
     returns
     write-numbers-requires
     returns-2

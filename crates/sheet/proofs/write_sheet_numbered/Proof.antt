@@ -2,8 +2,9 @@
 -- Assumes nothing.
 use mathlib.Core.Path.{sym, ap, _∙_}
 use denote.Ref.{now}
-use Rattle.answer.specs.Outcome.{delivered}
+use Rattle.answer.specs.Outcome.{outcome, delivered}
 use Rattle.answer.specs.declared.Verdict.{Verdict}
+use Rattle.answer.specs.declared.Written.{Written}
 use Rattle.kind.specs.Kinds.{kindOf}
 use Rattle.conversion.specs.Vectors.{vectorRefusal}
 use Rattle.kind.specs.declared.Kind.{Kind}
@@ -37,15 +38,20 @@ returns c =
     ∙ ap (λ (v : Verdict). delivered v (sheetBytes (kindOf (a .kind)) (a .n) entries) (now (a .buffer)))
     (sym (kind-passed (a .kind) (vectorRefusal (kindOf (a .kind)) (a .n) entries) (sym (told .before .is-kind .ensures) ∙ told .if1 .taken)))
 
+unwritten-requires : tie.Need-unwritten-requires
+unwritten-requires c κs = search needs
+
 returns-2 : tie.Need-returns-2
 returns-2 c =
-    let told = c .before in
+    let tested = c .before in
+    let told = tested .before in
     let a = told .before .before .args in
     let entries = now (a .entries) in
-    ap (λ (v : Verdict). delivered v (sheetBytes (kindOf (a .kind)) (a .n) entries) (now (a .buffer)))
-    (sym (kind-refused (a .kind) (vectorRefusal (kindOf (a .kind)) (a .n) entries) (sym (told .is-kind .ensures) ∙ c .if1 .left)))
+    ap (λ (w : Written). outcome w (now (a .buffer))) (c .unwritten .ensures)
+    ∙ ap (λ (v : Verdict). delivered v (sheetBytes (kindOf (a .kind)) (a .n) entries) (now (a .buffer)))
+    (sym (kind-refused (a .kind) (vectorRefusal (kindOf (a .kind)) (a .n) entries) (sym (told .is-kind .ensures) ∙ tested .if1 .left)))
 
 pub write-sheet-numbered-spec : {M : Type 1} → statement M
 write-sheet-numbered-spec =
     tie.close
-    (tie.spec is-kind-requires kind-of-requires write-sheet-requires same-length returns returns-2)
+    (tie.spec is-kind-requires kind-of-requires write-sheet-requires same-length returns unwritten-requires returns-2)

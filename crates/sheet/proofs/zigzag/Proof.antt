@@ -18,10 +18,10 @@ module _ (c : tie.Then1) where
   abbrev less : ℕ
   less = less-found (c .before .before .args .entry) (c .before .before .fits .entry) (c .if1 .taken) .0
 
-  magnitude : c .before .size .result ≡ less + 1
-  magnitude =
-      let same : c .before .size .result ≡ natAbs (negsuc less) =
-      c .before .size .ensures
+  one-more : c .before .magnitude .result ≡ less + 1
+  one-more =
+      let same : c .before .magnitude .result ≡ natAbs (negsuc less) =
+      c .before .magnitude .ensures
       ∙ ap natAbs (toZ-ofZ {w = w64} (c .before .before .fits .entry)
       ∙ less-found (c .before .before .args .entry) (c .before .before .fits .entry) (c .if1 .taken) .1) in
       omega arith
@@ -31,29 +31,29 @@ module _ (c : tie.Else1) where
   abbrev whole : ℕ
   whole = whole-found (c .before .before .args .entry) (c .before .before .fits .entry) (c .if1 .left) .0
 
-  same : c .before .size .result ≡ whole
+  same : c .before .magnitude .result ≡ whole
   same =
-      c .before .size .ensures
+      c .before .magnitude .ensures
       ∙ ap natAbs (toZ-ofZ {w = w64} (c .before .before .fits .entry) ∙ whole-found (c .before .before .args .entry) (c .before .before .fits .entry) (c .if1 .left) .1)
 
-size-requires : tie.Need-size-requires
-size-requires c κs = search needs
+magnitude-requires : tie.Need-magnitude-requires
+magnitude-requires c κs = search needs
 
 sub-result : tie.Need-sub-result
-sub-result c = omega (arith, magnitude c)
+sub-result c = omega (arith, one-more c)
 
 mul-result : tie.Need-mul-result
 mul-result c =
-    record { fits = omega (arith, magnitude c, less-small (c .before .before .args .entry) (c .before .before .fits .entry) (c .if1 .taken)) }
+    record { fits = omega (arith, one-more c, less-small (c .before .before .args .entry) (c .before .before .fits .entry) (c .if1 .taken)) }
 
 add-result : tie.Need-add-result
 add-result c =
-    record { fits = omega (arith, magnitude c, less-small (c .before .before .args .entry) (c .before .before .fits .entry) (c .if1 .taken)) }
+    record { fits = omega (arith, one-more c, less-small (c .before .before .args .entry) (c .before .before .fits .entry) (c .if1 .taken)) }
 
 returns : tie.Need-returns
 returns c =
     let a = c .before .before .args in
-    let code : 2 * (c .before .size .result - 1) + 1 ≡ 2 * less c + 1 = omega (arith, magnitude c) in
+    let code : 2 * (c .before .magnitude .result - 1) + 1 ≡ 2 * less c + 1 = omega (arith, one-more c) in
     code ∙ sym (ap (coded Domination) (less-found (a .entry) (c .before .before .fits .entry) (c .if1 .taken) .1))
 
 mul-result-2 : tie.Need-mul-result-2
@@ -68,4 +68,4 @@ returns-2 c =
 pub zigzag-spec : {M : Type 1} → statement M
 zigzag-spec =
     tie.close
-    (tie.spec size-requires sub-result mul-result add-result returns mul-result-2 returns-2)
+    (tie.spec magnitude-requires sub-result mul-result add-result returns mul-result-2 returns-2)

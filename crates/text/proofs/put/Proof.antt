@@ -8,8 +8,8 @@ use denote.Ref.{now}
 use lib.ListN.{length, take, drop}
 use lib.Seq.{take-length}
 use Prim.Native.Nat.{ℕ}
-use Rattle.codec.specs.ByteForm.{leaves}
-use Rattle.codec.proofs.Placing.{placed-fits, placed-short}
+use Rattle.answer.specs.Placed.{leaves}
+use Rattle.answer.proofs.Placing.{placed-fits, placed-short}
 use borrow.Author.Needs.{needs}
 use Rattle.text.proofs.put.Statement.{statement}
 use Rattle.text.proofs.put.Tie as tie

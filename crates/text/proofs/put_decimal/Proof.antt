@@ -1,10 +1,8 @@
 -- `text::put_decimal` meets its contract: the fewest digits that hold a number are its decimal.
 -- Assumes nothing.
 use mathlib.Core.Path.{ap, _∙_}
-use mathlib.Core.List.{List}
-use Prim.Native.Nat.{ℕ}
 use denote.Ref.{now}
-use Rattle.codec.specs.ByteForm.{placed}
+use Rattle.answer.specs.Placed.{placed}
 use Rattle.text.proofs.Decimals.{digits-decimal}
 use borrow.Author.Needs.{needs}
 use Rattle.text.proofs.put_decimal.Statement.{statement}

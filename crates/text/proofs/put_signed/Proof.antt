@@ -9,8 +9,8 @@ use lib.Dec.{lit≤}
 use lib.ListN.{length, take, drop, replicate}
 use lib.Seq.{take-append-seam, length-take-le}
 use Rattle.answer.proofs.Outcomes.{InFront, in-front-none, in-front-length}
-use Rattle.codec.specs.ByteForm.{placed}
-use Rattle.codec.proofs.Placing.{in-front-more}
+use Rattle.answer.specs.Placed.{placed}
+use Rattle.answer.proofs.Placing.{in-front-more}
 use Rattle.text.specs.Texts.{decimal}
 use Rattle.text.proofs.Decimals.{decimal-most}
 use Rattle.text.proofs.Signs.{signed-negative, signed-other}
@@ -19,16 +19,16 @@ use Rattle.text.proofs.put_signed.Statement.{statement}
 use Rattle.text.proofs.put_signed.Tie as tie
 
 -- a number of 64 bits has at most 20 digits
-few : (c : tie.After-put-decimal) → length ((45 ∷ []) ++ decimal (c .before .size-of .result)) ≤ 21
+few : (c : tie.After-put-decimal) → length ((45 ∷ []) ++ decimal (c .before .magnitude .result)) ≤ 21
 few c =
-    let m = c .before .size-of .result in
-    let small : m < 10 ^ 20 = omega (arith, c .before .size-of .ok) in
+    let m = c .before .magnitude .result in
+    let small : m < 10 ^ 20 = omega (arith, c .before .magnitude .ok) in
     suc-le-suc (decimal-most 19 m small)
 
 -- the sign and the digits in front of 21 zeros
-spelt-in-front : (c : tie.After-put-decimal) → InFront (replicate 21 0) ((45 ∷ []) ++ decimal (c .before .size-of .result)) (c .put-decimal .last .0) (c .put-decimal .result)
+spelt-in-front : (c : tie.After-put-decimal) → InFront (replicate 21 0) ((45 ∷ []) ++ decimal (c .before .magnitude .result)) (c .put-decimal .last .0) (c .put-decimal .result)
 spelt-in-front c =
-    let m = c .before .size-of .result in
+    let m = c .before .magnitude .result in
     in-front-more (in-front-more (in-front-none (replicate 21 0)) (45 ∷ []) (c .before .before .before .before .put .last .0) (c .before .before .before .before .put .result) (lit≤ tt) (c .before .before .before .before .put .ensures))
     (decimal m) (c .put-decimal .last .0) (c .put-decimal .result) (few c) (c .put-decimal .ensures)
 
@@ -37,11 +37,11 @@ room c =
     let spelt = spelt-in-front c in
     omega (arith, spelt .ends, few c, in-front-length (replicate 21 0) _ _ _ spelt (few c))
 
-shown : (c : tie.After-put-decimal) → take (c .put-decimal .result) (c .put-decimal .last .0) ≡ 45 ∷ decimal (c .before .size-of .result)
+shown : (c : tie.After-put-decimal) → take (c .put-decimal .result) (c .put-decimal .last .0) ≡ 45 ∷ decimal (c .before .magnitude .result)
 shown c =
     let spelt = spelt-in-front c in
     ap₂ (λ (k : ℕ) (text : List ℕ). take k text) (spelt .ends) (spelt .stands)
-    ∙ take-append-seam (45 ∷ decimal (c .before .size-of .result)) (drop (length (45 ∷ decimal (c .before .size-of .result))) (replicate 21 0))
+    ∙ take-append-seam (45 ∷ decimal (c .before .magnitude .result)) (drop (length (45 ∷ decimal (c .before .magnitude .result))) (replicate 21 0))
 
 slice-aggregate-put : tie.Need-slice-aggregate-put
 slice-aggregate-put c = search needs
@@ -55,8 +55,8 @@ put-requires c κs = search needs
 slice-aggregate-put-decimal : tie.Need-slice-aggregate-put-decimal
 slice-aggregate-put-decimal c = search needs
 
-size-of-requires : tie.Need-size-of-requires
-size-of-requires c κs = search needs
+magnitude-requires : tie.Need-magnitude-requires
+magnitude-requires c κs = search needs
 
 put-decimal-requires : tie.Need-put-decimal-requires
 put-decimal-requires c κs = search needs
@@ -79,10 +79,10 @@ returns c =
     let spelt = c .before .before .before .before .before .before in
     c .before .before .put2 .ensures
     ∙ ap (placed (now (start .args .text)) (start .args .at))
-    (shown spelt ∙ ap (λ (m : ℕ). 45 ∷ decimal m) (spelt .before .size-of .ensures) ∙ (signed-negative (start .args .value) (start .fits .value) (c .before .before .before .before .before .before .before .before .before .before .before .before .before .if1 .taken)))
+    (shown spelt ∙ ap (λ (m : ℕ). 45 ∷ decimal m) (spelt .before .magnitude .ensures) ∙ (signed-negative (start .args .value) (start .fits .value) (c .before .before .before .before .before .before .before .before .before .before .before .before .before .if1 .taken)))
 
-size-of-requires-2 : tie.Need-size-of-requires-2
-size-of-requires-2 c κs = search needs
+magnitude-requires-2 : tie.Need-magnitude-requires-2
+magnitude-requires-2 c κs = search needs
 
 put-decimal-requires-2 : tie.Need-put-decimal-requires-2
 put-decimal-requires-2 c κs = search needs
@@ -95,7 +95,7 @@ returns-2 c =
     let start = c .before .before .before .before .before .before .before in
     c .before .before .put-decimal2 .ensures
     ∙ ap (placed (now (start .args .text)) (start .args .at))
-    (ap decimal (c .before .before .before .size-of2 .ensures) ∙ (signed-other (start .args .value) (start .fits .value) (c .before .before .before .before .before .if1 .left)))
+    (ap decimal (c .before .before .before .magnitude2 .ensures) ∙ (signed-other (start .args .value) (start .fits .value) (c .before .before .before .before .before .if1 .left)))
 
 pub put-signed-spec : {M : Type 1} → statement M
 put-signed-spec =
@@ -105,14 +105,14 @@ put-signed-spec =
     slice-aggregate-put-2
     put-requires
     slice-aggregate-put-decimal
-    size-of-requires
+    magnitude-requires
     put-decimal-requires
     array-share-prefix-spelt
     slice-aggregate-put-3
     put-requires-2
     same-length
     returns
-    size-of-requires-2
+    magnitude-requires-2
     put-decimal-requires-2
     same-length-2
     returns-2)

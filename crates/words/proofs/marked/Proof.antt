@@ -11,7 +11,8 @@ use denote.Ref.{now}
 use lib.Dec.{eqb}
 use lib.ListN.{length, getD, set}
 use lib.Pow.{pow-lt}
-use Rattle.sets.specs.Masks.{any, join}
+use Rattle.sets.specs.Masks.{any}
+use Rattle.sets.proofs.Masks.{join}
 use Rattle.words.specs.Words.{wordsOf}
 use Rattle.words.proofs.Words.{marked-more, wordsOf-none}
 use borrow.Author.Needs.{needs}

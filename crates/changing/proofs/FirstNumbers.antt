@@ -1,0 +1,25 @@
+-- The numbers of the first parts, 1 to n, in an array of sixteen.
+-- Assumes nothing.
+use mathlib.Core.Path.{_≡_, refl, ap, _∙_}
+use mathlib.Core.List.{List, [], _∷_}
+use Prim.Native.Nat.{ℕ, zero, suc, _+_, _≤_}
+use native.Mathlib.Nat.{not-suc-le-zero, le-of-suc-le-suc}
+use lib.ListN.{take}
+use Rattle.numbers.specs.Tables.{tabulate}
+
+take-tabulate : {A : Type 0} (n m : ℕ) (f : ℕ → A) → n ≤ m → take n (tabulate m f) ≡ tabulate n f
+unfolding tabulate
+take-tabulate {A} zero m f h = refl
+take-tabulate {A} (suc n) zero f h = absurd (not-suc-le-zero h)
+take-tabulate {A} (suc n) (suc m) f h = ap (λ (l : List A). f 0 ∷ l) (take-tabulate n m (λ i. f (suc i)) (le-of-suc-le-suc h))
+
+abbrev pub sixteen : List ℕ
+sixteen = 1 ∷ 2 ∷ 3 ∷ 4 ∷ 5 ∷ 6 ∷ 7 ∷ 8 ∷ 9 ∷ 10 ∷ 11 ∷ 12 ∷ 13 ∷ 14 ∷ 15 ∷ 16 ∷ []
+
+-- the first n of 1 to 16
+pub first-numbers : (n : ℕ) → n ≤ 16 → take n sixteen ≡ tabulate n (λ i. i + 1)
+unfolding tabulate
+first-numbers n h = ap (take n) all ∙ take-tabulate n 16 (λ i. i + 1) h
+  where
+    all : sixteen ≡ tabulate 16 (λ i. i + 1)
+    all = refl

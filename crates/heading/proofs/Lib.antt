@@ -1,0 +1,5 @@
+pub mod Found
+pub mod PartNumbers
+mod PartWalk
+pub mod Answers
+pub mod RoundTrip

@@ -1,0 +1,2 @@
+pub mod FromCells
+pub mod ThroughH

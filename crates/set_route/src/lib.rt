@@ -1,0 +1,130 @@
+// A group's shares, set by set (01, "Figures").
+use answer::Written;
+ghost use mathlib.Core.Path.{_≡_};
+ghost use mathlib.Core.List.{_++_};
+ghost use Prim.Native.Nat.{ℕ, _+_, _-_, _^_, _≤_, _<_};
+ghost use lib.IntN.{pos, _-ℤ_};
+ghost use lib.ListN.{length, getD, drop};
+ghost use Rattle.numbers.specs.Tables.{tabulate};
+ghost use Rattle.sets.specs.Masks.{size as sizeOf};
+ghost use Rattle.sets.specs.Tables.{inTable};
+ghost use Rattle.answer.specs.Outcome.{outcome, delivered};
+ghost use Rattle.words.specs.Words.{inWords};
+ghost use Rattle.shares.specs.Shares.{inside, sharesBySets};
+ghost use Rattle.shares.specs.Refusals.{sharesRefusal};
+ghost use Rattle.group.specs.Steps.{gathered};
+ghost use Rattle.set_route.specs.Steps.{weight as weightOf, addedBy, takenBy};
+
+// The m shares of a group, set by set, into a lent buffer.
+pub fn shares_by_sets(n: usize, table: &[u8], group: usize, shares: &mut [i64]) -> Written
+    ensures { λ r. ⌜ outcome r (now (shares .exit)) ≡ delivered (sharesRefusal n (now (table .entry)) group) (sharesBySets n (inTable (now (table .entry))) group) (now (shares .entry)) ⌝ }
+{
+    let m = group::size(group);
+    let judged = group::judge(n, table, group, m, shares.len());
+    match judged {
+        Written::Refused(refusal) => Written::Refused(refusal),
+        Written::Length(needed) => {
+            write_by_sets(n, table, group, shares);
+            Written::Length(needed)
+        }
+    }
+}
+
+// Writes the shares of a group, set by set.
+fn write_by_sets(n: usize, table: &[u8], group: usize, shares: &mut [i64])
+    requires { ⌜ n ≤ 16 ⌝ }
+    requires { ⌜ group < 2 ^ n ⌝ }
+    requires { ⌜ sizeOf group ≤ length (now shares) ⌝ }
+    ensures { λ _. ⌜ now (shares .exit) ≡ sharesBySets n (inTable (now (table .entry))) group ++ drop (sizeOf group) (now (shares .entry)) ⌝ }
+{
+    let m = group::size(group);
+    let words = words::load(table);
+    let mut added = [0u64; 17];
+    let mut taken = [0u64; 17];
+    gather(n, &words, group, &mut added, &mut taken);
+    write_differences(m, &added, &taken, shares);
+}
+
+// By the number of parts that a path set has in the group, what the path sets add to a share and what they take from one.
+fn gather(n: usize, words: &[u64], group: usize, added: &mut [u64], taken: &mut [u64])
+    requires { ⌜ n ≤ 16 ⌝ }
+    requires { ⌜ group < 2 ^ n ⌝ }
+    requires { ⌜ now added ≡ tabulate 17 (λ i. 0) ⌝ }
+    requires { ⌜ now taken ≡ tabulate 17 (λ i. 0) ⌝ }
+    ensures { λ _. ⌜ now (added .exit) ≡ tabulate 17 (gathered (inWords (now (words .entry))) (inside group) (addedBy n group) (2 ^ n)) ⌝ }
+    ensures { λ _. ⌜ now (taken .exit) ≡ tabulate 17 (gathered (inWords (now (words .entry))) (inside group) (takenBy n group) (2 ^ n)) ⌝ }
+{
+    let end = numbers::power(n);
+    for a in 0..end {
+        add_set(n, words, group, a, added, taken);
+    }
+}
+
+// Adds the two amounts of a set, if it is a path set.
+fn add_set(n: usize, words: &[u64], group: usize, a: usize, added: &mut [u64], taken: &mut [u64])
+    requires { ⌜ n ≤ 16 ⌝ }
+    requires { ⌜ group < 65536 ⌝ }
+    requires { ⌜ a < 65536 ⌝ }
+    requires { ⌜ now added ≡ tabulate 17 (gathered (inWords (now words)) (inside group) (addedBy n group) a) ⌝ }
+    requires { ⌜ now taken ≡ tabulate 17 (gathered (inWords (now words)) (inside group) (takenBy n group) a) ⌝ }
+    ensures { λ _. ⌜ now (added .exit) ≡ tabulate 17 (gathered (inWords (now (words .entry))) (inside group) (addedBy n group) (a + 1)) ⌝ }
+    ensures { λ _. ⌜ now (taken .exit) ≡ tabulate 17 (gathered (inWords (now (words .entry))) (inside group) (takenBy n group) (a + 1)) ⌝ }
+{
+    if !words::works(words, a) {
+        return;
+    }
+    let inside = group::size(a & group);
+    let gain = amount_added(n, group, a);
+    let loss = amount_taken(n, group, a);
+    group::add(added, inside, gain);
+    group::add(taken, inside, loss);
+}
+
+// What a path set adds to the share for k = m - i + 1, where i of its parts are in the group.
+fn amount_added(n: usize, group: usize, a: usize) -> u64
+    requires { ⌜ n ≤ 16 ⌝ }
+    requires { ⌜ group < 65536 ⌝ }
+    requires { ⌜ a < 65536 ⌝ }
+    ensures { λ r. ⌜ r ≡ addedBy n group a ⌝ }
+{
+    group::size(a & group) as u64 * weight(n, group::size(a))
+}
+
+// What a path set takes from the share for k = m - i, where i of its parts are in the group.
+fn amount_taken(n: usize, group: usize, a: usize) -> u64
+    requires { ⌜ n ≤ 16 ⌝ }
+    requires { ⌜ group < 65536 ⌝ }
+    requires { ⌜ a < 65536 ⌝ }
+    ensures { λ r. ⌜ r ≡ takenBy n group a ⌝ }
+{
+    (group::size(group) - group::size(a & group)) as u64 * weight(n, group::size(a) + 1)
+}
+
+// (s-1)! × (n-s)! for the sizes s from 1 to n, and 0 for any other number.
+fn weight(n: usize, s: usize) -> u64
+    requires { ⌜ n ≤ 16 ⌝ }
+    ensures { λ r. ⌜ r ≡ weightOf n s ⌝ }
+{
+    if s == 0 {
+        return 0;
+    }
+    if n < s {
+        return 0;
+    }
+    numbers::factorial(s - 1) * numbers::factorial(n - s)
+}
+
+// Writes the shares by what the path sets add and take.
+fn write_differences(m: usize, added: &[u64], taken: &[u64], shares: &mut [i64])
+    requires { ⌜ m ≤ length (now shares) ⌝ }
+    requires { ⌜ ((i : ℕ) → getD (now added) i 0 < 2 ^ 62) ⌝ }
+    requires { ⌜ ((i : ℕ) → getD (now taken) i 0 < 2 ^ 62) ⌝ }
+    ensures { λ _. ⌜ now (shares .exit) ≡ tabulate m (λ k. pos (getD (now (added .entry)) (m - k) 0) -ℤ pos (getD (now (taken .entry)) (m - (k + 1)) 0)) ++ drop m (now (shares .entry)) ⌝ }
+{
+    for k in 0..m {
+        shares[k] = integers::difference(
+            numbers::cell(added, m - k),
+            numbers::cell(taken, m - (k + 1)),
+        );
+    }
+}

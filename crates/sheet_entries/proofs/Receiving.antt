@@ -1,0 +1,21 @@
+-- What goes into a lent buffer: nothing where it is short, and else all entries. Assumes nothing.
+use mathlib.Core.Path.{_≡_}
+use mathlib.Core.List.{List, _++_}
+use Prim.Native.Nat.{ℕ, _≤_, _<_}
+use lib.IntN.{ℤ}
+use lib.ListN.{length, drop}
+use borrow.Author.Tests.{le-leb, lt-leb}
+use Rattle.answer.specs.Outcome.{at}
+use Rattle.answer.specs.Refusals.{shortBuffer}
+use Rattle.answer.specs.declared.Written.the-variants.{Length}
+use Rattle.kind.specs.declared.Kind.{Kind}
+use Rattle.sheet.specs.Sheets.{Given}
+use Rattle.sheet_entries.specs.Answers.{receivedOutcome, notReceived, received}
+
+module _ (kind : Kind) (n : ℕ) (entries cells : List ℤ) where
+  pub received-short : length cells < length entries → notReceived (at shortBuffer (length entries)) cells ≡ received (Given kind n entries) cells
+  received-short short = simp (lt-leb (length entries) (length cells) short)
+
+  pub received-long : length entries ≤ length cells
+      → receivedOutcome (record { kind = kind; n = n; answer = Length (length entries) }) (entries ++ drop (length entries) cells) ≡ received (Given kind n entries) cells
+  received-long fits = simp (le-leb (length entries) (length cells) fits)

@@ -1,0 +1,18 @@
+-- `sheet_entries::not_received` meets its contract: its answer is the refusal.
+-- Assumes nothing.
+use mathlib.Core.Path.{ap}
+use Rattle.answer.specs.declared.Written.{Written}
+use Rattle.kind.specs.declared.Kind.the-variants.{PathCounts}
+use Rattle.sheet_entries.specs.declared.Received.{Received}
+use borrow.Author.Needs.{needs}
+use Rattle.sheet_entries.proofs.not_received.Statement.{statement}
+use Rattle.sheet_entries.proofs.not_received.Tie as tie
+
+unwritten-requires : tie.Need-unwritten-requires
+unwritten-requires c κs = search needs
+
+returns : tie.Need-returns
+returns c = ap {B = Received} (λ (w : Written). record { kind = PathCounts; n = 0; answer = w }) (c .unwritten .ensures)
+
+pub not-received-spec : {M : Type 1} → statement M
+not-received-spec = tie.close (tie.spec unwritten-requires returns)

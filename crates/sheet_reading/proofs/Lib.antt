@@ -1,0 +1,6 @@
+pub mod Bounds
+pub mod Walk
+pub mod Reading
+pub mod ReadSheet
+pub mod WriteSheet
+pub mod RoundTrip

@@ -1,0 +1,10 @@
+-- What reading a sheet answers (01, "Records on disk"): a vector in a struct.
+use Rattle.answer.specs.declared.Verdict.the-variants as verdict
+use Rattle.vector.specs.Held.{vectorHolding, noVector}
+use Rattle.sheet.specs.Sheets.{Sheet, Given, Refused}
+use Rattle.sheet_reading.specs.declared.SheetRead.{SheetRead}
+
+-- A sheet's vector, with 0 in its spare cells; or the refusal, beside path counts with n = 0, no entries and 0 in all cells.
+abbrev pub sheetRead : Sheet → SheetRead
+sheetRead (Given kind n entries) = record { vector = vectorHolding kind n entries; verdict = verdict.Accepted }
+sheetRead (Refused r) = record { vector = noVector; verdict = verdict.Refused r }

@@ -1,6 +1,6 @@
 -- A vector in a struct: the cells that are looked at are its entries, or none where its length is wrong for every kind; and what is written
 -- into its cells is the vector that holds it. Assumes nothing.
-use mathlib.Core.Path.{_≡_, refl, sym, ap, _∙_}
+use mathlib.Core.Path.{_≡_, sym, ap, _∙_}
 use mathlib.Core.Bool.{Bool, true, false, not, cond, _&&_}
 use mathlib.Core.List.{List, _++_}
 use mathlib.Core.Logic.{_⊎_, inl, inr}
@@ -13,7 +13,7 @@ use lib.IntN.{ℤ, pos}
 use lib.ListN.{length, take, drop, replicate, length-map}
 use lib.Seq.{length-take-le}
 use mir.Val.{Val}
-use borrow.Author.Tests.{ltb-true, ltb-false, le-ltb, leb-true, le-leb, eqb-true, ne-eqb, not-false}
+use borrow.Author.Tests.{ltb-true, ltb-false, le-ltb, leb-true, eqb-true, ne-eqb, not-false}
 use Rattle.answer.specs.Outcome.{refuse}
 use Rattle.answer.specs.Refusals.{wrongPartCount, wrongVectorLength}
 use Rattle.answer.specs.declared.Verdict.{Verdict}

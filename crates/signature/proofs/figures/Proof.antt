@@ -1,13 +1,13 @@
 -- `signature::figures` meets its contract: a refused table and a short buffer leave all four buffers alone, and else each is written.
 -- Assumes nothing.
-use mathlib.Core.Path.{_≡_, sym, ap, ap₂, _∙_}
+use mathlib.Core.Path.{_≡_, sym, ap, _∙_}
 use denote.Ref.{now}
 use lib.ListN.{length}
 use borrow.Author.Needs.{needs}
 use Rattle.answer.specs.declared.Verdict.{Verdict}
 use Rattle.answer.specs.declared.Verdict.the-variants.{Accepted}
 use Rattle.sets.specs.Tables.{inTable}
-use Rattle.signature.specs.All.{Buffers, buffersOf, allOutcome, deliveredAll, allFigures}
+use Rattle.signature.specs.All.{buffersOf, allOutcome, deliveredAll, allFigures}
 use Rattle.signature.specs.Steps.{figuresRefusal}
 use Rattle.signature.proofs.figures.Statement.{statement}
 use Rattle.signature.proofs.figures.Tie as tie

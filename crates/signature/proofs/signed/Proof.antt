@@ -1,17 +1,17 @@
 -- `signature::signed` meets its contract: no count is over 65,536, so each keeps its value as a signed number.
 -- Assumes nothing.
-use mathlib.Core.Path.{_≡_, refl, sym, ap, _∙_, subst}
+use mathlib.Core.Path.{_≡_, refl, ap, _∙_}
 use mathlib.Core.List.{List}
-use Prim.Native.Nat.{ℕ, _+_, _-_, _≤_, _<_}
+use Prim.Native.Nat.{ℕ, _-_, _≤_}
 use native.Mathlib.Nat.{le-trans, le-of-eq}
 use native.Mathlib.Omega.{arith}
 use denote.Ref.{now}
 use lib.IntN.{ℤ, pos}
-use lib.ListN.{length, replicate}
+use lib.ListN.{replicate}
 use mir.Facts.{toZ-pos}
 use mir.Syntax.{w64}
 use borrow.Author.Needs.{needs}
-use Rattle.numbers.proofs.Tables.{filled, filled-none, filled-again, filled-end, filled-length}
+use Rattle.numbers.proofs.Tables.{filled, filled-none, filled-again, filled-end}
 use Rattle.signature.specs.Steps.{countsOf}
 use Rattle.signature.proofs.signed.Statement.{statement}
 use Rattle.signature.proofs.signed.Tie as tie

@@ -1,7 +1,7 @@
 -- `signature::write_figures` meets its contract: the words are counted once, the vectors are written by the row of all path sets, and the
 -- importances by the rows of the parts.
 -- Assumes nothing.
-use mathlib.Core.Path.{_≡_, sym, ap, ap₂, _∙_}
+use mathlib.Core.Path.{_≡_, sym, ap, _∙_}
 use mathlib.Core.List.{List, _++_}
 use Prim.Native.Nat.{ℕ, _+_, _≤_}
 use native.Mathlib.Omega.{arith}

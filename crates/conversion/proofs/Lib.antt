@@ -1,5 +1,6 @@
 pub mod Scaled
 pub mod Acceptance
+pub mod Totals
 pub mod Conversions
 pub mod Fits
 pub mod CountIn

@@ -24,7 +24,7 @@ use Rattle.record.specs.Records.{Design, wholeRecord}
 use Rattle.record.specs.RecordBytes.{DesignRules}
 use Rattle.record.proofs.RoundTrip.{whole-written}
 use Rattle.changes.specs.Changes.{Change, addPart, takeOut, addSet, changeRefusal, changed}
-use Rattle.changes.specs.Names.{named, namedSets, numberAt, names}
+use Rattle.changes.specs.Names.{named, namedSets, partNumberAt, names}
 use Rattle.changes.specs.Lines.{Call, outcomeOf, recordAfter, after, lastOf, unlessRefused, madeBy, designAfter, issuedIn, leftIn, givenIn, along, lastDesign, issuedBy, leftBy, givenBy, DesignLine, GivenInUse}
 use Rattle.changes.proofs.Keeping.{keep-elim}
 use Rattle.changes.proofs.Names.{named-in}
@@ -53,7 +53,7 @@ design-line-one addPart d r accepted =
     line (changed-rules addPart d r accepted) (line-one lines.addPart (d .parts) (r .parts)) (λ set m. inl (rw (added-names d r accepted) at m))
 design-line-one (takeOut position) d r accepted =
     line (changed-rules (takeOut position) d r accepted) (line-one (lines.takeOut position) (d .parts) (r .parts)) (λ set m.
-    inl (keep-elim (λ set. not (names (numberAt d position) set)) (namedSets d) (rw (taken-out-names position d r accepted) at m) .0))
+    inl (keep-elim (λ set. not (names (partNumberAt d position) set)) (namedSets d) (rw (taken-out-names position d r accepted) at m) .0))
 design-line-one (addSet set) d r accepted =
     line (changed-rules (addSet set) d r accepted) (line-none (d .parts) (r .parts)) (λ names m.
     ⊎-elim

@@ -20,7 +20,7 @@ use Rattle.sets.proofs.Bools.{same-test}
 use Rattle.record.specs.Records.{Design}
 use Rattle.record.specs.RecordBytes.{DesignRules}
 use Rattle.changes.specs.Changes.{addPart, takeOut, addSet, keep, lowered, setsWithout, changeRefusal, changed}
-use Rattle.changes.specs.Names.{named, namedSets, numberAt, names, LeastNamed}
+use Rattle.changes.specs.Names.{named, namedSets, partNumberAt, names, LeastNamed}
 use Rattle.changes.proofs.MinimalSets.{Least, minimal-exactly}
 use Rattle.changes.proofs.Names.{named-more, named-without, named-in, named-at, named-has, holds-names, names-hold, named-once, names-intro, names-elim}
 use Rattle.changes.proofs.Rules.{add-accepted, take-out-accepted, with-set-within}
@@ -99,7 +99,7 @@ taken-out-numbers position d r accepted =
 
 -- Taking out the part with number p leaves exactly the named minimal sets that do not name p, in order.
 pub taken-out-names : (position : ℕ) (d : Design) → DesignRules d → changeRefusal (takeOut position) d ≡ Accepted
-    → namedSets (changed (takeOut position) d) ≡ keep (λ set. not (names (numberAt d position) set)) (namedSets d)
+    → namedSets (changed (takeOut position) d) ≡ keep (λ set. not (names (partNumberAt d position) set)) (namedSets d)
 taken-out-names position d r accepted =
     let a = take-out-accepted position d r accepted in
     let inside : position - 1 < length (numbersOf (d .parts)) = omega (arith, well-formed-counted (d .parts) (r .parts), a .from, a .to) in

@@ -27,7 +27,7 @@ use Rattle.sets.proofs.Tables.{has-packed}
 use Rattle.record.specs.Records.{Design}
 use Rattle.record.specs.RecordBytes.{DesignRules}
 use Rattle.changes.specs.Changes.{addPart, takeOut, addSet, keep, every, changeRefusal, changed}
-use Rattle.changes.specs.Names.{named, namedSets, numberAt, names, runs}
+use Rattle.changes.specs.Names.{named, namedSets, partNumberAt, names, runs}
 use Rattle.changes.proofs.Keeping.{every-intro, every-elim, some-intro, some-elim}
 use Rattle.changes.proofs.MinimalSets.{minimal-exactly}
 use Rattle.changes.proofs.Names.{named-position, named-at, holds-names, names-intro, names-elim}
@@ -98,9 +98,9 @@ module _ (p : ℕ) (working : ℕ → Bool) where
 
 -- the structure after the part with number p is taken out is the old one with p held failed
 pub taken-out-runs : (position : ℕ) (d : Design) → DesignRules d → changeRefusal (takeOut position) d ≡ Accepted → (working : ℕ → Bool)
-    → runs (changed (takeOut position) d) working ≡ runs d (λ number. working number && not (eqb number (numberAt d position)))
+    → runs (changed (takeOut position) d) working ≡ runs d (λ number. working number && not (eqb number (partNumberAt d position)))
 taken-out-runs position d r accepted working =
-    ap (some (every working)) (taken-out-names position d r accepted) ∙ held-failed (numberAt d position) working (namedSets d)
+    ap (some (every working)) (taken-out-names position d r accepted) ∙ held-failed (partNumberAt d position) working (namedSets d)
 
 -- and after a set is added the machine runs also while all parts of it work
 pub with-set-runs : (set : ℕ) (d : Design) → DesignRules d → changeRefusal (addSet set) d ≡ Accepted → (working : ℕ → Bool)

@@ -22,8 +22,8 @@ abbrev pub namedSets : Design → List (List ℕ)
 namedSets d = map (named (numbersOf (d .parts))) (d .sets)
 
 -- the number of the part at a position, from 1
-abbrev pub numberAt : Design → ℕ → ℕ
-numberAt d position = getD (numbersOf (d .parts)) (position - 1) 0
+abbrev pub partNumberAt : Design → ℕ → ℕ
+partNumberAt d position = getD (numbersOf (d .parts)) (position - 1) 0
 
 -- a set of part numbers names a part
 abbrev pub names : ℕ → List ℕ → Bool

@@ -7,7 +7,7 @@ use Rattle.numbers.specs.Tables.{tabulate}
 use Rattle.algebra.specs.Sums.{sumBelowℤ}
 use Rattle.sets.specs.Masks.{any, those}
 use Rattle.answer.specs.Outcome.{at}
-use Rattle.answer.specs.declared.Verdict.the-variants.{Accepted, Refused}
+use Rattle.answer.specs.declared.Verdict.the-variants.{Refused}
 use Rattle.figures.specs.Figures.{domination}
 use Rattle.conversion.specs.Vectors.{scaledCount, unitOf, wrongCount, falls, countsRefusal, vectorRefusal, figure, converted}
 use Rattle.kind.specs.declared.Kind.the-variants.{PathCounts, Tail, Signature, Domination}

@@ -1,14 +1,10 @@
 -- The numbers that a figure is worked out from stay in range: products of factorials and counts. Assumes nothing.
 use mathlib.Core.Path.{_≡_, refl, sym, ap, _∙_}
-use mathlib.Core.Bool.{Bool, true, false, cond}
 use mathlib.Core.Logic.{_⊎_, inl, inr}
 use Prim.Native.Nat.{ℕ, zero, suc, _+_, _-_, _*_, _≤_, _<_}
 use native.Mathlib.Nat.{le-trans, le-of-eq, le-of-suc-le-suc, eq-or-lt-of-le, mul-le-mul, mul-assoc, zero-mul}
 use native.Mathlib.Omega.{arith}
 use lib.Arith.{le-zero}
-use lib.Dec.{ltb}
-use lib.IntN.{pos, negsuc, _-ℤ_}
-use lib.Signed.{mag}
 use Rattle.numbers.specs.Counts.{factorial, choose}
 use Rattle.numbers.proofs.Counts.{factorial-pos}
 use Rattle.figures.specs.Figures.{tail}

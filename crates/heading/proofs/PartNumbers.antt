@@ -21,11 +21,11 @@ use Rattle.numbering.specs.Numbering.{mostParts, topNumber, RisingWithin, Rules
 use Rattle.parts.specs.PartLists.{listOf, numbersOf, WellFormed}
 use Rattle.numbering.proofs.Rules.{right-number, number-right}
 use Rattle.parts.proofs.WellFormed.{numbers-of-list, list-well-formed, well-formed-counted, well-formed-list}
-use Rattle.heading.specs.Headings.{Read, found, refused, then, fieldAt, partCountRefusal, markRefusal, lastOf, partNumberRefusal, numbersAt, partsAt}
+use Rattle.heading.specs.Headings.{Read, found, refused, then, fieldAt, partCountRefusal, markRefusal, lastNumber, partNumberRefusal, numbersAt, partsAt}
 use Rattle.heading.specs.HeadingBytes.{formsOf, partsBytes}
 use Rattle.heading.proofs.Found.{then-found, Stands, stands-none, stands-both, behind, field-found, field-checked, field-read}
 
-pub last-more : (before : ℕ) (earlier : List ℕ) (number : ℕ) → lastOf before (earlier ++ (number ∷ [])) ≡ number
+pub last-more : (before : ℕ) (earlier : List ℕ) (number : ℕ) → lastNumber before (earlier ++ (number ∷ [])) ≡ number
 last-more before [] number = refl
 last-more before (x ∷ earlier) number = last-more x earlier number
 
@@ -36,7 +36,7 @@ pub record NumbersRead (bytes : List ℕ) (mark more : ℕ) (earlier : List ℕ)
   pub rest : List ℕ
   pub behind-earlier : numbers ≡ earlier ++ rest
   pub counted : length rest ≡ more
-  pub rising : RisingWithin (lastOf 0 earlier) mark rest
+  pub rising : RisingWithin (lastNumber 0 earlier) mark rest
   pub stands : Stands bytes start end (formsOf rest)
 
 pub numbers-found : (bytes : List ℕ) (mark more : ℕ) (earlier : List ℕ) (start : ℕ) (numbers : List ℕ) (end : ℕ) → Bytes bytes → start ≤ length bytes
@@ -53,11 +53,11 @@ numbers-found bytes mark zero earlier start numbers end small inside e =
       stands = subst (λ (k : ℕ). Stands bytes start k []) stays (stands-none bytes start inside);
     }
 numbers-found bytes mark (suc more) earlier start numbers end small inside e =
-    let first = then-found (fieldAt bytes start (partNumberRefusal mark (lastOf 0 earlier) start)) _ numbers end e in
+    let first = then-found (fieldAt bytes start (partNumberRefusal mark (lastNumber 0 earlier) start)) _ numbers end e in
     let v : ℕ = first .0 in
     let next : ℕ = first .1 in
-    let f = field-found bytes start (partNumberRefusal mark (lastOf 0 earlier) start) v next small (first .2) in
-    let right = right-number (lastOf 0 earlier) mark v (refuse-accepted _ _ _ _ (f .passed) .0) in
+    let f = field-found bytes start (partNumberRefusal mark (lastNumber 0 earlier) start) v next small (first .2) in
+    let right = right-number (lastNumber 0 earlier) mark v (refuse-accepted _ _ _ _ (f .passed) .0) in
     let later = numbers-found bytes mark more (earlier ++ (v ∷ [])) next numbers end small (f .stands .inside) (first .3) in
     record {
       rest = v ∷ later .rest;
@@ -68,7 +68,7 @@ numbers-found bytes mark (suc more) earlier start numbers end small inside e =
     }
 
 pub numbers-read : (bytes : List ℕ) (mark : ℕ) (numbers earlier : List ℕ) (start : ℕ) (rest : List ℕ) → mark ≤ topNumber
-    → RisingWithin (lastOf 0 earlier) mark numbers → drop start bytes ≡ formsOf numbers ++ rest
+    → RisingWithin (lastNumber 0 earlier) mark numbers → drop start bytes ≡ formsOf numbers ++ rest
     → numbersAt bytes mark (length numbers) earlier start ≡ found (earlier ++ numbers) (start + length (formsOf numbers))
 unfolding numbersAt formsOf
 numbers-read bytes mark [] earlier start rest top r e = rw (append-nil, add-zero)
@@ -76,9 +76,9 @@ numbers-read bytes mark (v ∷ numbers) earlier start rest top r e =
     let forms : drop start bytes ≡ bytesOf v ++ (formsOf numbers ++ rest) = e ∙ append-assoc (bytesOf v) (formsOf numbers) rest in
     let next : ℕ = start + length (bytesOf v) in
     let ends : next + length (formsOf numbers) ≡ start + length (bytesOf v ++ formsOf numbers) = omega (arith, length-append (bytesOf v) (formsOf numbers)) in
-    let first : fieldAt bytes start (partNumberRefusal mark (lastOf 0 earlier) start) ≡ found v next =
-    field-read bytes start (partNumberRefusal mark (lastOf 0 earlier) start) v (formsOf numbers ++ rest) forms (omega (arith, r .1))
-    (simp (number-right (lastOf 0 earlier) mark v (r .0) (r .1) top)) in
+    let first : fieldAt bytes start (partNumberRefusal mark (lastNumber 0 earlier) start) ≡ found v next =
+    field-read bytes start (partNumberRefusal mark (lastNumber 0 earlier) start) v (formsOf numbers ++ rest) forms (omega (arith, r .1))
+    (simp (number-right (lastNumber 0 earlier) mark v (r .0) (r .1) top)) in
     ap (λ (f : Read ℕ). then f (λ number after. numbersAt bytes mark (length numbers) (earlier ++ (number ∷ [])) after)) first
     ∙ numbers-read bytes mark numbers (earlier ++ (v ∷ [])) next rest top
     (subst (λ (low : ℕ). RisingWithin low mark numbers) (sym (last-more 0 earlier v)) (r .2)) (behind bytes start (bytesOf v) (formsOf numbers ++ rest) forms)
@@ -178,7 +178,7 @@ numbers-counted : (bytes : List ℕ) (mark more : ℕ) (earlier : List ℕ) (sta
 unfolding numbersAt
 numbers-counted bytes mark zero earlier start numbers end e = let same : earlier ≡ numbers = cc in omega (arith, ap length same)
 numbers-counted bytes mark (suc more) earlier start numbers end e =
-    let a = then-found (fieldAt bytes start (partNumberRefusal mark (lastOf 0 earlier) start)) _ numbers end e in
+    let a = then-found (fieldAt bytes start (partNumberRefusal mark (lastNumber 0 earlier) start)) _ numbers end e in
     omega (arith, numbers-counted bytes mark more (earlier ++ (a .0 ∷ [])) (a .1) numbers end (a .3), length-append earlier (a .0 ∷ []))
 
 -- so a part list that was read has 16 parts at the most

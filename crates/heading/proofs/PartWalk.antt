@@ -9,7 +9,7 @@ use lib.ListN.{length, set, replicate, length-append}
 use Rattle.answer.specs.declared.Refusal.{Refusal}
 use Rattle.numbering.specs.Numbering.{mostParts, cellsOf}
 use Rattle.answer.proofs.FixedCells.{cells-more}
-use Rattle.heading.specs.Headings.{Read, found, refused, then, fieldAt, lastOf, partNumberRefusal, numbersAt}
+use Rattle.heading.specs.Headings.{Read, found, refused, then, fieldAt, lastNumber, partNumberRefusal, numbersAt}
 use Rattle.heading.proofs.PartNumbers.{last-more}
 
 pub record NumbersWalk (bytes : List ℕ) (mark count start : ℕ) (cells : List ℕ) (previous next index : ℕ) : Type 0 where
@@ -17,7 +17,7 @@ pub record NumbersWalk (bytes : List ℕ) (mark count start : ℕ) (cells : List
   pub within : index ≤ count
   pub counted : length earlier ≡ index
   pub stands : cells ≡ cellsOf earlier
-  pub last : previous ≡ lastOf 0 earlier
+  pub last : previous ≡ lastNumber 0 earlier
   pub rest : numbersAt bytes mark (count - index) earlier next ≡ numbersAt bytes mark count [] start
 
 pub numbers-walk-none : (bytes : List ℕ) (mark count start : ℕ) → NumbersWalk bytes mark count start (replicate mostParts 0) 0 start 0

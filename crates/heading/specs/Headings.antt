@@ -65,15 +65,15 @@ setCountRefusal place count = refuse (eqb count 0) emptyList place (refuse (ltb 
 -- ---- the heading
 
 -- the last of some numbers, and `before` where there are none
-abbrev pub lastOf : ℕ → List ℕ → ℕ
-lastOf before [] = before
-lastOf before (number ∷ numbers) = lastOf number numbers
+abbrev pub lastNumber : ℕ → List ℕ → ℕ
+lastNumber before [] = before
+lastNumber before (number ∷ numbers) = lastNumber number numbers
 
 -- so many part numbers more, behind the earlier ones
 unfoldable pub numbersAt : List ℕ → ℕ → ℕ → List ℕ → ℕ → Read (List ℕ)
 numbersAt bytes mark zero earlier start = found earlier start
 numbersAt bytes mark (suc more) earlier start =
-    then (fieldAt bytes start (partNumberRefusal mark (lastOf 0 earlier) start)) (λ number next.
+    then (fieldAt bytes start (partNumberRefusal mark (lastNumber 0 earlier) start)) (λ number next.
     numbersAt bytes mark more (earlier ++ (number ∷ [])) next)
 
 -- n, the mark and n part numbers

@@ -5,7 +5,7 @@ use mathlib.Core.List.{List, [], _∷_, _++_, append-nil}
 use Prim.Native.Nat.{ℕ, zero, suc, _+_, _-_, _≤_, _<_}
 use native.Mathlib.Nat.{le-of-suc-le-suc, not-suc-le-zero, add-sub-of-le, le-antisymm, le-of-eq}
 use native.Mathlib.Numerals.{add-one}
-use lib.ListN.{length, getD, set, drop, length-append, length-drop, drop-of-length-le, List·getD-append}
+use lib.ListN.{length, getD, set, take, drop, length-append, length-drop, drop-of-length-le, List·getD-append}
 use lib.Seq.{drop-cons, set-append-seam, append-snoc, getD-append-add, getD-drop, ext-getD}
 use Rattle.numbers.specs.Tables.{tabulate}
 
@@ -87,3 +87,10 @@ tabulate-agree {A} n f g same k h =
 pub tabulate-same : {A : Type 0} (n : ℕ) (f g : ℕ → A) → ((k : ℕ) → k < n → f k ≡ g k) → tabulate n f ≡ tabulate n g
 tabulate-same n f g same =
     tabulate-unique n g (tabulate n f) (f 0) (tabulate-length n f) (λ k h. tabulate-at n f k (f 0) h ∙ same k h)
+
+-- the first values of a longer table
+pub take-tabulate : {A : Type 0} (n m : ℕ) (f : ℕ → A) → n ≤ m → take n (tabulate m f) ≡ tabulate n f
+unfolding tabulate
+take-tabulate {A} zero m f h = refl
+take-tabulate {A} (suc n) zero f h = absurd (not-suc-le-zero h)
+take-tabulate {A} (suc n) (suc m) f h = ap (λ (l : List A). f 0 ∷ l) (take-tabulate n m (λ i. f (suc i)) (le-of-suc-le-suc h))

@@ -17,9 +17,9 @@ use Rattle.algebra.proofs.Sums.{sum-same, sum-add, sum-map, sum-flatMap, sumBel
 use Rattle.sets.specs.Masks.{has, size}
 use Rattle.sets.proofs.Bools.{true-or-false}
 use Rattle.sets.proofs.Masks.{has-above}
-use Rattle.orders.specs.Orders.{placed, orders, mask}
+use Rattle.orders.specs.Orders.{inserted, orders, mask}
 use Rattle.orders.specs.Counting.{Entry, behind, entries, inGroup}
-use Rattle.orders.proofs.Orders.{sum-placed}
+use Rattle.orders.proofs.Orders.{sum-inserted}
 use Rattle.orders.proofs.Sizes.{outside, outside-last, outside-with, size-last, size-lacking, has-last, has-others}
 
 -- ---- the places between the entries of a list
@@ -45,30 +45,30 @@ divisions-add f g (i ∷ rest) =
     ∙ omega arith
 
 -- a position that is put in stands before the place or after it
-divisions-placed : (f : List ℕ → List ℕ → ℕ) (i : ℕ) (list : List ℕ)
-    → sum (divisions f) (placed i list)
-    ≡ divisions (λ before after. sum (λ b. f b after) (placed i before) + sum (λ a. f before a) (placed i after)) list
-unfolding divisions placed sum
-divisions-placed f i [] = omega arith
-divisions-placed f i (j ∷ rest) =
-    omega (arith, later (divisions-placed (λ before after. f (j ∷ before) after) i rest), sum-map (f []) (λ l. j ∷ l) (placed i rest), before-both)
+divisions-inserted : (f : List ℕ → List ℕ → ℕ) (i : ℕ) (list : List ℕ)
+    → sum (divisions f) (inserted i list)
+    ≡ divisions (λ before after. sum (λ b. f b after) (inserted i before) + sum (λ a. f before a) (inserted i after)) list
+unfolding divisions inserted sum
+divisions-inserted f i [] = omega arith
+divisions-inserted f i (j ∷ rest) =
+    omega (arith, later (divisions-inserted (λ before after. f (j ∷ before) after) i rest), sum-map (f []) (λ l. j ∷ l) (inserted i rest), before-both)
   where
     behind-first : List ℕ → List ℕ → ℕ
-    behind-first before after = sum (λ b. f (j ∷ b) after) (placed i before) + sum (λ a. f (j ∷ before) a) (placed i after)
+    behind-first before after = sum (λ b. f (j ∷ b) after) (inserted i before) + sum (λ a. f (j ∷ before) a) (inserted i after)
 
-    later : sum (divisions (λ before after. f (j ∷ before) after)) (placed i rest) ≡ divisions behind-first rest
-        → sum (divisions f) (map (λ l. j ∷ l) (placed i rest)) ≡ sum (λ l. f [] (j ∷ l)) (placed i rest) + divisions behind-first rest
+    later : sum (divisions (λ before after. f (j ∷ before) after)) (inserted i rest) ≡ divisions behind-first rest
+        → sum (divisions f) (map (λ l. j ∷ l) (inserted i rest)) ≡ sum (λ l. f [] (j ∷ l)) (inserted i rest) + divisions behind-first rest
     later ih =
-        sum-map (divisions f) (λ l. j ∷ l) (placed i rest)
-        ∙ sum-add (λ l. f [] (j ∷ l)) (divisions (λ before after. f (j ∷ before) after)) (placed i rest)
-        ∙ ap (λ (u : ℕ). sum (λ l. f [] (j ∷ l)) (placed i rest) + u) ih
+        sum-map (divisions f) (λ l. j ∷ l) (inserted i rest)
+        ∙ sum-add (λ l. f [] (j ∷ l)) (divisions (λ before after. f (j ∷ before) after)) (inserted i rest)
+        ∙ ap (λ (u : ℕ). sum (λ l. f [] (j ∷ l)) (inserted i rest) + u) ih
 
-    before-both : divisions (λ before after. sum (λ b. f b after) (placed i (j ∷ before)) + sum (λ a. f (j ∷ before) a) (placed i after)) rest
+    before-both : divisions (λ before after. sum (λ b. f b after) (inserted i (j ∷ before)) + sum (λ a. f (j ∷ before) a) (inserted i after)) rest
         ≡ divisions (λ before after. f (i ∷ j ∷ before) after) rest + divisions behind-first rest
     before-both =
         divisions-same _ _ rest (λ before after.
-        ap (λ (u : ℕ). f (i ∷ j ∷ before) after + u + sum (λ a. f (j ∷ before) a) (placed i after))
-        (sum-map (λ b. f b after) (λ b. j ∷ b) (placed i before))
+        ap (λ (u : ℕ). f (i ∷ j ∷ before) after + u + sum (λ a. f (j ∷ before) a) (inserted i after))
+        (sum-map (λ b. f b after) (λ b. j ∷ b) (inserted i before))
         ∙ omega arith)
         ∙ divisions-add (λ before after. f (i ∷ j ∷ before) after) behind-first rest
 
@@ -80,26 +80,26 @@ entry before position after = record { before = before; position = position; aft
 -- what f gives in all for an entry where a position is put in before it or after it
 beside : (Entry → ℕ) → ℕ → Entry → ℕ
 beside f i e =
-    sum (λ b. f (entry b (e .position) (e .after))) (placed i (e .before)) + sum (λ a. f (entry (e .before) (e .position) a)) (placed i (e .after))
+    sum (λ b. f (entry b (e .position) (e .after))) (inserted i (e .before)) + sum (λ a. f (entry (e .before) (e .position) a)) (inserted i (e .after))
 
 -- a position that is put in is an entry itself, or stands before another entry or after it
-entries-placed : (f : Entry → ℕ) (i : ℕ) (list : List ℕ)
-    → sum (λ l. sum f (entries l)) (placed i list) ≡ divisions (λ before after. f (entry before i after)) list + sum (beside f i) (entries list)
-unfolding divisions placed sum entries beside
-entries-placed f i [] = omega arith
-entries-placed f i (j ∷ rest) = omega (arith, later (entries-placed (λ e. f (behind j e)) i rest), in-front, before-both)
+entries-inserted : (f : Entry → ℕ) (i : ℕ) (list : List ℕ)
+    → sum (λ l. sum f (entries l)) (inserted i list) ≡ divisions (λ before after. f (entry before i after)) list + sum (beside f i) (entries list)
+unfolding divisions inserted sum entries beside
+entries-inserted f i [] = omega arith
+entries-inserted f i (j ∷ rest) = omega (arith, later (entries-inserted (λ e. f (behind j e)) i rest), in-front, before-both)
   where
     behind-first : ℕ
     behind-first = divisions (λ before after. f (entry (j ∷ before) i after)) rest + sum (beside (λ e. f (behind j e)) i) (entries rest)
 
-    later : sum (λ l. sum (λ e. f (behind j e)) (entries l)) (placed i rest) ≡ behind-first
-        → sum (λ l. sum f (entries l)) (map (λ l. j ∷ l) (placed i rest)) ≡ sum (λ l. f (entry [] j l)) (placed i rest) + behind-first
+    later : sum (λ l. sum (λ e. f (behind j e)) (entries l)) (inserted i rest) ≡ behind-first
+        → sum (λ l. sum f (entries l)) (map (λ l. j ∷ l) (inserted i rest)) ≡ sum (λ l. f (entry [] j l)) (inserted i rest) + behind-first
     later ih =
-        sum-map (λ l. sum f (entries l)) (λ l. j ∷ l) (placed i rest)
-        ∙ sum-same _ (λ l. f (entry [] j l) + sum (λ e. f (behind j e)) (entries l)) (placed i rest)
+        sum-map (λ l. sum f (entries l)) (λ l. j ∷ l) (inserted i rest)
+        ∙ sum-same _ (λ l. f (entry [] j l) + sum (λ e. f (behind j e)) (entries l)) (inserted i rest)
         (λ l m. ap (λ (u : ℕ). f (entry [] j l) + u) (sum-map f (behind j) (entries l)))
-        ∙ sum-add (λ l. f (entry [] j l)) (λ l. sum (λ e. f (behind j e)) (entries l)) (placed i rest)
-        ∙ ap (λ (u : ℕ). sum (λ l. f (entry [] j l)) (placed i rest) + u) ih
+        ∙ sum-add (λ l. f (entry [] j l)) (λ l. sum (λ e. f (behind j e)) (entries l)) (inserted i rest)
+        ∙ ap (λ (u : ℕ). sum (λ l. f (entry [] j l)) (inserted i rest) + u) ih
 
     in-front : sum f (map (behind i) (map (behind j) (entries rest))) ≡ sum (λ e. f (behind i (behind j e))) (entries rest)
     in-front = sum-map f (behind i) (map (behind j) (entries rest)) ∙ sum-map (λ e. f (behind i e)) (behind j) (entries rest)
@@ -109,8 +109,8 @@ entries-placed f i (j ∷ rest) = omega (arith, later (entries-placed (λ e. f (
     before-both =
         sum-map (beside f i) (behind j) (entries rest)
         ∙ sum-same (λ e. beside f i (behind j e)) (λ e. f (behind i (behind j e)) + beside (λ d. f (behind j d)) i e) (entries rest) (λ e m.
-        ap (λ (u : ℕ). f (behind i (behind j e)) + u + sum (λ a. f (entry (j ∷ e .before) (e .position) a)) (placed i (e .after)))
-        (sum-map (λ b. f (entry b (e .position) (e .after))) (λ b. j ∷ b) (placed i (e .before)))
+        ap (λ (u : ℕ). f (behind i (behind j e)) + u + sum (λ a. f (entry (j ∷ e .before) (e .position) a)) (inserted i (e .after)))
+        (sum-map (λ b. f (entry b (e .position) (e .after))) (λ b. j ∷ b) (inserted i (e .before)))
         ∙ omega arith)
         ∙ sum-add (λ e. f (behind i (behind j e))) (beside (λ e. f (behind j e)) i) (entries rest)
 
@@ -130,16 +130,16 @@ module _ (group : ℕ) where
   withLast : ℕ → AtPlace → AtPlace
   withLast n g b c k a = suc b * g (suc b) (c + indicator (has group n)) k a + suc k * g b c (suc k) (a + 2 ^ n)
 
-  left-placed : (n : ℕ) (g : AtPlace) (before after : List ℕ)
-      → sum (λ b. left g b after) (placed (suc n) before) + sum (λ a. left g before a) (placed (suc n) after) ≡ left (withLast n g) before after
+  left-inserted : (n : ℕ) (g : AtPlace) (before after : List ℕ)
+      → sum (λ b. left g b after) (inserted (suc n) before) + sum (λ a. left g before a) (inserted (suc n) after) ≡ left (withLast n g) before after
   unfolding left withLast mask inGroup
-  left-placed n g before after =
+  left-inserted n g before after =
       ap₂ (λ (u v : ℕ). u + v)
-      (sum-placed (λ l c. g l c (length after) (mask after)) (λ i. indicator (has group (i - 1))) (suc n) before
+      (sum-inserted (λ l c. g l c (length after) (mask after)) (λ i. indicator (has group (i - 1))) (suc n) before
       ∙ ap (λ (c : ℕ). suc (length before) * g (suc (length before)) c (length after) (mask after))
       (ap (λ (x : ℕ). indicator (has group x) + howMany (inGroup group) before) (sub-one (suc n))
       ∙ add-comm (indicator (has group n)) (howMany (inGroup group) before)))
-      (sum-placed (λ l a. g (length before) (howMany (inGroup group) before) l a) (λ i. 2 ^ (i - 1)) (suc n) after
+      (sum-inserted (λ l a. g (length before) (howMany (inGroup group) before) l a) (λ i. 2 ^ (i - 1)) (suc n) after
       ∙ ap (λ (a : ℕ). suc (length after) * g (length before) (howMany (inGroup group) before) (suc (length after)) a)
       (ap (λ (x : ℕ). 2 ^ x + mask after) (sub-one (suc n)) ∙ add-comm (2 ^ n) (mask after)))
 
@@ -163,9 +163,9 @@ module _ (group : ℕ) where
   unfolding orders divisions sum sumBelow flatMap left leaving factorial mask ones onesIn
   sum-divisions zero g = omega arith
   sum-divisions (suc n) g =
-      sum-flatMap (divisions (left g)) (placed (suc n)) (orders n)
+      sum-flatMap (divisions (left g)) (inserted (suc n)) (orders n)
       ∙ sum-same _ (divisions (left (withLast n g))) (orders n)
-      (λ order m. divisions-placed (left g) (suc n) order ∙ divisions-same _ _ order (left-placed n g))
+      (λ order m. divisions-inserted (left g) (suc n) order ∙ divisions-same _ _ order (left-inserted n g))
       ∙ sum-divisions n (withLast n g)
       ∙ sumBelow-halves (leaving (suc n) g) (leaving n (withLast n g)) n (leaving-last n g)
 
@@ -176,10 +176,10 @@ module _ (group : ℕ) where
       g (e .position) (length (e .before)) (howMany (inGroup group) (e .before) + indicator (inGroup group (e .position))) (length (e .after))
       (mask (e .after))
 
-  met-placed : (n : ℕ) (g : ℕ → AtPlace) (e : Entry) → beside (met g) (suc n) e ≡ met (λ i. withLast n (g i)) e
+  met-inserted : (n : ℕ) (g : ℕ → AtPlace) (e : Entry) → beside (met g) (suc n) e ≡ met (λ i. withLast n (g i)) e
   unfolding beside met left withLast
-  met-placed n g e =
-      left-placed n (λ b c k a. g (e .position) b (c + indicator (inGroup group (e .position))) k a) (e .before) (e .after)
+  met-inserted n g e =
+      left-inserted n (λ b c k a. g (e .position) b (c + indicator (inGroup group (e .position))) k a) (e .before) (e .after)
       ∙ ap (λ (c : ℕ).
       suc (length (e .before)) * g (e .position) (suc (length (e .before))) c (length (e .after)) (mask (e .after))
       + suc (length (e .after)) * g (e .position) (length (e .before)) (howMany (inGroup group) (e .before) + indicator (inGroup group (e .position)))
@@ -220,10 +220,10 @@ module _ (group : ℕ) where
   unfolding orders entries sum sumBelow flatMap met left inGroup
   sum-entries zero g = refl
   sum-entries (suc n) g =
-      sum-flatMap (λ order. sum (met g) (entries order)) (placed (suc n)) (orders n)
+      sum-flatMap (λ order. sum (met g) (entries order)) (inserted (suc n)) (orders n)
       ∙ sum-same _ (λ order. divisions (left entering) order + sum (met (λ i. withLast n (g i))) (entries order)) (orders n) (λ order m.
-      entries-placed (met g) (suc n) order
-      ∙ ap₂ (λ (u v : ℕ). u + v) (divisions-same _ _ order first) (sum-same (beside (met g) (suc n)) _ (entries order) (λ e k. met-placed n g e)))
+      entries-inserted (met g) (suc n) order
+      ∙ ap₂ (λ (u v : ℕ). u + v) (divisions-same _ _ order first) (sum-same (beside (met g) (suc n)) _ (entries order) (λ e k. met-inserted n g e)))
       ∙ sum-add (divisions (left entering)) (λ order. sum (met (λ i. withLast n (g i))) (entries order)) (orders n)
       ∙ add-comm _ _
       ∙ ap₂ (λ (u v : ℕ). u + v)

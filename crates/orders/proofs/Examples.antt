@@ -7,7 +7,7 @@ use Prim.Native.Nat.{ℕ}
 use Rattle.algebra.specs.Sums.{sum, some}
 use Rattle.sets.specs.Masks.{has, holds}
 use Rattle.sets.specs.Structures.{listed}
-use Rattle.orders.specs.Orders.{placed, orders, mask}
+use Rattle.orders.specs.Orders.{inserted, orders, mask}
 use Rattle.orders.specs.Counting.{entries, stops, inGroup, stopsAsKth, count}
 
 -- at each entry of an order: its position, and whether it takes the system from working to stopped
@@ -26,11 +26,11 @@ two-then-one = refl
 
 -- the counts of a group for each k of a list
 counts : ℕ → List ℕ → ℕ → List ℕ → List ℕ
-unfolding count orders placed flatMap stopsAsKth inGroup has stops entries mask sum some listed holds
+unfolding count orders inserted flatMap stopsAsKth inGroup has stops entries mask sum some listed holds
 counts n sets group ks = map (λ k. count n (listed sets) group k) ks
 
 orders-of-two : orders 2 ≡ (2 ∷ 1 ∷ []) ∷ (1 ∷ 2 ∷ []) ∷ []
-unfolding orders placed
+unfolding orders inserted
 orders-of-two = refl
 
 -- n = 2 with {1}, {2}, all parts: (0,2)

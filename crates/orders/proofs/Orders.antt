@@ -14,19 +14,19 @@ use Rattle.numbers.specs.Counts.{factorial}
 use Rattle.algebra.specs.Sums.{indicator, sum, howMany, sumBelow}
 use Rattle.algebra.proofs.Sums.{sum-same, sum-map, sum-flatMap, sum-zero, sum-ones, sumBelow-same, sumBelow-zero, sumBelow-once}
 use Rattle.sets.proofs.Bools.{and-left, and-right, clash, true-or-false}
-use Rattle.orders.specs.Orders.{isPosition, times, IsOrder, placed, orders, same}
+use Rattle.orders.specs.Orders.{isPosition, times, IsOrder, inserted, orders, same}
 
 -- ---- one position more
 
 -- whatever depends on the length of a list and on a sum over it, summed over the lists with one position more
-pub sum-placed : (f : ℕ → ℕ → ℕ) (w : ℕ → ℕ) (i : ℕ) (list : List ℕ)
-    → sum (λ l. f (length l) (sum w l)) (placed i list) ≡ suc (length list) * f (suc (length list)) (w i + sum w list)
-unfolding sum placed
-sum-placed f w i [] = omega arith
-sum-placed f w i (j ∷ rest) =
+pub sum-inserted : (f : ℕ → ℕ → ℕ) (w : ℕ → ℕ) (i : ℕ) (list : List ℕ)
+    → sum (λ l. f (length l) (sum w l)) (inserted i list) ≡ suc (length list) * f (suc (length list)) (w i + sum w list)
+unfolding sum inserted
+sum-inserted f w i [] = omega arith
+sum-inserted f w i (j ∷ rest) =
     ap (λ (u : ℕ). f (suc (suc (length rest))) (w i + (w j + sum w rest)) + u)
-    (sum-map (λ l. f (length l) (sum w l)) (λ list. j ∷ list) (placed i rest)
-    ∙ sum-placed (λ n s. f (suc n) (w j + s)) w i rest
+    (sum-map (λ l. f (length l) (sum w l)) (λ list. j ∷ list) (inserted i rest)
+    ∙ sum-inserted (λ n s. f (suc n) (w j + s)) w i rest
     ∙ ap (λ (u : ℕ). suc (length rest) * f (suc (suc (length rest))) u) (add-left-comm (w j) (w i) (sum w rest)))
     ∙ omega arith
 
@@ -36,9 +36,9 @@ sum-orders : (f : ℕ → ℕ) (n : ℕ) → sum (λ order. f (length order)) (o
 unfolding orders sum factorial flatMap
 sum-orders f zero = omega arith
 sum-orders f (suc n) =
-    sum-flatMap (λ order. f (length order)) (placed (suc n)) (orders n)
-    ∙ sum-same (λ order. sum (λ l. f (length l)) (placed (suc n) order)) (λ order. suc (length order) * f (suc (length order))) (orders n)
-    (λ order m. sum-placed (λ l s. f l) (λ i. 0) (suc n) order)
+    sum-flatMap (λ order. f (length order)) (inserted (suc n)) (orders n)
+    ∙ sum-same (λ order. sum (λ l. f (length l)) (inserted (suc n) order)) (λ order. suc (length order) * f (suc (length order))) (orders n)
+    (λ order m. sum-inserted (λ l s. f l) (λ i. 0) (suc n) order)
     ∙ sum-orders (λ l. suc l * f (suc l)) n
     ∙ omega arith
 
@@ -47,16 +47,16 @@ orders-length n = sym (sum-ones (orders n)) ∙ sum-orders (λ l. 1) n ∙ mul-o
 
 -- ---- nothing else is an order
 
-sum-of-placed : (w : ℕ → ℕ) (i : ℕ) (list : List ℕ) (l : List ℕ) → List·Memᴰ l (placed i list) → sum w l ≡ w i + sum w list
-unfolding sum placed
-sum-of-placed w i [] l m = ap (sum w) (List·Memᴰ·eq-of-singleton m)
-sum-of-placed w i (j ∷ rest) l m = cases (List·Memᴰ·cases-cons m) (sum-of-placed w i rest)
+sum-of-inserted : (w : ℕ → ℕ) (i : ℕ) (list : List ℕ) (l : List ℕ) → List·Memᴰ l (inserted i list) → sum w l ≡ w i + sum w list
+unfolding sum inserted
+sum-of-inserted w i [] l m = ap (sum w) (List·Memᴰ·eq-of-singleton m)
+sum-of-inserted w i (j ∷ rest) l m = cases (List·Memᴰ·cases-cons m) (sum-of-inserted w i rest)
   where
-    cases : (l ≡ i ∷ j ∷ rest) ⊎ List·Memᴰ l (map (λ list. j ∷ list) (placed i rest))
-        → ((t : List ℕ) → List·Memᴰ t (placed i rest) → sum w t ≡ w i + sum w rest) → sum w l ≡ w i + (w j + sum w rest)
+    cases : (l ≡ i ∷ j ∷ rest) ⊎ List·Memᴰ l (map (λ list. j ∷ list) (inserted i rest))
+        → ((t : List ℕ) → List·Memᴰ t (inserted i rest) → sum w t ≡ w i + sum w rest) → sum w l ≡ w i + (w j + sum w rest)
     cases (inl e) ih = ap (sum w) e
     cases (inr later) ih =
-        let found = Memᴰ·of-map (λ (list : List ℕ). j ∷ list) (placed i rest) later in
+        let found = Memᴰ·of-map (λ (list : List ℕ). j ∷ list) (inserted i rest) later in
         ap (sum w) (sym (found .2)) ∙ ap (λ (u : ℕ). w j + u) (ih (found .0) (found .1)) ∙ add-left-comm (w j) (w i) (sum w rest)
 
 flatMap-cases : {A B : Type 0} (f : A → List B) (xs : List A) {y : B} → List·Memᴰ y (flatMap f xs) → (x : A) × List·Memᴰ x xs × List·Memᴰ y (f x)
@@ -74,8 +74,8 @@ pub sum-of-order : (w : ℕ → ℕ) (n : ℕ) (order : List ℕ) → List·Mem�
 unfolding orders sum sumBelow
 sum-of-order w zero order m = ap (sum w) (List·Memᴰ·eq-of-singleton m)
 sum-of-order w (suc n) order m =
-    let found = flatMap-cases (placed (suc n)) (orders n) m in
-    sum-of-placed w (suc n) (found .0) order (found .2) ∙ ap (λ (u : ℕ). w (suc n) + u) (sum-of-order w n (found .0) (found .1)) ∙ omega arith
+    let found = flatMap-cases (inserted (suc n)) (orders n) m in
+    sum-of-inserted w (suc n) (found .0) order (found .2) ∙ ap (λ (u : ℕ). w (suc n) + u) (sum-of-order w n (found .0) (found .1)) ∙ omega arith
 
 position-once : (n i : ℕ) → sumBelow (λ j. indicator (eqb i (suc j))) n ≡ indicator (isPosition n i)
 position-once n zero =
@@ -112,33 +112,33 @@ times-without i (y ∷ rest) h j = cases (eqb i y) refl h (times-without i rest)
     cases false e k ih = let later : times j rest ≡ indicator (eqb j i) + times j (without i rest) = ih (omega arith) j in omega arith
 
 -- Of the lists with i put in, a list that holds i once is there as often as the list was the same without i.
-placed-once : (i : ℕ) (order list : List ℕ) → times i order ≡ 1 → times i list ≡ 0
-    → howMany (same order) (placed i list) ≡ indicator (same (without i order) list)
-unfolding without sum placed same
-placed-once i [] list h k = absurd (omega arith)
-placed-once i (x ∷ rest) [] h k = rw (eqb-comm x i) (cases (eqb i x))
+inserted-once : (i : ℕ) (order list : List ℕ) → times i order ≡ 1 → times i list ≡ 0
+    → howMany (same order) (inserted i list) ≡ indicator (same (without i order) list)
+unfolding without sum inserted same
+inserted-once i [] list h k = absurd (omega arith)
+inserted-once i (x ∷ rest) [] h k = rw (eqb-comm x i) (cases (eqb i x))
   where
     cases : (b : Bool) → indicator (b && same rest []) + 0 ≡ indicator (same (cond b rest (x ∷ without i rest)) [])
     cases true = add-zero (indicator (same rest []))
     cases false = refl
-placed-once i (x ∷ rest) (y ∷ others) h k =
-    rw (eqb-comm x i, sum-map (λ l. indicator (same (x ∷ rest) l)) (λ l. y ∷ l) (placed i others))
-    (cases (eqb i x) refl (eqb i y) refl (eqb x y) refl h k (placed-once i rest others))
+inserted-once i (x ∷ rest) (y ∷ others) h k =
+    rw (eqb-comm x i, sum-map (λ l. indicator (same (x ∷ rest) l)) (λ l. y ∷ l) (inserted i others))
+    (cases (eqb i x) refl (eqb i y) refl (eqb x y) refl h k (inserted-once i rest others))
   where
-    none : (b : Bool) → b ≡ false → sum (λ l. indicator (b && same rest l)) (placed i others) ≡ 0
-    none b e = rw e (sum-zero (placed i others))
+    none : (b : Bool) → b ≡ false → sum (λ l. indicator (b && same rest l)) (inserted i others) ≡ 0
+    none b e = rw e (sum-zero (inserted i others))
 
     cases : (b : Bool) → eqb i x ≡ b → (c : Bool) → eqb i y ≡ c → (d : Bool) → eqb x y ≡ d → indicator b + times i rest ≡ 1
         → indicator c + times i others ≡ 0
-        → (times i rest ≡ 1 → times i others ≡ 0 → howMany (same rest) (placed i others) ≡ indicator (same (without i rest) others))
-        → indicator (b && same rest (y ∷ others)) + sum (λ l. indicator (d && same rest l)) (placed i others)
+        → (times i rest ≡ 1 → times i others ≡ 0 → howMany (same rest) (inserted i others) ≡ indicator (same (without i rest) others))
+        → indicator (b && same rest (y ∷ others)) + sum (λ l. indicator (d && same rest l)) (inserted i others)
         ≡ indicator (same (cond b rest (x ∷ without i rest)) (y ∷ others))
     cases true e c f true g p q ih =
         absurd (omega (arith, ap indicator (sym f ∙ eq-eqb i y (eqb-true i x e ∙ eqb-true x y g))))
     cases true e c f false g p q ih =
         ap (λ (u : ℕ). indicator (same rest (y ∷ others)) + u) (none false refl) ∙ add-zero (indicator (same rest (y ∷ others)))
     cases false e c f true g p q ih =
-        zero-add (howMany (same rest) (placed i others)) ∙ ih (omega arith) (omega arith) ∙ rw g
+        zero-add (howMany (same rest) (inserted i others)) ∙ ih (omega arith) (omega arith) ∙ rw g
     cases false e c f false g p q ih = ap (λ (u : ℕ). 0 + u) (none false refl) ∙ rw g
 
 -- one position more
@@ -153,9 +153,9 @@ orders-once zero (x ∷ rest) h = absurd (omega (arith, h x, position-once 0 x, 
 orders-once (suc n) order h =
     let new : indicator (isPosition n (suc n)) ≡ 0 = rw (lt-leb (suc n) n (le-refl (suc n)), and-false (leb 1 (suc n))) in
     let last : times (suc n) order ≡ 1 = omega (arith, h (suc n), position-suc n (suc n), ap indicator (eq-eqb (suc n) (suc n) refl)) in
-    sum-flatMap (λ l. indicator (same order l)) (placed (suc n)) (orders n)
-    ∙ sum-same (λ list. howMany (same order) (placed (suc n) list)) (λ list. indicator (same (without (suc n) order) list)) (orders n)
-    (λ list m. placed-once (suc n) order list last (orders-only n list m (suc n) ∙ new))
+    sum-flatMap (λ l. indicator (same order l)) (inserted (suc n)) (orders n)
+    ∙ sum-same (λ list. howMany (same order) (inserted (suc n) list)) (λ list. indicator (same (without (suc n) order) list)) (orders n)
+    (λ list m. inserted-once (suc n) order list last (orders-only n list m (suc n) ∙ new))
     ∙ orders-once n (without (suc n) order) (λ i. omega (arith, h i, times-without (suc n) order last i, position-suc n i))
 
 same-is : (list other : List ℕ) → same list other ≡ true → list ≡ other

@@ -19,15 +19,15 @@ abbrev pub IsOrder : ℕ → List ℕ → Type 0
 IsOrder n list = (i : ℕ) → times i list ≡ indicator (isPosition n i)
 
 -- a position put in at each place of a list
-unfoldable pub placed : ℕ → List ℕ → List (List ℕ)
-placed i [] = (i ∷ []) ∷ []
-placed i (j ∷ rest) = (i ∷ j ∷ rest) ∷ map (λ list. j ∷ list) (placed i rest)
+unfoldable pub inserted : ℕ → List ℕ → List (List ℕ)
+inserted i [] = (i ∷ []) ∷ []
+inserted i (j ∷ rest) = (i ∷ j ∷ rest) ∷ map (λ list. j ∷ list) (inserted i rest)
 
 -- the failure orders of n positions: the last position put in at each place of each order of the others
 unfoldable pub orders : ℕ → List (List ℕ)
 unfolding flatMap
 orders zero = [] ∷ []
-orders (suc n) = flatMap (placed (suc n)) (orders n)
+orders (suc n) = flatMap (inserted (suc n)) (orders n)
 
 -- two lists have the same entries in the same order: by this test it is counted how often a list occurs among the orders
 unfoldable pub same : List ℕ → List ℕ → Bool

@@ -13,7 +13,7 @@ use Rattle.answer.specs.declared.Verdict.{Verdict}
 use Rattle.answer.specs.declared.Verdict.the-variants.{Accepted, Refused}
 use Rattle.parts.specs.declared.PartList.{PartList}
 use Rattle.numbering.specs.Numbering.{mostParts, topNumber, cellsOf, Rules, partListRefusal, highest}
-use Rattle.parts.specs.PartLists.{numbersOf, listOf, WellFormed, listed, made}
+use Rattle.parts.specs.PartLists.{numbersOf, listOf, WellFormed, listing, made}
 use Rattle.parts.proofs.Numbers.{rising-wider}
 use Rattle.parts.proofs.Marks.{rising-highest, highest-below}
 use Rattle.numbering.proofs.Rules.{accepted-rules, rules-accepted}
@@ -44,23 +44,23 @@ well-formed-list list w =
     ap₂ (λ (count : ℕ) (cells : List ℕ). record { count = count; mark = list .mark; numbers = cells })
     (sym (well-formed-counted list w)) (w .spare)
 
-listed-verdict : (v : Verdict) (list : PartList) → listed v list .verdict ≡ v
-listed-verdict Accepted list = refl
-listed-verdict (Refused refusal) list = refl
+listing-verdict : (v : Verdict) (list : PartList) → listing v list .verdict ≡ v
+listing-verdict Accepted list = refl
+listing-verdict (Refused refusal) list = refl
 
 -- numbers and a mark are accepted exactly if they keep the rules
 pub made-exactly : (mark : ℕ) (numbers : List ℕ) → (made mark numbers .verdict ≡ Accepted) ↔ Rules (length numbers) mark numbers
 unfolding made
 made-exactly mark numbers = (
-  λ e. accepted-rules (length numbers) mark numbers (sym (listed-verdict (partListRefusal (length numbers) mark numbers) (listOf mark numbers)) ∙ e),
-  λ r. listed-verdict (partListRefusal (length numbers) mark numbers) (listOf mark numbers) ∙ rules-accepted r,
+  λ e. accepted-rules (length numbers) mark numbers (sym (listing-verdict (partListRefusal (length numbers) mark numbers) (listOf mark numbers)) ∙ e),
+  λ r. listing-verdict (partListRefusal (length numbers) mark numbers) (listOf mark numbers) ∙ rules-accepted r,
 )
 
 -- they are then the mark and the numbers of the list that is made
 pub made-list : (mark : ℕ) (numbers : List ℕ) → made mark numbers .verdict ≡ Accepted → made mark numbers .list ≡ listOf mark numbers
 unfolding made
 made-list mark numbers e =
-    ap (λ (v : Verdict). listed v (listOf mark numbers) .list) (rules-accepted (made-exactly mark numbers .0 e))
+    ap (λ (v : Verdict). listing v (listOf mark numbers) .list) (rules-accepted (made-exactly mark numbers .0 e))
 
 -- which is well-formed
 pub made-well-formed : (mark : ℕ) (numbers : List ℕ) → made mark numbers .verdict ≡ Accepted → WellFormed (made mark numbers .list)
@@ -68,12 +68,12 @@ made-well-formed mark numbers e =
     rw (made-list mark numbers e) (list-well-formed mark numbers (made-exactly mark numbers .0 e))
 
 -- and every well-formed list is made, of its own mark and numbers
-pub well-formed-made : (list : PartList) → WellFormed list → made (list .mark) (numbersOf list) ≡ listed Accepted list
+pub well-formed-made : (list : PartList) → WellFormed list → made (list .mark) (numbersOf list) ≡ listing Accepted list
 unfolding made
 well-formed-made list w =
     let same = well-formed-list list w in
     let rules : Rules (length (numbersOf list)) (list .mark) (numbersOf list) = rw (well-formed-counted list w) (w .rules) in
-    ap (λ (v : Verdict). listed v (listOf (list .mark) (numbersOf list))) (rules-accepted rules) ∙ ap (listed Accepted) (sym same)
+    ap (λ (v : Verdict). listing v (listOf (list .mark) (numbersOf list))) (rules-accepted rules) ∙ ap (listing Accepted) (sym same)
 
 -- the numbers of a first list are accepted exactly if they keep the rules under the top number
 pub first-exactly : (numbers : List ℕ) → (made (highest numbers) numbers .verdict ≡ Accepted) ↔ Rules (length numbers) topNumber numbers

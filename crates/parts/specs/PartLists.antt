@@ -24,9 +24,9 @@ pub record WellFormed (list : PartList) : Type 0 where
   pub spare : list .numbers ≡ cellsOf (numbersOf list)
 
 -- What is made of numbers and a mark: the list that has them; or the refusal, with a list of no parts.
-abbrev pub listed : Verdict → PartList → Listed
-listed (Refused refusal) list = record { list = listOf 0 []; verdict = Refused refusal }
-listed Accepted list = record { list = list; verdict = Accepted }
+abbrev pub listing : Verdict → PartList → Listed
+listing (Refused refusal) list = record { list = listOf 0 []; verdict = Refused refusal }
+listing Accepted list = record { list = list; verdict = Accepted }
 
 unfoldable pub made : ℕ → List ℕ → Listed
-made mark numbers = listed (partListRefusal (length numbers) mark numbers) (listOf mark numbers)
+made mark numbers = listing (partListRefusal (length numbers) mark numbers) (listOf mark numbers)

@@ -30,7 +30,7 @@ use Rattle.codec.proofs.WriteAfterRead.{Bytes}
 use Rattle.parts.specs.declared.PartList.{PartList}
 use Rattle.parts.specs.PartLists.{listOf}
 use Rattle.sets.proofs.Bools.{clash}
-use Rattle.heading.specs.Headings.{Read, found, refused, then, judged, fieldAt, partCountRefusal, markRefusal, lastOf, partNumberRefusal, setCountRefusal, numbersAt, partsAt, Head, headAt}
+use Rattle.heading.specs.Headings.{Read, found, refused, then, judged, fieldAt, partCountRefusal, markRefusal, lastNumber, partNumberRefusal, setCountRefusal, numbersAt, partsAt, Head, headAt}
 use Rattle.record.specs.Records.{setRefusal, setsAt, Design, design, recordAt, alone, wholeRecord}
 use Rattle.record.specs.Contents.{wholeContents}
 use Rattle.heading.proofs.Found.{then-found, field-found}
@@ -58,9 +58,9 @@ module _ (bytes : List ℕ) (small : Bytes bytes) where
   unfolding numbersAt
   numbers-next mark zero earlier start numbers end e = let stays : start ≡ end = cc in omega arith
   numbers-next mark (suc more) earlier start numbers end e =
-      let a = then-found (fieldAt bytes start (partNumberRefusal mark (lastOf 0 earlier) start)) _ numbers end e in
+      let a = then-found (fieldAt bytes start (partNumberRefusal mark (lastNumber 0 earlier) start)) _ numbers end e in
       let later = numbers-next mark more (earlier ++ (a .0 ∷ [])) (a .1) numbers end (a .3) in
-      omega (arith, field-next start (partNumberRefusal mark (lastOf 0 earlier) start) (a .0) (a .1) (a .2))
+      omega (arith, field-next start (partNumberRefusal mark (lastNumber 0 earlier) start) (a .0) (a .1) (a .2))
 
   sets-next : (n more : ℕ) (earlier : List ℕ) (start : ℕ) (sets : List ℕ) (end : ℕ) → n ≤ 16 → setsAt bytes n more earlier start ≡ found sets end → end ≤ start + 3 * more
   unfolding setsAt
@@ -172,7 +172,7 @@ module _ (bytes : List ℕ) (small : Bytes bytes) (most : ℕ) (long : most ≤ 
   unfolding numbersAt
   numbers-first mark zero earlier start h = refl
   numbers-first mark (suc more) earlier start h =
-      let refusal = partNumberRefusal mark (lastOf 0 earlier) start in
+      let refusal = partNumberRefusal mark (lastNumber 0 earlier) start in
       then-alike (fieldAt bytes start refusal) (fieldAt (take most bytes) start refusal)
       (λ v next. numbersAt bytes mark more (earlier ++ (v ∷ [])) next) (λ v next. numbersAt (take most bytes) mark more (earlier ++ (v ∷ [])) next)
       (field-first start refusal (omega arith)) (λ v next e.

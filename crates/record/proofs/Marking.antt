@@ -28,7 +28,7 @@ use Rattle.sets.proofs.Masks.{join}
 use Rattle.sets.proofs.Ranges.{any-same}
 use Rattle.words.specs.Words.{wordsOf, among}
 use Rattle.words.proofs.Words.{wordsOf-none, wordsOf-same, marked-more}
-use Rattle.heading.specs.Headings.{Read, found, refused, fieldAt, lastOf}
+use Rattle.heading.specs.Headings.{Read, found, refused, fieldAt, lastNumber}
 use Rattle.record.specs.Steps.{risingRefusal, Pass, passed, passOn, risingAt, markedOf, nestedOn, nestedAt}
 use Rattle.heading.proofs.Found.{field-checked}
 use Rattle.heading.proofs.PartNumbers.{last-more}
@@ -67,7 +67,7 @@ rising-right n previous place set e =
 pub record Climb (bytes : List ℕ) (n more : ℕ) (earlier : List ℕ) (start : ℕ) : Type 0 where
   pub rest : List ℕ
   pub behind-earlier : risingAt bytes n more earlier start .sets ≡ earlier ++ rest
-  pub rising : RisingFrom (suc (lastOf 0 earlier)) rest
+  pub rising : RisingFrom (suc (lastNumber 0 earlier)) rest
   pub within : (a : ℕ) → List·Memᴰ a rest → (a < 2 ^ n) × (0 < a)
 
 split : (f : Read ℕ) → ((v : ℕ) × (next : ℕ) × (f ≡ found v next)) ⊎ ((why : Refusal) × (f ≡ refused why))
@@ -79,12 +79,12 @@ unfolding risingAt
 climb bytes n zero earlier start =
     record { rest = []; behind-earlier = sym (append-nil earlier); rising = tt; within = λ a m. absurd (List·Memᴰ·not-nil m) }
 climb bytes n (suc more) earlier start =
-    cases (split (fieldAt bytes start (risingRefusal n (lastOf 0 earlier) start))) (λ v next. climb bytes n more (earlier ++ (v ∷ [])) next)
+    cases (split (fieldAt bytes start (risingRefusal n (lastNumber 0 earlier) start))) (λ v next. climb bytes n more (earlier ++ (v ∷ [])) next)
   where
     later : ℕ → ℕ → Pass
     later v next = risingAt bytes n more (earlier ++ (v ∷ [])) next
 
-    cases : ((v : ℕ) × (next : ℕ) × (fieldAt bytes start (risingRefusal n (lastOf 0 earlier) start) ≡ found v next)) ⊎ ((why : Refusal) × (fieldAt bytes start (risingRefusal n (lastOf 0 earlier) start) ≡ refused why))
+    cases : ((v : ℕ) × (next : ℕ) × (fieldAt bytes start (risingRefusal n (lastNumber 0 earlier) start) ≡ found v next)) ⊎ ((why : Refusal) × (fieldAt bytes start (risingRefusal n (lastNumber 0 earlier) start) ≡ refused why))
         → ((v next : ℕ) → Climb bytes n more (earlier ++ (v ∷ [])) next) → Climb bytes n (suc more) earlier start
     cases (inr w) on =
         record {
@@ -96,7 +96,7 @@ climb bytes n (suc more) earlier start =
     cases (inl f) on =
         let v : ℕ = f .0 in
         let c = on v (f .1) in
-        let right = rising-right n (lastOf 0 earlier) start v (field-checked bytes start (risingRefusal n (lastOf 0 earlier) start) v (f .1) (f .2)) in
+        let right = rising-right n (lastNumber 0 earlier) start v (field-checked bytes start (risingRefusal n (lastNumber 0 earlier) start) v (f .1) (f .2)) in
         record {
           rest = v ∷ c .rest;
           behind-earlier = ap (λ (f : Read ℕ). passOn earlier start f later .sets) (f .2) ∙ c .behind-earlier ∙ append-assoc earlier (v ∷ []) (c .rest);
@@ -118,7 +118,7 @@ pub record MarkWalk (bytes : List ℕ) (n count start : ℕ) (words : List ℕ) 
   pub within : read ≤ count
   pub counted : length earlier ≡ read
   pub marks : words ≡ wordsOf (among earlier)
-  pub last : previous ≡ lastOf 0 earlier
+  pub last : previous ≡ lastNumber 0 earlier
   pub rest : risingAt bytes n (count - read) earlier next ≡ risingAt bytes n count [] start
 
 pub mark-walk-none : (bytes : List ℕ) (n count start : ℕ) → MarkWalk bytes n count start (replicate 1024 0) 0 start 0

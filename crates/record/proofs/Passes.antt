@@ -34,7 +34,7 @@ use Rattle.words.proofs.Words.{inWords-wordsOf}
 use Rattle.structure.proofs.Spread.{spread-listed}
 use Rattle.structure.proofs.Trimmed.{trimmed-minimal}
 use Rattle.structure.proofs.Walks.{trimmed-same, spread-same}
-use Rattle.heading.specs.Headings.{Read, found, then, unless, judged, fieldAt, lastOf}
+use Rattle.heading.specs.Headings.{Read, found, then, unless, judged, fieldAt, lastNumber}
 use Rattle.record.specs.Records.{misplaced, setRefusal, setsAt}
 use Rattle.record.specs.Steps.{risingRefusal, Pass, passed, passOn, risingAt, nestedOn, nestedAt, decided}
 use Rattle.record.proofs.Sets.{misplaced-none, none-misplaced, rising-before}
@@ -94,36 +94,36 @@ minimal-at n all earlier v rest rising within e = same-test (minimal n (listed a
 
 -- ---- one set in both passes
 
-last-in : (before : ℕ) (earlier : List ℕ) → (lastOf before earlier ≡ before) ⊎ List·Memᴰ (lastOf before earlier) earlier
+last-in : (before : ℕ) (earlier : List ℕ) → (lastNumber before earlier ≡ before) ⊎ List·Memᴰ (lastNumber before earlier) earlier
 last-in before [] = inl refl
 last-in before (x ∷ earlier) = cases (last-in x earlier)
   where
-    cases : (lastOf x earlier ≡ x) ⊎ List·Memᴰ (lastOf x earlier) earlier → (lastOf x earlier ≡ before) ⊎ List·Memᴰ (lastOf x earlier) (x ∷ earlier)
+    cases : (lastNumber x earlier ≡ x) ⊎ List·Memᴰ (lastNumber x earlier) earlier → (lastNumber x earlier ≡ before) ⊎ List·Memᴰ (lastNumber x earlier) (x ∷ earlier)
     cases (inl e) = inr (List·Memᴰ·head e)
     cases (inr m) = inr (List·Memᴰ·tail m)
 
 -- a set that is not above the last one is one that 24 refuses
-fallen : (earlier : List ℕ) (v : ℕ) → eqb v 0 ≡ false → leb v (lastOf 0 earlier) ≡ true → misplaced earlier v ≡ true
+fallen : (earlier : List ℕ) (v : ℕ) → eqb v 0 ≡ false → leb v (lastNumber 0 earlier) ≡ true → misplaced earlier v ≡ true
 fallen earlier v some low = cases (true-or-false (misplaced earlier v))
   where
     cases : (misplaced earlier v ≡ true) ⊎ (misplaced earlier v ≡ false) → misplaced earlier v ≡ true
     cases (inl t) = t
     cases (inr f) = place (last-in 0 earlier)
       where
-        place : (lastOf 0 earlier ≡ 0) ⊎ List·Memᴰ (lastOf 0 earlier) earlier → misplaced earlier v ≡ true
-        place (inl none) = absurd (eqb-false v 0 some (omega (arith, leb-true v (lastOf 0 earlier) low)))
-        place (inr m) = absurd (omega (arith, leb-true v (lastOf 0 earlier) low, misplaced-none earlier v f (lastOf 0 earlier) m .0))
+        place : (lastNumber 0 earlier ≡ 0) ⊎ List·Memᴰ (lastNumber 0 earlier) earlier → misplaced earlier v ≡ true
+        place (inl none) = absurd (eqb-false v 0 some (omega (arith, leb-true v (lastNumber 0 earlier) low)))
+        place (inr m) = absurd (omega (arith, leb-true v (lastNumber 0 earlier) low, misplaced-none earlier v f (lastNumber 0 earlier) m .0))
 
 -- what the two judgements of one set say: both pass on to 24 against all earlier ones, or both refuse alike
 abbrev Alike : ℕ → List ℕ → ℕ → ℕ → Type 0
 Alike n earlier start v =
-    ((risingRefusal n (lastOf 0 earlier) start v ≡ Accepted) × (setRefusal n earlier start v ≡ refuse (misplaced earlier v) wrongSet start Accepted))
-    ⊎ ((why : Refusal) × (risingRefusal n (lastOf 0 earlier) start v ≡ Refused why) × (setRefusal n earlier start v ≡ Refused why))
+    ((risingRefusal n (lastNumber 0 earlier) start v ≡ Accepted) × (setRefusal n earlier start v ≡ refuse (misplaced earlier v) wrongSet start Accepted))
+    ⊎ ((why : Refusal) × (risingRefusal n (lastNumber 0 earlier) start v ≡ Refused why) × (setRefusal n earlier start v ≡ Refused why))
 
 alike : (n : ℕ) (earlier : List ℕ) (start v : ℕ) → Alike n earlier start v
-alike n earlier start v = cases (leb (2 ^ n) v) (eqb v 0) refl (leb v (lastOf 0 earlier)) refl
+alike n earlier start v = cases (leb (2 ^ n) v) (eqb v 0) refl (leb v (lastNumber 0 earlier)) refl
   where
-    cases : (unknown empty : Bool) → eqb v 0 ≡ empty → (low : Bool) → leb v (lastOf 0 earlier) ≡ low
+    cases : (unknown empty : Bool) → eqb v 0 ≡ empty → (low : Bool) → leb v (lastNumber 0 earlier) ≡ low
         → ((refuse unknown unknownPart start (refuse empty emptySet start (refuse low wrongSet start Accepted)) ≡ Accepted) × (refuse unknown unknownPart start (refuse empty emptySet start (refuse (misplaced earlier v) wrongSet start Accepted)) ≡ refuse (misplaced earlier v) wrongSet start Accepted))
         ⊎ ((why : Refusal) × (refuse unknown unknownPart start (refuse empty emptySet start (refuse low wrongSet start Accepted)) ≡ Refused why) × (refuse unknown unknownPart start (refuse empty emptySet start (refuse (misplaced earlier v) wrongSet start Accepted)) ≡ Refused why))
     cases true empty z low l = inr (at unknownPart start, refl, refl)
@@ -161,12 +161,12 @@ module _ (bytes : List ℕ) (n : ℕ) (p : Pass) (kept : ℕ → Bool) (rising :
 
       number : ((v next : ℕ) → p ≡ later v next → Decides more (earlier ++ (v ∷ [])) next) → (r : Reading) → numberAt bytes start Record ≡ r → Decides (suc more) earlier start
       number on (reading.Refused why) read =
-          nothing-more (suc more) earlier start (Refused why) (e ∙ ap (λ (f : Reading). passOn earlier start (judged (risingRefusal n (lastOf 0 earlier) start) f) later) read)
+          nothing-more (suc more) earlier start (Refused why) (e ∙ ap (λ (f : Reading). passOn earlier start (judged (risingRefusal n (lastNumber 0 earlier) start) f) later) read)
           (ap (λ (f : Reading). then (judged (setRefusal n earlier start) f) goes-on) read)
       number on (reading.Number v next) read = verdicts (alike n earlier start v)
         where
-          pass-is : p ≡ passOn earlier start (unless (risingRefusal n (lastOf 0 earlier) start v) (found v next)) later
-          pass-is = e ∙ ap (λ (f : Reading). passOn earlier start (judged (risingRefusal n (lastOf 0 earlier) start) f) later) read
+          pass-is : p ≡ passOn earlier start (unless (risingRefusal n (lastNumber 0 earlier) start v) (found v next)) later
+          pass-is = e ∙ ap (λ (f : Reading). passOn earlier start (judged (risingRefusal n (lastNumber 0 earlier) start) f) later) read
 
           sets-are : setsAt bytes n (suc more) earlier start ≡ then (unless (setRefusal n earlier start v) (found v next)) goes-on
           sets-are = ap (λ (f : Reading). then (judged (setRefusal n earlier start) f) goes-on) read

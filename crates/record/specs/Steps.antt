@@ -16,7 +16,7 @@ use Rattle.words.specs.Words.{wordsOf, among}
 use Rattle.record.specs.declared.Marked.{Marked}
 use Rattle.record.specs.declared.Ending.{Ending}
 use Rattle.record.specs.declared.Ending.the-variants as ending
-use Rattle.heading.specs.Headings.{Read, found, refused, fieldAt, lastOf}
+use Rattle.heading.specs.Headings.{Read, found, refused, fieldAt, lastNumber}
 
 -- where the sets end, or a refusal
 abbrev pub endingOf : Read (List ℕ) → Ending
@@ -47,7 +47,7 @@ passOn earlier start (refused refusal) later = passed earlier start (verdict.Ref
 unfoldable pub risingAt : List ℕ → ℕ → ℕ → List ℕ → ℕ → Pass
 risingAt bytes n zero earlier start = passed earlier start verdict.Accepted
 risingAt bytes n (suc more) earlier start =
-    passOn earlier start (fieldAt bytes start (risingRefusal n (lastOf 0 earlier) start)) (λ set next.
+    passOn earlier start (fieldAt bytes start (risingRefusal n (lastNumber 0 earlier) start)) (λ set next.
     risingAt bytes n more (earlier ++ (set ∷ [])) next)
 
 -- the sets of a pass, marked

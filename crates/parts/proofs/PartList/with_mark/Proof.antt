@@ -11,7 +11,7 @@ use lib.ListN.{length, take}
 use Rattle.answer.specs.declared.Verdict.{Verdict}
 use Rattle.answer.specs.declared.Verdict.the-variants.{Accepted}
 use Rattle.numbering.specs.Numbering.{mostParts, cellsOf}
-use Rattle.parts.specs.PartLists.{listOf, listed, made}
+use Rattle.parts.specs.PartLists.{listOf, listing, made}
 use Rattle.parts.proofs.LeftOut.{without-none}
 use Rattle.numbering.proofs.InCells.{cells-few}
 use Rattle.numbering.proofs.Rules.{accepted-rules}
@@ -35,7 +35,7 @@ unfolding made
 returns c =
     let j = c .before .before .before in
     let a = j .before .before .args in
-    sym (ap (λ (v : Verdict). listed v (listOf (a .mark) (now (a .numbers)))) (sym (j .judge .ensures) ∙ c .before .verdict .given .1))
+    sym (ap (λ (v : Verdict). listing v (listOf (a .mark) (now (a .numbers)))) (sym (j .judge .ensures) ∙ c .before .verdict .given .1))
 
 returns-2 : tie.Need-returns-2
 unfolding made
@@ -47,7 +47,7 @@ returns-2 c =
     ap (λ (cells : List ℕ). record { list = record { count = length n; mark = a .mark; numbers = cells }; verdict = Accepted })
     (c .cells .ensures ∙ ap (λ (l : List ℕ). take mostParts (cellsOf l)) (without-none (length n) n (le-refl _))
     ∙ cells-few n (accepted-rules (length n) (a .mark) n accepted .few))
-    ∙ sym (ap (λ (v : Verdict). listed v (listOf (a .mark) n)) accepted)
+    ∙ sym (ap (λ (v : Verdict). listing v (listOf (a .mark) n)) accepted)
 
 pub with-mark-spec : {M : Type 1} → statement M
 with-mark-spec =

@@ -1,2 +1,4 @@
 pub mod Parts
 pub mod Walks
+pub mod ListedSets
+pub mod MinimalSets

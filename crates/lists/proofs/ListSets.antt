@@ -24,13 +24,20 @@ use Rattle.sets.proofs.Ranges.{below-or-above, those-same}
 use Rattle.sets.proofs.Structures.{minimalSets-same}
 use Rattle.structure.specs.Checks.{listRefusal}
 use Rattle.structure.proofs.Acceptance.{accepted-list, accepted-table, table-beyond, tableOf-accepted, list-works}
-use Rattle.structure.proofs.Spread.{spread-listed, spread-beyond}
+use Rattle.closure.proofs.ListedSets.{spread-listed, spread-beyond}
 use Rattle.structure.proofs.Walks.{trimmed-same, spread-same, minimal-walk}
 use Rattle.closure.specs.Closure.{spread, trimmed}
 use Rattle.words.specs.Words.{inWords, wordsOf, among}
 use Rattle.words.proofs.Words.{inWords-wordsOf}
 use Rattle.lists.specs.Lists.{withSetRefusal}
-use Rattle.lists.specs.Steps.{SomeSets, leastOf}
+use Rattle.lists.specs.Steps.{leastOf}
+
+-- some sets of n parts, none of them empty
+pub record SomeSets (n : ℕ) (sets : List ℕ) : Type 0 where
+  pub some : 1 ≤ n
+  pub few : n ≤ 16
+  pub any-set : 1 ≤ length sets
+  pub within : (set : ℕ) → List·Memᴰ set sets → (set < 2 ^ n) × (0 < set)
 
 -- the marked sets, carried over the parts and trimmed, are the minimal sets
 pub sets-walk : (n : ℕ) (sets : List ℕ) → SomeSets n sets

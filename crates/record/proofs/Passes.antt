@@ -31,8 +31,8 @@ use Rattle.sets.proofs.Structures.{minimal-least, minimal-intro}
 use Rattle.words.specs.Words.{inWords, wordsOf, among}
 use Rattle.closure.specs.Closure.{without, spread, trimmed}
 use Rattle.words.proofs.Words.{inWords-wordsOf}
-use Rattle.structure.proofs.Spread.{spread-listed}
-use Rattle.structure.proofs.Trimmed.{trimmed-minimal}
+use Rattle.closure.proofs.ListedSets.{spread-listed}
+use Rattle.closure.proofs.MinimalSets.{trimmed-minimal}
 use Rattle.structure.proofs.Walks.{trimmed-same, spread-same}
 use Rattle.heading.specs.Headings.{Read, found, then, unless, judged, fieldAt, lastNumber}
 use Rattle.record.specs.Records.{misplaced, setRefusal, setsAt}

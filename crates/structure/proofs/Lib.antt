@@ -1,4 +1,2 @@
-pub mod Spread
-pub mod Trimmed
 pub mod Acceptance
 pub mod Walks

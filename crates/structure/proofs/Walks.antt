@@ -23,8 +23,8 @@ use Rattle.sets.proofs.Tables.{packed-same, tableLength-small, tableLength-larg
 use Rattle.words.specs.Words.{inWords, wordsOf, among}
 use Rattle.closure.specs.Closure.{without, spread, trimmed}
 use Rattle.words.proofs.Words.{inWords-wordsOf}
-use Rattle.structure.proofs.Spread.{spread-listed, spread-beyond}
-use Rattle.structure.proofs.Trimmed.{trimmed-minimal}
+use Rattle.closure.proofs.ListedSets.{spread-listed, spread-beyond}
+use Rattle.closure.proofs.MinimalSets.{trimmed-minimal}
 use Rattle.structure.proofs.Acceptance.{AcceptedTable, AcceptedList, table-beyond}
 
 -- ---- set functions that agree on the masks of 16 parts

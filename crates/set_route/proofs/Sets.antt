@@ -174,3 +174,9 @@ module _ (n : ℕ) (works : ℕ → Bool) (group : ℕ) (few : n ≤ 16) (within
         gathered-list-few works (inside group) (takenBy n group) 17 20922789888000 (2 ^ n) i cells is (λ a l.
             takenBy-few n group a few (lt-of-lt-of-le within (pow-mono few)) (lt-of-lt-of-le l (pow-mono few))),
       )
+
+-- ---- the weights of all sizes
+
+pub listed-weight : (n : ℕ) (weights : List ℕ) → weights ≡ tabulate 18 (weight n) → (s t : ℕ) → s < 18 → s ≡ t → getD weights s 0 ≡ weight n t
+listed-weight n weights is s t below same =
+    ap (λ (l : List ℕ). getD l s 0) is ∙ tabulate-at 18 (weight n) s 0 below ∙ ap (weight n) same

@@ -39,16 +39,25 @@ fn write_by_sets(n: usize, table: &[u8], group: usize, shares: &mut [i64])
 {
     let m = group::size(group);
     let words = words::load(table);
+    let weights = weights(n);
     let mut added = [0u64; 17];
     let mut taken = [0u64; 17];
-    gather(n, &words, group, &mut added, &mut taken);
+    gather(n, &words, group, &weights, &mut added, &mut taken);
     write_differences(m, &added, &taken, shares);
 }
 
 // By the number of parts that a path set has in the group, what the path sets add to a share and what they take from one.
-fn gather(n: usize, words: &[u64], group: usize, added: &mut [u64], taken: &mut [u64])
+fn gather(
+    n: usize,
+    words: &[u64],
+    group: usize,
+    weights: &[u64; 18],
+    added: &mut [u64],
+    taken: &mut [u64],
+)
     requires { ⌜ n ≤ 16 ⌝ }
     requires { ⌜ group < 2 ^ n ⌝ }
+    requires { ⌜ now weights ≡ tabulate 18 (weightOf n) ⌝ }
     requires { ⌜ now added ≡ tabulate 17 (λ i. 0) ⌝ }
     requires { ⌜ now taken ≡ tabulate 17 (λ i. 0) ⌝ }
     ensures { λ _. ⌜ now (added .exit) ≡ tabulate 17 (gathered (inWords (now (words .entry))) (inside group) (addedBy n group) (2 ^ n)) ⌝ }
@@ -56,15 +65,24 @@ fn gather(n: usize, words: &[u64], group: usize, added: &mut [u64], taken: &mut 
 {
     let end = numbers::power(n);
     for a in 0..end {
-        add_set(n, words, group, a, added, taken);
+        add_set(n, words, group, weights, a, added, taken);
     }
 }
 
 // Adds the two amounts of a set, if it is a path set.
-fn add_set(n: usize, words: &[u64], group: usize, a: usize, added: &mut [u64], taken: &mut [u64])
+fn add_set(
+    n: usize,
+    words: &[u64],
+    group: usize,
+    weights: &[u64; 18],
+    a: usize,
+    added: &mut [u64],
+    taken: &mut [u64],
+)
     requires { ⌜ n ≤ 16 ⌝ }
     requires { ⌜ group < 65536 ⌝ }
     requires { ⌜ a < 65536 ⌝ }
+    requires { ⌜ now weights ≡ tabulate 18 (weightOf n) ⌝ }
     requires { ⌜ now added ≡ tabulate 17 (gathered (inWords (now words)) (inside group) (addedBy n group) a) ⌝ }
     requires { ⌜ now taken ≡ tabulate 17 (gathered (inWords (now words)) (inside group) (takenBy n group) a) ⌝ }
     ensures { λ _. ⌜ now (added .exit) ≡ tabulate 17 (gathered (inWords (now (words .entry))) (inside group) (addedBy n group) (a + 1)) ⌝ }
@@ -74,30 +92,44 @@ fn add_set(n: usize, words: &[u64], group: usize, a: usize, added: &mut [u64], t
         return;
     }
     let inside = group::size(a & group);
-    let gain = amount_added(n, group, a);
-    let loss = amount_taken(n, group, a);
+    let gain = amount_added(n, group, weights, a);
+    let loss = amount_taken(n, group, weights, a);
     group::add(added, inside, gain);
     group::add(taken, inside, loss);
 }
 
 // What a path set adds to the share for k = m - i + 1, where i of its parts are in the group.
-fn amount_added(n: usize, group: usize, a: usize) -> u64
+fn amount_added(n: usize, group: usize, weights: &[u64; 18], a: usize) -> u64
     requires { ⌜ n ≤ 16 ⌝ }
     requires { ⌜ group < 65536 ⌝ }
     requires { ⌜ a < 65536 ⌝ }
+    requires { ⌜ now weights ≡ tabulate 18 (weightOf n) ⌝ }
     ensures { λ r. ⌜ r ≡ addedBy n group a ⌝ }
 {
-    group::size(a & group) as u64 * weight(n, group::size(a))
+    group::size(a & group) as u64 * weights[group::size(a)]
 }
 
 // What a path set takes from the share for k = m - i, where i of its parts are in the group.
-fn amount_taken(n: usize, group: usize, a: usize) -> u64
+fn amount_taken(n: usize, group: usize, weights: &[u64; 18], a: usize) -> u64
     requires { ⌜ n ≤ 16 ⌝ }
     requires { ⌜ group < 65536 ⌝ }
     requires { ⌜ a < 65536 ⌝ }
+    requires { ⌜ now weights ≡ tabulate 18 (weightOf n) ⌝ }
     ensures { λ r. ⌜ r ≡ takenBy n group a ⌝ }
 {
-    (group::size(group) - group::size(a & group)) as u64 * weight(n, group::size(a) + 1)
+    (group::size(group) - group::size(a & group)) as u64 * weights[group::size(a) + 1]
+}
+
+// The weights of all sizes, from 0 on.
+fn weights(n: usize) -> [u64; 18]
+    requires { ⌜ n ≤ 16 ⌝ }
+    ensures { λ r. ⌜ r ≡ tabulate 18 (weightOf n) ⌝ }
+{
+    let mut weights = [0u64; 18];
+    for s in 0..18 {
+        weights[s] = weight(n, s);
+    }
+    weights
 }
 
 // (s-1)! × (n-s)! for the sizes s from 1 to n, and 0 for any other number.

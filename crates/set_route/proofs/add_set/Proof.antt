@@ -25,8 +25,8 @@ returns c =
     let a = start .args in
     let works = inWords (now (a .words)) in
     let none : works (a .a) ≡ false = sym (c .before .works .ensures) ∙ sym (not-not (c .before .works .result)) ∙ ap not (c .if1 .taken) in (
-      start .pre .1 .1 .1 .0 ∙ gathered-skip works (inside (a .group)) (addedBy (a .n) (a .group)) 17 (a .a) none,
-      start .pre .1 .1 .1 .1 ∙ gathered-skip works (inside (a .group)) (takenBy (a .n) (a .group)) 17 (a .a) none,
+      start .pre .1 .1 .1 .1 .0 ∙ gathered-skip works (inside (a .group)) (addedBy (a .n) (a .group)) 17 (a .a) none,
+      start .pre .1 .1 .1 .1 .1 ∙ gathered-skip works (inside (a .group)) (takenBy (a .n) (a .group)) 17 (a .a) none,
     )
 
 size-requires : tie.Need-size-requires
@@ -68,10 +68,10 @@ returns-2 c =
     let low : inside (a .group) (a .a) < 17 = omega (arith, inside-few (a .n) (a .group) (a .a) few within l) in (
       gathered-add works (inside (a .group)) (addedBy (a .n) (a .group)) 17 (a .a) 20922789888000
           (λ b h. addedBy-few (a .n) (a .group) b few within (omega (arith, l))) (omega (arith, l)) (now (a .added)) _ (sized .size .result)
-          (gained .amount-added .result) (start .pre .1 .1 .1 .0) path low (sized .size .ensures) (gained .amount-added .ensures) (adding .add .ensures),
+          (gained .amount-added .result) (start .pre .1 .1 .1 .1 .0) path low (sized .size .ensures) (gained .amount-added .ensures) (adding .add .ensures),
       gathered-add works (inside (a .group)) (takenBy (a .n) (a .group)) 17 (a .a) 20922789888000
           (λ b h. takenBy-few (a .n) (a .group) b few within (omega (arith, l))) (omega (arith, l)) (now (a .taken)) _ (sized .size .result)
-          (lost .amount-taken .result) (start .pre .1 .1 .1 .1) path low (sized .size .ensures) (lost .amount-taken .ensures) (taking .add2 .ensures),
+          (lost .amount-taken .result) (start .pre .1 .1 .1 .1 .1) path low (sized .size .ensures) (lost .amount-taken .ensures) (taking .add2 .ensures),
     )
 
 pub add-set-spec : {M : Type 1} → statement M

@@ -1,13 +1,15 @@
 -- `set_route::amount_taken` meets its contract: at most 16 parts times at most 15!.
 -- Assumes nothing.
 use mathlib.Core.Path.{_≡_, ap, ap₂, _∙_}
-use Prim.Native.Nat.{ℕ, _+_, _-_, _*_}
+use Prim.Native.Nat.{ℕ, _+_, _-_, _*_, _<_}
 use native.Mathlib.Omega.{arith}
+use denote.Ref.{now}
 use lib.Count.{ones-le}
+use lib.ListN.{getD}
 use borrow.Author.Needs.{needs}
 use Rattle.shares.proofs.Types.{inside-most}
-use Rattle.set_route.specs.Steps.{weight, takenBy}
-use Rattle.set_route.proofs.Sets.{takenBy-few}
+use Rattle.set_route.specs.Steps.{takenBy}
+use Rattle.set_route.proofs.Sets.{takenBy-few, listed-weight}
 use Rattle.set_route.proofs.amount_taken.Statement.{statement}
 use Rattle.set_route.proofs.amount_taken.Tie as tie
 
@@ -22,32 +24,39 @@ sub-result : tie.Need-sub-result
 sub-result c =
     let start = c .before .before in
     let a = start .args in
-    omega (arith, c .before .size .ensures, c .size2 .ensures, inside-most 16 (a .group) (a .a) (start .pre .1 .0) (start .pre .1 .1))
+    omega (arith, c .before .size .ensures, c .size2 .ensures, inside-most 16 (a .group) (a .a) (start .pre .1 .0) (start .pre .1 .1 .0))
 
 size-requires-3 : tie.Need-size-requires-3
 size-requires-3 c κs = search needs
 
-add-weight : tie.Need-add-weight
-add-weight c =
-    let start = c .before .before .before in
-    omega (arith, c .size3 .ensures, ones-le 16 (start .args .a) (start .pre .1 .1))
+-- no set has more than 16 parts
+few : (c : tie.After-size3) → c .size3 .result + 1 < 18
+few c = let start = c .before .before .before in omega (arith, c .size3 .ensures, ones-le 16 (start .args .a) (start .pre .1 .1 .0))
 
-weight-requires : tie.Need-weight-requires
-weight-requires c κs = search needs
+add-result : tie.Need-add-result
+add-result c = omega (arith, few c)
 
-product : (c : tie.After-weight)
-    → (c .before .before .before .size .result - c .before .before .size2 .result) * c .weight .result
+mul-result : tie.Need-mul-result
+mul-result c = record { fits = omega (arith, few c) }
+
+element-copy-out-result : tie.Need-element-copy-out-result
+element-copy-out-result c = few c
+
+product : (c : tie.After-result)
+    → (c .before .before .before .size .result - c .before .before .size2 .result) * getD (now (c .before .before .before .before .args .weights)) (c .before .size3 .result + 1) 0
     ≡ takenBy (c .before .before .before .before .args .n) (c .before .before .before .before .args .group) (c .before .before .before .before .args .a)
 unfolding takenBy
 product c =
-    ap₂ (λ (x y : ℕ). x * y) (ap₂ (λ (x y : ℕ). x - y) (c .before .before .before .size .ensures) (c .before .before .size2 .ensures))
-    (c .weight .ensures ∙ ap (λ (s : ℕ). weight (c .before .before .before .before .args .n) (s + 1)) (c .before .size3 .ensures))
+    let sized = c .before in
+    let start = sized .before .before .before in
+    ap₂ (λ (x y : ℕ). x * y) (ap₂ (λ (x y : ℕ). x - y) (sized .before .before .size .ensures) (sized .before .size2 .ensures))
+    (listed-weight (start .args .n) (now (start .args .weights)) (start .pre .1 .1 .1) (sized .size3 .result + 1) _ (few sized) (ap (λ (s : ℕ). s + 1) (sized .size3 .ensures)))
 
-mul-result : tie.Need-mul-result
-mul-result c =
+mul-result-2 : tie.Need-mul-result-2
+mul-result-2 c =
     let start = c .before .before .before .before in
     let a = start .args in
-    record { fits = omega (arith, product c, takenBy-few (a .n) (a .group) (a .a) (start .pre .0) (start .pre .1 .0) (start .pre .1 .1)) }
+    record { fits = omega (arith, product c, takenBy-few (a .n) (a .group) (a .a) (start .pre .0) (start .pre .1 .0) (start .pre .1 .1 .0)) }
 
 returns : tie.Need-returns
 returns c = product c
@@ -60,7 +69,8 @@ amount-taken-spec =
     size-requires-2
     sub-result
     size-requires-3
-    add-weight
-    weight-requires
+    add-result
     mul-result
+    element-copy-out-result
+    mul-result-2
     returns)

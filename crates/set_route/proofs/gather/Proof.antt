@@ -25,11 +25,11 @@ abbrev sums : List ℕ → ℕ → (ℕ → ℕ) → ℕ → List ℕ
 sums words group amount a = tabulate 17 (gathered (inWords words) (inside group) amount a)
 
 abbrev Inv-loop : tie.InvT-loop
-Inv-loop n words group added₀ taken₀ end a₀ added taken a =
+Inv-loop n words group weights added₀ taken₀ end a₀ added taken a =
     (end ≡ 2 ^ n) × ((a ≤ end) × ((added ≡ sums words group (addedBy n group) a) × (taken ≡ sums words group (takenBy n group) a)))
 
 abbrev μ-loop : tie.MeasureT-loop
-μ-loop n words group added₀ taken₀ end a₀ added taken a = end - a
+μ-loop n words group weights added₀ taken₀ end a₀ added taken a = end - a
 
 power-requires : tie.Need-power-requires Inv-loop μ-loop
 power-requires c κs = search needs
@@ -42,8 +42,8 @@ loop-holds c =
       (
         omega arith,
         (
-          start .pre .1 .1 .0 ∙ gathered-none (inWords (now (a .words))) (inside (a .group)) (addedBy (a .n) (a .group)) 17,
-          start .pre .1 .1 .1 ∙ gathered-none (inWords (now (a .words))) (inside (a .group)) (takenBy (a .n) (a .group)) 17,
+          start .pre .1 .1 .1 .0 ∙ gathered-none (inWords (now (a .words))) (inside (a .group)) (addedBy (a .n) (a .group)) 17,
+          start .pre .1 .1 .1 .1 ∙ gathered-none (inWords (now (a .words))) (inside (a .group)) (takenBy (a .n) (a .group)) 17,
         ),
       ),
     )
@@ -59,7 +59,7 @@ add-set-requires c κs =
         lt-of-lt-of-le (start .pre .1 .0) few,
         (
           lt-of-lt-of-le (subst (λ (e : ℕ). head .loop .a < e) (head .loop .inv .0) (turn .loop-test .taken)) few,
-          (head .loop .inv .1 .1 .0, head .loop .inv .1 .1 .1),
+          (start .pre .1 .1 .0, (head .loop .inv .1 .1 .0, head .loop .inv .1 .1 .1)),
         ),
       ),
     )
@@ -83,12 +83,12 @@ done c = le-antisymm (c .before .loop .inv .1 .0) (c .loop-test .left) ∙ c .be
 same-length : tie.Need-same-length Inv-loop μ-loop
 same-length c =
     let start = c .before .before .before .before .before .before in
-    ap length (c .before .loop .inv .1 .1 .0) ∙ tabulate-length 17 _ ∙ sym (ap length (start .pre .1 .1 .0) ∙ tabulate-length 17 _)
+    ap length (c .before .loop .inv .1 .1 .0) ∙ tabulate-length 17 _ ∙ sym (ap length (start .pre .1 .1 .1 .0) ∙ tabulate-length 17 _)
 
 same-length-2 : tie.Need-same-length-2 Inv-loop μ-loop
 same-length-2 c =
     let start = c .before .before .before .before .before .before in
-    ap length (c .before .loop .inv .1 .1 .1) ∙ tabulate-length 17 _ ∙ sym (ap length (start .pre .1 .1 .1) ∙ tabulate-length 17 _)
+    ap length (c .before .loop .inv .1 .1 .1) ∙ tabulate-length 17 _ ∙ sym (ap length (start .pre .1 .1 .1 .1) ∙ tabulate-length 17 _)
 
 returns : tie.Need-returns Inv-loop μ-loop
 returns c =

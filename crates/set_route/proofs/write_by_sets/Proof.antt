@@ -17,6 +17,9 @@ size-requires c κs = search needs
 load-requires : tie.Need-load-requires
 load-requires c κs = search needs
 
+weights-requires : tie.Need-weights-requires
+weights-requires c κs = search needs
+
 slice-aggregate-gather : tie.Need-slice-aggregate-gather
 slice-aggregate-gather c = search needs
 
@@ -29,8 +32,9 @@ slice-aggregate-gather-3 c = search needs
 gather-requires : tie.Need-gather-requires
 unfolding tabulate
 gather-requires c κs =
-    let start = c .before .before .before .before .before .before in
-    (start .pre .0, (start .pre .1 .0, (refl, refl)))
+    let weighed = c .before .before .before .before in
+    let start = weighed .before .before .before .before in
+    (start .pre .0, (start .pre .1 .0, (weighed .weights .ensures, (refl, refl))))
 
 slice-aggregate-write-differences : tie.Need-slice-aggregate-write-differences
 slice-aggregate-write-differences c = search needs
@@ -41,7 +45,7 @@ slice-aggregate-write-differences-2 c = search needs
 write-differences-requires : tie.Need-write-differences-requires
 write-differences-requires c κs =
     let gathered = c .before .before .before .before .before in
-    let loaded = gathered .before .before .before .before in
+    let loaded = gathered .before .before .before .before .before .before in
     let sized = loaded .before in
     let start = sized .before .before in
     let a = start .args in
@@ -60,7 +64,7 @@ returns : tie.Need-returns
 returns c =
     let written = c .before in
     let gathered = written .before .before .before .before .before .before in
-    let loaded = gathered .before .before .before .before in
+    let loaded = gathered .before .before .before .before .before .before in
     let sized = loaded .before in
     let start = sized .before .before in
     let a = start .args in
@@ -74,6 +78,7 @@ write-by-sets-spec =
     (tie.spec
     size-requires
     load-requires
+    weights-requires
     slice-aggregate-gather
     slice-aggregate-gather-2
     slice-aggregate-gather-3

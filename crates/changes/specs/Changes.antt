@@ -49,10 +49,12 @@ takeOutRefusal position d =
     (refuse (ltb (d .parts .count) position) unknownPosition 0
     (refuse (every (λ set. has set (position - 1)) (d .sets)) inEverySet 0 verdict.Accepted))
 
--- 4: bit n or above; 5: mask 0
+-- a set that is added to a machine of n parts, 4: bit n or above; 5: mask 0
+abbrev pub newSetRefusal : ℕ → ℕ → Verdict
+newSetRefusal n set = refuse (leb (2 ^ n) set) unknownPart 0 (refuse (eqb set 0) emptySet 0 verdict.Accepted)
+
 abbrev pub addSetRefusal : ℕ → Design → Verdict
-addSetRefusal set d =
-    refuse (leb (2 ^ (d .parts .count)) set) unknownPart 0 (refuse (eqb set 0) emptySet 0 verdict.Accepted)
+addSetRefusal set d = newSetRefusal (d .parts .count) set
 
 -- adding a part has the refusals of its part list: 19 before 20
 abbrev pub changeRefusal : Change → Design → Verdict

@@ -23,7 +23,7 @@ use Rattle.codec.proofs.Fields.{allowed}
 use Rattle.codec.proofs.ByteForms.{by-groups, bytes-small, bytes-large, bytes-some, bytes-at-most, length-small, length-large}
 use Rattle.codec.proofs.Groups.{carried-none, carried-some, carried-take}
 use Rattle.answer.proofs.Placing.{placed-fits}
-use Rattle.sets.proofs.Ranges.{below-or-above}
+use Rattle.theory_sets.proofs.Ranges.{below-or-above}
 use Rattle.codec.proofs.Readings.{found-last, ends-over}
 
 -- all bytes of a form but the last carry

@@ -22,7 +22,7 @@ use Rattle.codec.specs.ByteForm.{bytesOf}
 use Rattle.codec.specs.Reading.{carried, valueOf, least, check, refused, numberIn, numberAt}
 use Rattle.codec.proofs.ByteForms.{bytes-small, bytes-large}
 use Rattle.answer.proofs.Placing.{placed-fits}
-use Rattle.sets.proofs.Ranges.{below-or-above}
+use Rattle.theory_sets.proofs.Ranges.{below-or-above}
 use Rattle.codec.proofs.Groups.{carried-none, carried-some}
 
 -- every element is a byte, as it is in what a slice of bytes holds

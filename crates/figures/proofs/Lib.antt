@@ -1,10 +1,3 @@
-pub mod Binomials
-pub mod Holding
-pub mod Sizes
-pub mod Tails
-pub mod Supersets
-pub mod Dominations
-pub mod Inversion
-pub mod Importances
-pub mod Ranges
-pub mod Signs
+pub mod Machines
+pub mod Rooms
+pub mod Claims

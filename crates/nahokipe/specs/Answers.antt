@@ -8,14 +8,14 @@ use Rattle.answer.specs.declared.Verdict.the-variants as verdict
 use Rattle.answer.specs.declared.Written.{Written}
 use Rattle.answer.specs.declared.Written.the-variants as written
 use lib.IntN.{ℤ}
-use Rattle.signature.specs.All.{Buffers, AllOutcome}
-use Rattle.subsignature.specs.Both.{BothOutcome}
+use Rattle.figures.specs.All.{Buffers, AllOutcome}
+use Rattle.shares.specs.Both.{BothOutcome}
 use Rattle.record.specs.declared.Contents.{Contents}
 use Rattle.record.specs.declared.Step.{Step}
 use Rattle.record.specs.declared.Step.the-variants as step
 use Rattle.nahokipe.specs.declared.Answer.{Answer}
 use Rattle.nahokipe.specs.declared.Record.{Record}
-use Rattle.kind.specs.Kinds.{kindNumber}
+use Rattle.vector_kind.specs.Kinds.{kindNumber}
 use Rattle.sheet_entries.specs.declared.Received.{Received}
 use Rattle.sheet_entries.specs.Answers.{ReceivedOutcome}
 use Rattle.report_text.specs.Reporting.{ReportOutcome}

@@ -7,20 +7,20 @@ use record::Step;
 use sheet_entries::Received;
 ghost use mathlib.Core.Path.{_≡_};
 ghost use Rattle.answer.specs.Outcome.{delivered};
-ghost use Rattle.sets.specs.Structures.{listed, minimalSets};
-ghost use Rattle.sets.specs.Tables.{inTable, tableOf};
+ghost use Rattle.theory_sets.specs.Structures.{listed, minimalSets};
+ghost use Rattle.theory_sets.specs.Tables.{inTable, tableOf};
 ghost use Rattle.structure.specs.Checks.{listRefusal, tableRefusal};
-ghost use Rattle.figures.specs.Figures.{pathCounts, tails, signatures, dominations, importances};
-ghost use Rattle.signature.specs.All.{buffersOf, allFigures};
-ghost use Rattle.shares.specs.Refusals.{sharesRefusal};
-ghost use Rattle.shares.specs.Shares.{sharesBySets, sharesByReliability, reliabilityCells, groupCounts};
-ghost use Rattle.subsignature.specs.Both.{bothDelivered};
-ghost use Rattle.kind.specs.Kinds.{kindOf, kindRefusal};
-ghost use Rattle.conversion.specs.Vectors.{vectorRefusal, converted};
+ghost use Rattle.theory_figures.specs.Figures.{pathCounts, tails, signatures, dominations, importances};
+ghost use Rattle.figures.specs.All.{buffersOf, allFigures};
+ghost use Rattle.shares_claim.specs.Refusals.{sharesRefusal};
+ghost use Rattle.shares_claim.specs.Shares.{sharesBySets, sharesByReliability, reliabilityCells, groupCounts};
+ghost use Rattle.shares.specs.Both.{bothDelivered};
+ghost use Rattle.vector_kind.specs.Kinds.{kindOf, kindRefusal};
+ghost use Rattle.vector_conversion.specs.Vectors.{vectorRefusal, converted};
 ghost use Rattle.record.specs.Contents.{wholeContents, contentsAt, cursor, stepAt, recordRefusal, designIn};
 ghost use Rattle.answer.specs.Outcome.{at};
-ghost use Rattle.changes.specs.Changes.{addPart, takeOut, addSet};
-ghost use Rattle.changes.specs.Records.{firstRecord, changedRecord};
+ghost use Rattle.record_lines.specs.Changes.{addPart, takeOut, addSet};
+ghost use Rattle.record_lines.specs.Records.{firstRecord, changedRecord};
 ghost use Rattle.sheet.specs.Sheets.{sheetBytes, sheetOf};
 ghost use Rattle.sheet_entries.specs.Answers.{received};
 ghost use Rattle.report_lines.specs.Lines.{refusedLine};
@@ -88,7 +88,7 @@ pub extern "C" fn nahokipe_table_verdict(n: usize, table: &[u8]) -> Answer
 pub extern "C" fn nahokipe_table_of_list(n: usize, list: &[u16], table: &mut [u8]) -> Answer
     ensures { λ r. ⌜ Leaves (delivered (listRefusal n (now (list .entry))) (tableOf n (listed (now (list .entry)))) (now (table .entry))) r (now (table .exit)) ⌝ }
 {
-    of_written(forms::table_of_list(n, list, table))
+    of_written(structure_forms::table_of_list(n, list, table))
 }
 
 // The minimal path sets of a table.
@@ -96,7 +96,7 @@ pub extern "C" fn nahokipe_table_of_list(n: usize, list: &[u16], table: &mut [u8
 pub extern "C" fn nahokipe_minimal_sets(n: usize, table: &[u8], sets: &mut [u16]) -> Answer
     ensures { λ r. ⌜ Leaves (delivered (tableRefusal n (now (table .entry))) (minimalSets n (inTable (now (table .entry)))) (now (sets .entry))) r (now (sets .exit)) ⌝ }
 {
-    of_written(forms::minimal_sets(n, table, sets))
+    of_written(structure_forms::minimal_sets(n, table, sets))
 }
 
 // The path counts φ(0) to φ(n) of a table.
@@ -104,7 +104,7 @@ pub extern "C" fn nahokipe_minimal_sets(n: usize, table: &[u8], sets: &mut [u16]
 pub extern "C" fn nahokipe_path_counts(n: usize, table: &[u8], cells: &mut [i64]) -> Answer
     ensures { λ r. ⌜ Leaves (delivered (tableRefusal n (now (table .entry))) (pathCounts n (inTable (now (table .entry)))) (now (cells .entry))) r (now (cells .exit)) ⌝ }
 {
-    of_written(signature::path_counts(n, table, cells))
+    of_written(figures::path_counts(n, table, cells))
 }
 
 // The tail T(0) to T(n) of a table.
@@ -112,7 +112,7 @@ pub extern "C" fn nahokipe_path_counts(n: usize, table: &[u8], cells: &mut [i64]
 pub extern "C" fn nahokipe_tail(n: usize, table: &[u8], cells: &mut [i64]) -> Answer
     ensures { λ r. ⌜ Leaves (delivered (tableRefusal n (now (table .entry))) (tails n (inTable (now (table .entry)))) (now (cells .entry))) r (now (cells .exit)) ⌝ }
 {
-    of_written(signature::tail(n, table, cells))
+    of_written(figures::tail(n, table, cells))
 }
 
 // The signature N(1) to N(n) of a table.
@@ -120,7 +120,7 @@ pub extern "C" fn nahokipe_tail(n: usize, table: &[u8], cells: &mut [i64]) -> An
 pub extern "C" fn nahokipe_signature(n: usize, table: &[u8], cells: &mut [i64]) -> Answer
     ensures { λ r. ⌜ Leaves (delivered (tableRefusal n (now (table .entry))) (signatures n (inTable (now (table .entry)))) (now (cells .entry))) r (now (cells .exit)) ⌝ }
 {
-    of_written(signature::signature(n, table, cells))
+    of_written(figures::signature(n, table, cells))
 }
 
 // The domination d(0) to d(n) of a table.
@@ -128,7 +128,7 @@ pub extern "C" fn nahokipe_signature(n: usize, table: &[u8], cells: &mut [i64]) 
 pub extern "C" fn nahokipe_domination(n: usize, table: &[u8], cells: &mut [i64]) -> Answer
     ensures { λ r. ⌜ Leaves (delivered (tableRefusal n (now (table .entry))) (dominations n (inTable (now (table .entry)))) (now (cells .entry))) r (now (cells .exit)) ⌝ }
 {
-    of_written(signature::domination(n, table, cells))
+    of_written(figures::domination(n, table, cells))
 }
 
 // The Barlow-Proschan counts of all parts, by position.
@@ -136,7 +136,7 @@ pub extern "C" fn nahokipe_domination(n: usize, table: &[u8], cells: &mut [i64])
 pub extern "C" fn nahokipe_importance(n: usize, table: &[u8], cells: &mut [u64]) -> Answer
     ensures { λ r. ⌜ Leaves (delivered (tableRefusal n (now (table .entry))) (importances n (inTable (now (table .entry)))) (now (cells .entry))) r (now (cells .exit)) ⌝ }
 {
-    of_written(signature::importance(n, table, cells))
+    of_written(figures::importance(n, table, cells))
 }
 
 // The path counts, the signature, the domination and the importances of a table at once.
@@ -151,7 +151,7 @@ pub extern "C" fn nahokipe_figures(
 ) -> Answer
     ensures { λ r. ⌜ LeavesAll (allFigures n (now (table .entry)) (buffersOf (now (counts .entry)) (now (signature .entry)) (now (domination .entry)) (now (importance .entry)))) r (buffersOf (now (counts .exit)) (now (signature .exit)) (now (domination .exit)) (now (importance .exit))) ⌝ }
 {
-    of_verdict(signature::figures(n, table, counts, signature, domination, importance))
+    of_verdict(figures::figures(n, table, counts, signature, domination, importance))
 }
 
 // The shares of a group, set by set.
@@ -164,7 +164,7 @@ pub extern "C" fn nahokipe_shares_by_sets(
 ) -> Answer
     ensures { λ r. ⌜ Leaves (delivered (sharesRefusal n (now (table .entry)) group) (sharesBySets n (inTable (now (table .entry))) group) (now (cells .entry))) r (now (cells .exit)) ⌝ }
 {
-    of_written(set_route::shares_by_sets(n, table, group, cells))
+    of_written(shares_by_sets::shares_by_sets(n, table, group, cells))
 }
 
 // The shares of a group through h(x,z).
@@ -177,7 +177,7 @@ pub extern "C" fn nahokipe_shares_by_reliability(
 ) -> Answer
     ensures { λ r. ⌜ Leaves (delivered (sharesRefusal n (now (table .entry)) group) (sharesByReliability n (inTable (now (table .entry))) group) (now (cells .entry))) r (now (cells .exit)) ⌝ }
 {
-    of_written(reliability_route::shares_by_reliability(n, table, group, cells))
+    of_written(shares_by_polynomial::shares_by_reliability(n, table, group, cells))
 }
 
 // The coefficients of h(x,z), where x stands for the parts of the group.
@@ -190,7 +190,7 @@ pub extern "C" fn nahokipe_reliability(
 ) -> Answer
     ensures { λ r. ⌜ Leaves (delivered (sharesRefusal n (now (table .entry)) group) (reliabilityCells n (inTable (now (table .entry))) group) (now (cells .entry))) r (now (cells .exit)) ⌝ }
 {
-    of_written(reliability::reliability(n, table, group, cells))
+    of_written(shares_polynomial::reliability(n, table, group, cells))
 }
 
 // The shares of a group by both routes: the counts of failure orders, twice.
@@ -204,7 +204,7 @@ pub extern "C" fn nahokipe_shares_by_both_routes(
 ) -> Answer
     ensures { λ r. ⌜ LeavesBoth (bothDelivered (sharesRefusal n (now (table .entry)) group) (groupCounts n (inTable (now (table .entry))) group) (now (first .entry)) (now (second .entry))) r (now (first .exit)) (now (second .exit)) ⌝ }
 {
-    of_written(subsignature::shares_by_both_routes(n, table, group, first, second))
+    of_written(shares::shares_by_both_routes(n, table, group, first, second))
 }
 
 // The verdict on a vector, whose kind comes as a number.
@@ -288,7 +288,7 @@ pub extern "C" fn nahokipe_table_of_record(bytes: &[u8], table: &mut [u8]) -> An
 pub extern "C" fn nahokipe_first_record(n: usize, list: &[u16], buffer: &mut [u8]) -> Answer
     ensures { λ r. ⌜ Leaves (firstRecord n (now (list .entry)) (now (buffer .entry))) r (now (buffer .exit)) ⌝ }
 {
-    of_written(changing::first_record(n, list, buffer))
+    of_written(record_changes::first_record(n, list, buffer))
 }
 
 // A record with one part more.
@@ -296,7 +296,7 @@ pub extern "C" fn nahokipe_first_record(n: usize, list: &[u16], buffer: &mut [u8
 pub extern "C" fn nahokipe_add_part(bytes: &[u8], buffer: &mut [u8]) -> Answer
     ensures { λ r. ⌜ Leaves (changedRecord addPart (now (bytes .entry)) (now (buffer .entry))) r (now (buffer .exit)) ⌝ }
 {
-    of_written(changing::add_part(bytes, buffer))
+    of_written(record_changes::add_part(bytes, buffer))
 }
 
 // A record without the part at a position.
@@ -304,7 +304,7 @@ pub extern "C" fn nahokipe_add_part(bytes: &[u8], buffer: &mut [u8]) -> Answer
 pub extern "C" fn nahokipe_take_out(bytes: &[u8], position: usize, buffer: &mut [u8]) -> Answer
     ensures { λ r. ⌜ Leaves (changedRecord (takeOut position) (now (bytes .entry)) (now (buffer .entry))) r (now (buffer .exit)) ⌝ }
 {
-    of_written(changing::take_out(bytes, position, buffer))
+    of_written(record_changes::take_out(bytes, position, buffer))
 }
 
 // A record with one path set more.
@@ -312,7 +312,7 @@ pub extern "C" fn nahokipe_take_out(bytes: &[u8], position: usize, buffer: &mut 
 pub extern "C" fn nahokipe_add_set(bytes: &[u8], set: u16, buffer: &mut [u8]) -> Answer
     ensures { λ r. ⌜ Leaves (changedRecord (addSet set) (now (bytes .entry)) (now (buffer .entry))) r (now (buffer .exit)) ⌝ }
 {
-    of_written(changing::add_set(bytes, set, buffer))
+    of_written(record_changes::add_set(bytes, set, buffer))
 }
 
 // The report of a record, and the record's table.

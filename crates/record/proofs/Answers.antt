@@ -15,12 +15,12 @@ use Rattle.answer.specs.declared.Verdict.{Verdict}
 use Rattle.answer.specs.declared.Verdict.the-variants.{Accepted, Refused}
 use Rattle.record.specs.declared.Contents.{Contents}
 use Rattle.record.specs.declared.Ending.the-variants as ending
-use Rattle.heading.specs.Headings.{Read, found, refused, then, fieldAt, Head, headAt}
+use Rattle.record_head.specs.Headings.{Read, found, refused, then, fieldAt, Head, headAt}
 use Rattle.record.specs.Records.{setRefusal, setsAt, Design, recordAt, alone, wholeRecord}
 use Rattle.record.specs.Contents.{nothing, contentsOf, contentsAt, wholeContents}
 use Rattle.record.specs.Steps.{endingOf, passed, Pass, decided}
-use Rattle.heading.proofs.Found.{then-found}
-use Rattle.heading.proofs.Answers.{not-both}
+use Rattle.record_head.proofs.Found.{then-found}
+use Rattle.record_head.proofs.Answers.{not-both}
 
 -- the end of the sets
 pub ending-given : (read : Read (List ℕ)) (end : ℕ) → ending.At end ≡ endingOf read → (sets : List ℕ) × (read ≡ found sets end)

@@ -27,15 +27,15 @@ use Rattle.codec.proofs.ByteForms.{bytes-at-most}
 use Rattle.codec.proofs.ReadAfterWrite.{form-groups}
 use Rattle.codec.proofs.Window.{read-alike}
 use Rattle.codec.proofs.WriteAfterRead.{Bytes}
-use Rattle.parts.specs.declared.PartList.{PartList}
-use Rattle.parts.specs.PartLists.{listOf}
-use Rattle.sets.proofs.Bools.{clash}
-use Rattle.heading.specs.Headings.{Read, found, refused, then, judged, fieldAt, partCountRefusal, markRefusal, lastNumber, partNumberRefusal, setCountRefusal, numbersAt, partsAt, Head, headAt}
+use Rattle.record_parts.specs.declared.PartList.{PartList}
+use Rattle.record_parts.specs.PartLists.{listOf}
+use Rattle.theory_sets.proofs.Bools.{clash}
+use Rattle.record_head.specs.Headings.{Read, found, refused, then, judged, fieldAt, partCountRefusal, markRefusal, lastNumber, partNumberRefusal, setCountRefusal, numbersAt, partsAt, Head, headAt}
 use Rattle.record.specs.Records.{setRefusal, setsAt, Design, design, recordAt, alone, wholeRecord}
 use Rattle.record.specs.Contents.{wholeContents}
-use Rattle.heading.proofs.Found.{then-found, field-found}
-use Rattle.heading.proofs.PartNumbers.{count-few}
-use Rattle.heading.proofs.RoundTrip.{head-found}
+use Rattle.record_head.proofs.Found.{then-found, field-found}
+use Rattle.record_head.proofs.PartNumbers.{count-few}
+use Rattle.record_head.proofs.RoundTrip.{head-found}
 use Rattle.record.proofs.RoundTrip.{whole-found}
 use Rattle.record.proofs.Whole.{refused-contents}
 

@@ -6,11 +6,11 @@ use Prim.Native.Nat.{ℕ}
 use Rattle.answer.specs.Outcome.{at}
 use Rattle.codec.specs.Reading.{numberIn, numberAt}
 use Rattle.codec.specs.ByteForm.{grouped, bytesOf}
-use Rattle.parts.specs.PartLists.{listOf}
-use Rattle.sets.specs.Masks.{holds}
-use Rattle.heading.specs.Headings.{found, refused, fieldAt, numbersAt, partsAt, headAt}
+use Rattle.record_parts.specs.PartLists.{listOf}
+use Rattle.theory_sets.specs.Masks.{holds}
+use Rattle.record_head.specs.Headings.{found, refused, fieldAt, numbersAt, partsAt, headAt}
 use Rattle.record.specs.Records.{misplaced, setsAt, design, recordAt, wholeRecord}
-use Rattle.heading.specs.HeadingBytes.{formsOf, partsBytes, headBytes}
+use Rattle.record_head.specs.HeadingBytes.{formsOf, partsBytes, headBytes}
 use Rattle.record.specs.RecordBytes.{recordBytes}
 
 -- 01's bridge: 05 05 01 02 03 04 05 04 09 0E 12 15

@@ -23,15 +23,15 @@ use Rattle.codec.specs.declared.Field.the-variants.{Record}
 use Rattle.codec.specs.declared.Reading.{Reading}
 use Rattle.codec.specs.declared.Reading.the-variants as reading
 use Rattle.codec.specs.Reading.{numberAt}
-use Rattle.sets.specs.Masks.{any, RisingFrom}
-use Rattle.sets.proofs.Masks.{join}
-use Rattle.sets.proofs.Ranges.{any-same}
-use Rattle.words.specs.Words.{wordsOf, among}
-use Rattle.words.proofs.Words.{wordsOf-none, wordsOf-same, marked-more}
-use Rattle.heading.specs.Headings.{Read, found, refused, fieldAt, lastNumber}
+use Rattle.theory_sets.specs.Masks.{any, RisingFrom}
+use Rattle.theory_sets.proofs.Masks.{join}
+use Rattle.theory_sets.proofs.Ranges.{any-same}
+use Rattle.structure_words.specs.Words.{wordsOf, among}
+use Rattle.structure_words.proofs.Words.{wordsOf-none, wordsOf-same, marked-more}
+use Rattle.record_head.specs.Headings.{Read, found, refused, fieldAt, lastNumber}
 use Rattle.record.specs.Steps.{risingRefusal, Pass, passed, passOn, risingAt, markedOf, nestedOn, nestedAt}
-use Rattle.heading.proofs.Found.{field-checked}
-use Rattle.heading.proofs.PartNumbers.{last-more}
+use Rattle.record_head.proofs.Found.{field-checked}
+use Rattle.record_head.proofs.PartNumbers.{last-more}
 
 -- ---- a set more among those marked
 

@@ -4,10 +4,10 @@ use mathlib.Core.Path.{_≡_}
 use mathlib.Core.List.{List}
 use Prim.Native.Nat.{ℕ, _^_, _≤_}
 use Rattle.answer.specs.declared.Verdict.the-variants.{Accepted}
-use Rattle.sets.specs.Structures.{listed, minimal, minimalSets}
-use Rattle.sets.specs.Tables.{inTable, tableOf}
-use Rattle.sets.proofs.Ranges.{those-elim, those-rising}
-use Rattle.sets.proofs.Structures.{minimal-works, minimal-least}
+use Rattle.theory_sets.specs.Structures.{listed, minimal, minimalSets}
+use Rattle.theory_sets.specs.Tables.{inTable, tableOf}
+use Rattle.theory_sets.proofs.Ranges.{those-elim, those-rising}
+use Rattle.theory_sets.proofs.Structures.{minimal-works, minimal-least}
 use Rattle.structure.specs.Checks.{listRefusal, tableRefusal}
 use Rattle.structure.proofs.Acceptance.{AcceptedList, accepted-list, list-accepted, list-table, list-minimal, minimal-accepted}
 use Rattle.record.specs.Records.{Design}

@@ -21,20 +21,20 @@ use Rattle.codec.specs.declared.Field.the-variants.{Record}
 use Rattle.codec.specs.declared.Reading.{Reading}
 use Rattle.codec.specs.declared.Reading.the-variants as reading
 use Rattle.codec.specs.Reading.{numberAt}
-use Rattle.sets.specs.Masks.{has, holds, Rising, RisingFrom}
-use Rattle.sets.specs.Structures.{Semicoherent, listed, minimal}
-use Rattle.sets.proofs.Bools.{clash, false-of, true-or-false, same-test, not-not}
-use Rattle.sets.proofs.Lists.{listed-intro, listed-elim, listed-semicoherent}
-use Rattle.sets.proofs.Masks.{holds-refl, holds-trans, holds-le, holds-antisym}
-use Rattle.sets.proofs.Ranges.{any-same, rising-above}
-use Rattle.sets.proofs.Structures.{minimal-least, minimal-intro}
-use Rattle.words.specs.Words.{inWords, wordsOf, among}
-use Rattle.closure.specs.Closure.{without, spread, trimmed}
-use Rattle.words.proofs.Words.{inWords-wordsOf}
-use Rattle.closure.proofs.ListedSets.{spread-listed}
-use Rattle.closure.proofs.MinimalSets.{trimmed-minimal}
+use Rattle.theory_sets.specs.Masks.{has, holds, Rising, RisingFrom}
+use Rattle.theory_sets.specs.Structures.{Semicoherent, listed, minimal}
+use Rattle.theory_sets.proofs.Bools.{clash, false-of, true-or-false, same-test, not-not}
+use Rattle.theory_sets.proofs.Lists.{listed-intro, listed-elim, listed-semicoherent}
+use Rattle.theory_sets.proofs.Masks.{holds-refl, holds-trans, holds-le, holds-antisym}
+use Rattle.theory_sets.proofs.Ranges.{any-same, rising-above}
+use Rattle.theory_sets.proofs.Structures.{minimal-least, minimal-intro}
+use Rattle.structure_words.specs.Words.{inWords, wordsOf, among}
+use Rattle.structure_closure.specs.Closure.{without, spread, trimmed}
+use Rattle.structure_words.proofs.Words.{inWords-wordsOf}
+use Rattle.structure_closure.proofs.ListedSets.{spread-listed}
+use Rattle.structure_closure.proofs.MinimalSets.{trimmed-minimal}
 use Rattle.structure.proofs.Walks.{trimmed-same, spread-same}
-use Rattle.heading.specs.Headings.{Read, found, then, unless, judged, fieldAt, lastNumber}
+use Rattle.record_head.specs.Headings.{Read, found, then, unless, judged, fieldAt, lastNumber}
 use Rattle.record.specs.Records.{misplaced, setRefusal, setsAt}
 use Rattle.record.specs.Steps.{risingRefusal, Pass, passed, passOn, risingAt, nestedOn, nestedAt, decided}
 use Rattle.record.proofs.Sets.{misplaced-none, none-misplaced, rising-before}

@@ -14,13 +14,13 @@ use lib.Seq.{drop-length}
 use Rattle.answer.specs.Refusals.{bytesLeft}
 use Rattle.answer.specs.Outcome.{at}
 use Rattle.codec.proofs.WriteAfterRead.{Bytes}
-use Rattle.orders.specs.Antichains.{mostSets}
-use Rattle.heading.specs.Headings.{Read, found, refused, then, Head, headAt}
+use Rattle.theory_orders.specs.Antichains.{mostSets}
+use Rattle.record_head.specs.Headings.{Read, found, refused, then, Head, headAt}
 use Rattle.record.specs.Records.{setsAt, Design, design, recordAt, alone, wholeRecord}
-use Rattle.heading.specs.HeadingBytes.{formsOf, headBytes}
+use Rattle.record_head.specs.HeadingBytes.{formsOf, headBytes}
 use Rattle.record.specs.RecordBytes.{recordBytes, DesignRules}
-use Rattle.heading.proofs.Found.{then-found, Stands, stands-both, behind}
-use Rattle.heading.proofs.RoundTrip.{head-found, head-read}
+use Rattle.record_head.proofs.Found.{then-found, Stands, stands-both, behind}
+use Rattle.record_head.proofs.RoundTrip.{head-found, head-read}
 use Rattle.record.proofs.Sets.{Follow, follow-within, follow-rising, follow-apart, rules-follow, sets-found, sets-read}
 
 -- ---- the record

@@ -15,15 +15,15 @@ use lib.Pow.{pow-mono}
 use Rattle.answer.proofs.Outcomes.{refuse-accepted}
 use Rattle.codec.specs.ByteForm.{bytesOf}
 use Rattle.codec.proofs.WriteAfterRead.{Bytes}
-use Rattle.sets.specs.Masks.{holds, RisingFrom, Rising}
-use Rattle.sets.proofs.Bools.{clash, false-of}
-use Rattle.sets.proofs.Masks.{holds-le}
-use Rattle.sets.proofs.Ranges.{rising-above}
-use Rattle.heading.specs.Headings.{Read, found, then, fieldAt}
+use Rattle.theory_sets.specs.Masks.{holds, RisingFrom, Rising}
+use Rattle.theory_sets.proofs.Bools.{clash, false-of}
+use Rattle.theory_sets.proofs.Masks.{holds-le}
+use Rattle.theory_sets.proofs.Ranges.{rising-above}
+use Rattle.record_head.specs.Headings.{Read, found, then, fieldAt}
 use Rattle.record.specs.Records.{misplaced, setRefusal, setsAt}
-use Rattle.heading.specs.HeadingBytes.{formsOf}
+use Rattle.record_head.specs.HeadingBytes.{formsOf}
 use Rattle.record.specs.RecordBytes.{SetRules}
-use Rattle.heading.proofs.Found.{then-found, Stands, stands-none, stands-both, behind, field-found, field-read}
+use Rattle.record_head.proofs.Found.{then-found, Stands, stands-none, stands-both, behind, field-found, field-read}
 
 -- ---- 24
 

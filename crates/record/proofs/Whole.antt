@@ -19,18 +19,18 @@ use Rattle.codec.specs.Reading.{numberAt}
 use Rattle.codec.proofs.WriteAfterRead.{Bytes}
 use Rattle.record.specs.declared.Contents.{Contents}
 use Rattle.record.specs.declared.Step.the-variants.{Set, End}
-use Rattle.heading.specs.Headings.{Read, found, refused, then, fieldAt, Head, headAt}
+use Rattle.record_head.specs.Headings.{Read, found, refused, then, fieldAt, Head, headAt}
 use Rattle.record.specs.Records.{setRefusal, setsAt, Design, design, recordAt, alone, wholeRecord}
-use Rattle.heading.specs.HeadingBytes.{formsOf}
+use Rattle.record_head.specs.HeadingBytes.{formsOf}
 use Rattle.record.specs.RecordBytes.{DesignRules}
 use Rattle.record.specs.Contents.{nothing, contentsOf, wholeContents, recordRefusal, designOr, designIn, stretchOf, cursor, firstCursor, stepOn, stepFrom, stepAt, metIn}
 use Rattle.record.specs.Steps.{Pass, passed, risingAt, nestedAt, decided}
-use Rattle.heading.proofs.Found.{then-found, field-number, Stands}
+use Rattle.record_head.proofs.Found.{then-found, field-number, Stands}
 use Rattle.record.proofs.RoundTrip.{record-found, whole-found}
 use Rattle.record.proofs.MinimalSets.{rules-accepted-list}
 use Rattle.record.proofs.Passes.{passes-decide}
-use Rattle.words.specs.Words.{inWords, wordsOf, among}
-use Rattle.closure.specs.Closure.{spread, trimmed}
+use Rattle.structure_words.specs.Words.{inWords, wordsOf, among}
+use Rattle.structure_closure.specs.Closure.{spread, trimmed}
 use Rattle.structure.proofs.Acceptance.{AcceptedList}
 
 -- ---- accepted or refused

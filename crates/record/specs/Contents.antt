@@ -9,12 +9,12 @@ use Rattle.codec.specs.declared.Field.the-variants.{Record}
 use Rattle.codec.specs.declared.Reading.{Reading}
 use Rattle.codec.specs.declared.Reading.the-variants as reading
 use Rattle.codec.specs.Reading.{numberAt}
-use Rattle.parts.specs.PartLists.{listOf}
+use Rattle.record_parts.specs.PartLists.{listOf}
 use Rattle.record.specs.declared.Contents.{Contents}
 use Rattle.record.specs.declared.Cursor.{Cursor}
 use Rattle.record.specs.declared.Step.{Step}
 use Rattle.record.specs.declared.Step.the-variants.{Set, End}
-use Rattle.heading.specs.Headings.{Read, found, refused, Head, headAt}
+use Rattle.record_head.specs.Headings.{Read, found, refused, Head, headAt}
 use Rattle.record.specs.Records.{Design, design, recordAt, wholeRecord}
 
 -- of a refused record: the refusal, a list of no parts and an empty stretch

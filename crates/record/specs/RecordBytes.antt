@@ -4,10 +4,10 @@ use mathlib.Core.List.{List, _++_, List·Memᴰ}
 use mathlib.Core.Path.{_≡_}
 use Prim.Native.Nat.{ℕ, _^_, _≤_, _<_}
 use lib.ListN.{length}
-use Rattle.orders.specs.Antichains.{mostSets}
-use Rattle.parts.specs.PartLists.{WellFormed}
-use Rattle.sets.specs.Masks.{holds, Rising}
-use Rattle.heading.specs.HeadingBytes.{formsOf, headBytes}
+use Rattle.theory_orders.specs.Antichains.{mostSets}
+use Rattle.record_parts.specs.PartLists.{WellFormed}
+use Rattle.theory_sets.specs.Masks.{holds, Rising}
+use Rattle.record_head.specs.HeadingBytes.{formsOf, headBytes}
 use Rattle.record.specs.Records.{Design}
 
 -- n; the mark; n part numbers; the count of minimal sets; and then the sets

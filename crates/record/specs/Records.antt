@@ -9,9 +9,9 @@ use Rattle.answer.specs.Refusals.{unknownPart, emptySet, wrongSet, bytesLeft}
 use Rattle.answer.specs.Outcome.{at, refuse}
 use Rattle.answer.specs.declared.Verdict.{Verdict}
 use Rattle.answer.specs.declared.Verdict.the-variants as verdict
-use Rattle.parts.specs.declared.PartList.{PartList}
-use Rattle.sets.specs.Masks.{holds}
-use Rattle.heading.specs.Headings.{Read, found, refused, then, fieldAt, headAt}
+use Rattle.record_parts.specs.declared.PartList.{PartList}
+use Rattle.theory_sets.specs.Masks.{holds}
+use Rattle.record_head.specs.Headings.{Read, found, refused, then, fieldAt, headAt}
 
 -- ---- the checks of a set, with its first byte as place
 

@@ -12,11 +12,11 @@ use Rattle.codec.specs.declared.Field.the-variants.{Record}
 use Rattle.codec.specs.declared.Reading.{Reading}
 use Rattle.codec.specs.declared.Reading.the-variants as reading
 use Rattle.codec.specs.Reading.{numberAt}
-use Rattle.words.specs.Words.{wordsOf, among}
+use Rattle.structure_words.specs.Words.{wordsOf, among}
 use Rattle.record.specs.declared.Marked.{Marked}
 use Rattle.record.specs.declared.Ending.{Ending}
 use Rattle.record.specs.declared.Ending.the-variants as ending
-use Rattle.heading.specs.Headings.{Read, found, refused, fieldAt, lastNumber}
+use Rattle.record_head.specs.Headings.{Read, found, refused, fieldAt, lastNumber}
 
 -- where the sets end, or a refusal
 abbrev pub endingOf : Read (List ℕ) → Ending

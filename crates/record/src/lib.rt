@@ -4,19 +4,19 @@ use answer::Verdict;
 use answer::Written;
 use codec::Field;
 use codec::Reading;
-use parts::PartList;
+use record_parts::PartList;
 ghost use mathlib.Core.Path.{_≡_};
 ghost use mathlib.Core.List.{[]};
 ghost use Prim.Native.Nat.{_+_, _≤_, _<_};
 ghost use denote.Ref.{ptr};
 ghost use Rattle.answer.specs.Outcome.{at, outcome, delivered};
-ghost use Rattle.sets.specs.Structures.{listed};
-ghost use Rattle.sets.specs.Tables.{tableOf};
-ghost use Rattle.words.specs.Words.{inWords};
-ghost use Rattle.heading.specs.Headings.{fieldAt};
+ghost use Rattle.theory_sets.specs.Structures.{listed};
+ghost use Rattle.theory_sets.specs.Tables.{tableOf};
+ghost use Rattle.structure_words.specs.Words.{inWords};
+ghost use Rattle.record_head.specs.Headings.{fieldAt};
 ghost use Rattle.record.specs.Records.{setsAt};
 ghost use Rattle.record.specs.Contents.{nothing, contentsAt, wholeContents, recordRefusal, designIn, stretchOf, firstCursor, stepAt};
-ghost use Rattle.heading.specs.Steps.{asRead};
+ghost use Rattle.record_head.specs.Steps.{asRead};
 ghost use Rattle.record.specs.Steps.{endingOf, risingRefusal, risingAt, markedOf, nestedAt};
 
 // What reading a record finds: its part list, the number of its sets, and where their bytes begin and end, which is where the record ends.
@@ -60,7 +60,7 @@ enum Ending {
 pub fn read_record(bytes: &[u8], start: usize) -> Contents
     ensures { λ r. ⌜ r ≡ contentsAt (now (bytes .entry)) start ⌝ }
 {
-    let heading = heading::read_heading(bytes, start);
+    let heading = record_head::read_heading(bytes, start);
     let verdict = heading.verdict;
     match verdict {
         Verdict::Refused(refusal) => refused_contents(refusal.number, refusal.place),
@@ -164,8 +164,8 @@ pub fn table_of_record(bytes: &[u8], table: &mut [u8]) -> Written
             }
             let marked = mark_sets(bytes, contents.begin, n, contents.sets);
             let words = marked.words;
-            let reached = closure::carried(&words, n);
-            words::store(&reached, &mut table[..needed]);
+            let reached = structure_closure::carried(&words, n);
+            structure_words::store(&reached, &mut table[..needed]);
             Written::Length(needed)
         }
     }
@@ -218,8 +218,8 @@ fn read_sets(bytes: &[u8], start: usize, n: usize, count: usize) -> Ending
 {
     let marked = mark_sets(bytes, start, n, count);
     let words = marked.words;
-    let reached = closure::carried(&words, n);
-    let minimal = closure::trimmed(&reached, n);
+    let reached = structure_closure::carried(&words, n);
+    let minimal = structure_closure::trimmed(&reached, n);
     let nested = first_nested(bytes, start, marked.read, &minimal);
     if let Verdict::Refused(refusal) = nested {
         return Ending::Refused(refusal);
@@ -279,7 +279,7 @@ fn first_nested(bytes: &[u8], start: usize, count: usize, minimal: &[u64]) -> Ve
         let Reading::Number { value, next: after } = number else {
             return Verdict::Accepted;
         };
-        if !words::works(minimal, value as usize) {
+        if !structure_words::works(minimal, value as usize) {
             return answer::refused(answer::WRONG_SET, next);
         }
         next = after;

@@ -15,15 +15,15 @@ use Rattle.answer.specs.declared.Written.{Written}
 use Rattle.answer.specs.declared.Written.the-variants.{Length, Refused}
 use Rattle.answer.proofs.Deliveries.{Given, given, refused-by}
 use Rattle.codec.proofs.WriteAfterRead.{Bytes}
-use Rattle.sets.specs.Structures.{listed}
-use Rattle.sets.specs.Tables.{tableOf}
-use Rattle.sets.proofs.Ranges.{below-or-above}
-use Rattle.sets.proofs.Tables.{tableOf-length, tableLength-small, tableLength-large}
+use Rattle.theory_sets.specs.Structures.{listed}
+use Rattle.theory_sets.specs.Tables.{tableOf}
+use Rattle.theory_sets.proofs.Ranges.{below-or-above}
+use Rattle.theory_sets.proofs.Tables.{tableOf-length, tableLength-small, tableLength-large}
 use Rattle.record.specs.declared.Contents.{Contents}
-use Rattle.heading.specs.Headings.{Read, found, refused, Head, headAt}
+use Rattle.record_head.specs.Headings.{Read, found, refused, Head, headAt}
 use Rattle.record.specs.Records.{Design, wholeRecord}
 use Rattle.record.specs.RecordBytes.{DesignRules}
-use Rattle.heading.specs.Headings.{headingOf}
+use Rattle.record_head.specs.Headings.{headingOf}
 use Rattle.record.specs.Contents.{recordRefusal, designOr, designIn}
 use Rattle.record.proofs.Whole.{design-read, refused-contents}
 

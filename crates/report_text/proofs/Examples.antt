@@ -6,15 +6,15 @@ use Prim.Native.Nat.{ℕ}
 use lib.Count.{ones, onesIn}
 use lib.IntN.{pow, one}
 use Rattle.numbers.specs.Counts.{choose}
-use Rattle.algebra.specs.Sums.{sum, some, sumBelow, sumBelowℤ}
-use Rattle.sets.specs.Masks.{has, holds}
-use Rattle.sets.specs.Structures.{listed}
-use Rattle.orders.specs.Orders.{inserted, orders, mask}
-use Rattle.orders.specs.Counting.{entries, stops, inGroup, stopsAsKth, count}
-use Rattle.orders.specs.Formulas.{pathCount}
+use Rattle.theory_sums.specs.Sums.{sum, some, sumBelow, sumBelowℤ}
+use Rattle.theory_sets.specs.Masks.{has, holds}
+use Rattle.theory_sets.specs.Structures.{listed}
+use Rattle.theory_orders.specs.Orders.{inserted, orders, mask}
+use Rattle.theory_orders.specs.Counting.{entries, stops, inGroup, stopsAsKth, count}
+use Rattle.theory_orders.specs.Formulas.{pathCount}
 use Rattle.codec.specs.Reading.{numberIn, numberAt}
-use Rattle.figures.specs.Figures.{domination}
-use Rattle.heading.specs.Headings.{fieldAt, numbersAt, partsAt, headAt}
+use Rattle.theory_figures.specs.Figures.{domination}
+use Rattle.record_head.specs.Headings.{fieldAt, numbersAt, partsAt, headAt}
 use Rattle.record.specs.Records.{misplaced, setsAt, recordAt, wholeRecord}
 use Rattle.text.specs.Texts.{ascii, spelled, decimal, signed, lines}
 use Rattle.report_lines.specs.Lines.{headLine, restOfLine, refusedLine}

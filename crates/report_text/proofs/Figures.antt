@@ -14,35 +14,35 @@ use lib.Seq.{getD-take, getD-drop}
 use Rattle.numbers.specs.Counts.{factorial}
 use Rattle.numbers.specs.Tables.{tabulate}
 use Rattle.numbers.proofs.Tables.{tabulate-length, tabulate-at}
-use Rattle.algebra.specs.Sums.{indicator}
-use Rattle.algebra.proofs.Sums.{sumBelow-same}
-use Rattle.sets.specs.Masks.{has, size}
-use Rattle.sets.specs.Structures.{Semicoherent, listed}
-use Rattle.sets.specs.Tables.{inTable, tableOf}
-use Rattle.sets.proofs.Bools.{true-or-false}
-use Rattle.sets.proofs.Masks.{add-below}
-use Rattle.sets.proofs.Structures.{semicoherent-same}
-use Rattle.orders.specs.Counting.{count}
-use Rattle.orders.specs.Formulas.{pathCount}
+use Rattle.theory_sums.specs.Sums.{indicator}
+use Rattle.theory_sums.proofs.Sums.{sumBelow-same}
+use Rattle.theory_sets.specs.Masks.{has, size}
+use Rattle.theory_sets.specs.Structures.{Semicoherent, listed}
+use Rattle.theory_sets.specs.Tables.{inTable, tableOf}
+use Rattle.theory_sets.proofs.Bools.{true-or-false}
+use Rattle.theory_sets.proofs.Masks.{add-below}
+use Rattle.theory_sets.proofs.Structures.{semicoherent-same}
+use Rattle.theory_orders.specs.Counting.{count}
+use Rattle.theory_orders.specs.Formulas.{pathCount}
 use Rattle.answer.specs.Outcome.{andThen}
 use Rattle.answer.specs.declared.Verdict.{Verdict}
 use Rattle.answer.specs.declared.Verdict.the-variants.{Accepted}
 use Rattle.structure.specs.Checks.{tableRefusal}
 use Rattle.structure.proofs.Acceptance.{accepted-table, list-works}
-use Rattle.parts.specs.declared.PartList.{PartList}
-use Rattle.figures.specs.Figures.{signature, domination, importance, signatures, dominations, importances}
-use Rattle.signature.specs.All.{buffersOf, roomRefusal, deliveredAll, allFigures}
-use Rattle.signature.proofs.Rooms.{room-enough}
-use Rattle.figures.proofs.Tails.{signature-is-count}
-use Rattle.figures.proofs.Importances.{importance-is-count}
+use Rattle.record_parts.specs.declared.PartList.{PartList}
+use Rattle.theory_figures.specs.Figures.{signature, domination, importance, signatures, dominations, importances}
+use Rattle.figures.specs.All.{buffersOf, roomRefusal, deliveredAll, allFigures}
+use Rattle.figures.proofs.Rooms.{room-enough}
+use Rattle.theory_figures.proofs.Tails.{signature-is-count}
+use Rattle.theory_figures.proofs.Importances.{importance-is-count}
 use Rattle.record.specs.Records.{Design}
 use Rattle.record.specs.RecordBytes.{DesignRules}
 use Rattle.record.proofs.MinimalSets.{design-table}
 use Rattle.text.specs.Texts.{decimal, signed, lines}
 use Rattle.report_text.specs.Reports.{firstLine, orderLine, domLine, partLine, reportOf}
 use Rattle.report_lines.specs.Lines.{headLine, figureLine}
-use Rattle.figures_text.specs.FiguresText.{cellLine, countLine, linesBy, textBy}
-use Rattle.figures_text.proofs.Blocks.{lines-same, few-parts}
+use Rattle.report_figures.specs.FiguresText.{cellLine, countLine, linesBy, textBy}
+use Rattle.report_figures.proofs.Blocks.{lines-same, few-parts}
 use Rattle.report_text.specs.Steps.{tableText}
 
 -- ---- the cells of a vector in front of an array

@@ -8,9 +8,9 @@ use Rattle.answer.specs.Refusals.{shortBuffer}
 use Rattle.answer.specs.Outcome.{at}
 use Rattle.answer.specs.declared.Written.{Written}
 use Rattle.answer.specs.declared.Written.the-variants.{Length, Refused}
-use Rattle.sets.specs.Structures.{listed}
-use Rattle.sets.specs.Tables.{tableOf}
-use Rattle.heading.specs.Headings.{Read, found, refused}
+use Rattle.theory_sets.specs.Structures.{listed}
+use Rattle.theory_sets.specs.Tables.{tableOf}
+use Rattle.record_head.specs.Headings.{Read, found, refused}
 use Rattle.record.specs.Records.{Design, wholeRecord}
 use Rattle.report_text.specs.Reports.{reportOf}
 

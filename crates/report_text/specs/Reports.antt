@@ -3,12 +3,12 @@
 use mathlib.Core.List.{List, _++_}
 use Prim.Native.Nat.{ℕ, _-_, _^_}
 use lib.ListN.{length, getD}
-use Rattle.sets.specs.Structures.{listed}
-use Rattle.orders.specs.Counting.{count}
-use Rattle.orders.specs.Formulas.{pathCount}
-use Rattle.parts.specs.PartLists.{numbersOf}
-use Rattle.figures.specs.Figures.{domination}
-use Rattle.heading.specs.Headings.{Read, found, refused}
+use Rattle.theory_sets.specs.Structures.{listed}
+use Rattle.theory_orders.specs.Counting.{count}
+use Rattle.theory_orders.specs.Formulas.{pathCount}
+use Rattle.record_parts.specs.PartLists.{numbersOf}
+use Rattle.theory_figures.specs.Figures.{domination}
+use Rattle.record_head.specs.Headings.{Read, found, refused}
 use Rattle.record.specs.Records.{Design, wholeRecord}
 use Rattle.text.specs.Texts.{decimal, signed, lines}
 use Rattle.report_lines.specs.Lines.{headLine, figureLine, refusedLine}

@@ -3,9 +3,9 @@ use mathlib.Core.Bool.{Bool}
 use mathlib.Core.List.{List, _++_}
 use Prim.Native.Nat.{ℕ, _-_}
 use lib.ListN.{getD}
-use Rattle.orders.specs.Formulas.{pathCount}
-use Rattle.parts.specs.declared.PartList.{PartList}
-use Rattle.figures.specs.Figures.{signature, domination, importance}
+use Rattle.theory_orders.specs.Formulas.{pathCount}
+use Rattle.record_parts.specs.declared.PartList.{PartList}
+use Rattle.theory_figures.specs.Figures.{signature, domination, importance}
 use Rattle.text.specs.Texts.{decimal, signed, lines}
 use Rattle.report_lines.specs.Lines.{headLine, figureLine}
 

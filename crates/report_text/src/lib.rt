@@ -1,14 +1,14 @@
 // The report of a design record (01, "The report program").
 use answer::Verdict;
 use answer::Written;
-use parts::PartList;
+use record_parts::PartList;
 ghost use mathlib.Core.Path.{_≡_};
 ghost use Prim.Native.Nat.{_≤_};
 ghost use lib.Dec.{leb};
 ghost use lib.ListN.{length};
 ghost use Rattle.answer.specs.Placed.{leaves, placed};
 ghost use Rattle.record.specs.Contents.{designIn};
-ghost use Rattle.sets.specs.Tables.{inTable};
+ghost use Rattle.theory_sets.specs.Tables.{inTable};
 ghost use Rattle.structure.specs.Checks.{tableRefusal};
 ghost use Rattle.report_text.specs.Reports.{reportOf};
 ghost use Rattle.report_text.specs.Reporting.{reportOutcome, handedOut, reported};
@@ -25,7 +25,7 @@ pub fn report(bytes: &[u8], table: &mut [u8], text: &mut [u8]) -> Written
     match built {
         Written::Refused(refusal) => Written::Refused(refusal),
         Written::Length(size) => {
-            let heading = heading::read_heading(bytes, 0);
+            let heading = record_head::read_heading(bytes, 0);
             let list = heading.list;
             let end = put_table(&mut own_text, list, heading.sets, &own_table[..size]);
             hand_out_both(&own_table[..size], &own_text[..end], table, text)
@@ -44,7 +44,7 @@ fn put_table(text: &mut [u8], list: PartList, sets: usize, table: &[u8]) -> usiz
     let mut domination = [0i64; 17];
     let mut importance = [0u64; 17];
     let n = list.count;
-    signature::figures(
+    figures::figures(
         n,
         table,
         &mut counts,
@@ -52,7 +52,7 @@ fn put_table(text: &mut [u8], list: PartList, sets: usize, table: &[u8]) -> usiz
         &mut domination,
         &mut importance,
     );
-    figures_text::put_figures(text, list, sets, &signature, &domination[1..], &importance)
+    report_figures::put_figures(text, list, sets, &signature, &domination[1..], &importance)
 }
 
 // A table and a text into two lent buffers.

@@ -1,16 +1,1 @@
-pub mod Polynomials
-pub mod Integrals
-pub mod Types
-pub mod Reliability
-pub mod Algorithm
-pub mod Routes
-pub mod Cells
-pub mod Sums
-pub mod Claim
-pub mod Magnitudes
-pub mod Groups
-pub mod Ranges
-pub mod Regrouped
-pub mod Bounds
-pub mod Terms
-pub mod Examples
+pub mod TwoBuffers

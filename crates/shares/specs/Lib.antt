@@ -1,5 +1,1 @@
-pub mod Polynomials
-pub mod Shares
-pub mod Refusals
-pub mod Claim
-pub mod Steps
+pub mod Both

@@ -5,13 +5,13 @@ use lib.IntN.{pos, negsuc}
 use lib.ListN.{replicate}
 use Rattle.answer.specs.Outcome.{at}
 use Rattle.numbers.specs.Counts.{factorial, choose}
-use Rattle.algebra.specs.Sums.{sumBelowℤ}
-use Rattle.sets.specs.Masks.{any, those}
+use Rattle.theory_sums.specs.Sums.{sumBelowℤ}
+use Rattle.theory_sets.specs.Masks.{any, those}
 use Rattle.codec.specs.ByteForm.{grouped, bytesOf}
 use Rattle.codec.specs.Reading.{numberIn, numberAt}
-use Rattle.kind.specs.Kinds.{kindOf}
-use Rattle.conversion.specs.Vectors.{scaledCount, unitOf, wrongCount, falls, countsRefusal}
-use Rattle.kind.specs.declared.Kind.the-variants.{Signature, Domination}
+use Rattle.vector_kind.specs.Kinds.{kindOf}
+use Rattle.vector_conversion.specs.Vectors.{scaledCount, unitOf, wrongCount, falls, countsRefusal}
+use Rattle.vector_kind.specs.declared.Kind.the-variants.{Signature, Domination}
 use Rattle.sheet.specs.Sheets.{Given, Refused, entryBytes, sheetBytes, afterEntries, sheetOf}
 
 empty : sheetOf [] ≡ Refused (at 21 0)

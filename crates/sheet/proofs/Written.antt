@@ -7,9 +7,9 @@ use lib.IntN.{ℤ, pos}
 use lib.ListN.{length, take, drop, length-append, take-append-drop}
 use lib.Seq.{take-suc}
 use Rattle.codec.specs.ByteForm.{bytesOf}
-use Rattle.kind.specs.Kinds.{kindNumber}
-use Rattle.conversion.specs.Vectors.{entryAt}
-use Rattle.kind.specs.declared.Kind.{Kind}
+use Rattle.vector_kind.specs.Kinds.{kindNumber}
+use Rattle.vector_conversion.specs.Vectors.{entryAt}
+use Rattle.vector_kind.specs.declared.Kind.{Kind}
 use Rattle.sheet.specs.Sheets.{coded, entryBytes, sheetBytes}
 
 module _ (kind : Kind) where

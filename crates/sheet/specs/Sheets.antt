@@ -15,10 +15,10 @@ use Rattle.codec.specs.Reading.{numberAt}
 use Rattle.codec.specs.declared.Field.the-variants as field
 use Rattle.codec.specs.declared.Reading.{Reading}
 use Rattle.codec.specs.declared.Reading.the-variants as reading
-use Rattle.kind.specs.Kinds.{kindNumber, lengthOf, isKind, kindOf}
-use Rattle.conversion.specs.Vectors.{countsRefusal}
-use Rattle.kind.specs.declared.Kind.{Kind}
-use Rattle.kind.specs.declared.Kind.the-variants.{PathCounts, Tail, Signature, Domination}
+use Rattle.vector_kind.specs.Kinds.{kindNumber, lengthOf, isKind, kindOf}
+use Rattle.vector_conversion.specs.Vectors.{countsRefusal}
+use Rattle.vector_kind.specs.declared.Kind.{Kind}
+use Rattle.vector_kind.specs.declared.Kind.the-variants.{PathCounts, Tail, Signature, Domination}
 
 -- ---- a sheet's bytes
 

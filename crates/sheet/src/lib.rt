@@ -1,22 +1,22 @@
 // Vector sheets (01, "Records on disk"), written from a vector.
 use answer::Verdict;
 use answer::Written;
-use kind::Kind;
 use vector::Vector;
+use vector_kind::Kind;
 ghost use mathlib.Core.Path.{_≡_};
 ghost use Prim.Native.Nat.{_≤_};
 ghost use lib.ListN.{length};
 ghost use Rattle.answer.specs.Outcome.{outcome, delivered};
 ghost use Rattle.vector.specs.Held.{entriesOf, heldRefusal};
-ghost use Rattle.kind.specs.Kinds.{kindOf, kindRefusal};
-ghost use Rattle.conversion.specs.Vectors.{vectorRefusal};
+ghost use Rattle.vector_kind.specs.Kinds.{kindOf, kindRefusal};
+ghost use Rattle.vector_conversion.specs.Vectors.{vectorRefusal};
 ghost use Rattle.sheet.specs.Sheets.{coded, sheetBytes};
 
 // The sheet of a vector, into a lent buffer.
 pub fn write_sheet(kind: Kind, n: usize, entries: &[i64], buffer: &mut [u8]) -> Written
     ensures { λ r. ⌜ outcome r (now (buffer .exit)) ≡ delivered (vectorRefusal kind n (now (entries .entry))) (sheetBytes kind n (now (entries .entry))) (now (buffer .entry)) ⌝ }
 {
-    let verdict = conversion::judge(kind, n, entries);
+    let verdict = vector_conversion::judge(kind, n, entries);
     match verdict {
         Verdict::Refused(refusal) => Written::Refused(refusal),
         Verdict::Accepted => {
@@ -34,8 +34,8 @@ pub fn write_sheet(kind: Kind, n: usize, entries: &[i64], buffer: &mut [u8]) -> 
 pub fn write_sheet_numbered(kind: u8, n: usize, entries: &[i64], buffer: &mut [u8]) -> Written
     ensures { λ r. ⌜ outcome r (now (buffer .exit)) ≡ delivered (kindRefusal kind (vectorRefusal (kindOf kind) n (now (entries .entry)))) (sheetBytes (kindOf kind) n (now (entries .entry))) (now (buffer .entry)) ⌝ }
 {
-    if kind::is_kind(kind) {
-        return write_sheet(kind::kind_of(kind), n, entries, buffer);
+    if vector_kind::is_kind(kind) {
+        return write_sheet(vector_kind::kind_of(kind), n, entries, buffer);
     }
     answer::unwritten(answer::WRONG_KIND, 0)
 }

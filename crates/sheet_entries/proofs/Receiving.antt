@@ -8,7 +8,7 @@ use borrow.Author.Tests.{le-leb, lt-leb}
 use Rattle.answer.specs.Outcome.{at}
 use Rattle.answer.specs.Refusals.{shortBuffer}
 use Rattle.answer.specs.declared.Written.the-variants.{Length}
-use Rattle.kind.specs.declared.Kind.{Kind}
+use Rattle.vector_kind.specs.declared.Kind.{Kind}
 use Rattle.sheet.specs.Sheets.{Given}
 use Rattle.sheet_entries.specs.Answers.{receivedOutcome, notReceived, received}
 

@@ -8,7 +8,7 @@ use Rattle.answer.specs.Outcome.{at}
 use Rattle.answer.specs.Refusals.{shortBuffer}
 use Rattle.answer.specs.declared.Refusal.{Refusal}
 use Rattle.answer.specs.declared.Written.the-variants as written
-use Rattle.kind.specs.declared.Kind.the-variants.{PathCounts}
+use Rattle.vector_kind.specs.declared.Kind.the-variants.{PathCounts}
 use Rattle.sheet.specs.Sheets.{Sheet, Given, Refused}
 use Rattle.sheet_entries.specs.declared.Received.{Received}
 

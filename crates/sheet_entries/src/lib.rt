@@ -1,7 +1,7 @@
 // The entries of a vector sheet (01, "Records on disk"), read into a lent buffer.
 use answer::Verdict;
 use answer::Written;
-use kind::Kind;
+use vector_kind::Kind;
 ghost use mathlib.Core.Path.{_≡_};
 ghost use mathlib.Core.List.{_++_};
 ghost use Prim.Native.Nat.{_≤_};

@@ -12,18 +12,18 @@ use lib.ListN.{length}
 use Rattle.answer.specs.declared.Verdict.the-variants.{Accepted}
 use Rattle.numbers.specs.Counts.{choose}
 use Rattle.numbers.proofs.Tables.{tabulate-at}
-use Rattle.algebra.specs.Sums.{sumBelowℤ}
+use Rattle.theory_sums.specs.Sums.{sumBelowℤ}
 use Rattle.codec.specs.Fields.{top}
 use Rattle.codec.specs.declared.Field.the-variants as field
-use Rattle.figures.specs.Figures.{tail, sign, domination}
-use Rattle.figures.proofs.Ranges.{tail-few}
-use Rattle.kind.specs.Kinds.{lengthOf}
-use Rattle.conversion.specs.Vectors.{entryAt, countsOf, vectorRefusal, figure}
-use Rattle.kind.specs.declared.Kind.{Kind}
-use Rattle.kind.specs.declared.Kind.the-variants.{PathCounts, Tail, Signature, Domination}
-use Rattle.conversion.proofs.Fits.{choose-few}
-use Rattle.conversion.proofs.Acceptance.{AcceptedVector, accepted-vector}
-use Rattle.conversion.proofs.Conversions.{conversion-same, signature-positive}
+use Rattle.theory_figures.specs.Figures.{tail, sign, domination}
+use Rattle.theory_figures.proofs.Ranges.{tail-few}
+use Rattle.vector_kind.specs.Kinds.{lengthOf}
+use Rattle.vector_conversion.specs.Vectors.{entryAt, countsOf, vectorRefusal, figure}
+use Rattle.vector_kind.specs.declared.Kind.{Kind}
+use Rattle.vector_kind.specs.declared.Kind.the-variants.{PathCounts, Tail, Signature, Domination}
+use Rattle.vector_conversion.proofs.Fits.{choose-few}
+use Rattle.vector_conversion.proofs.Acceptance.{AcceptedVector, accepted-vector}
+use Rattle.vector_conversion.proofs.Conversions.{conversion-same, signature-positive}
 use Rattle.sheet.specs.Sheets.{coded, decoded}
 use Rattle.sheet.proofs.Codes.{written-domination, written-positive}
 

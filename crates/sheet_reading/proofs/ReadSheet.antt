@@ -21,12 +21,12 @@ use Rattle.codec.specs.declared.Field.the-variants as field
 use Rattle.codec.specs.declared.Reading.{Reading}
 use Rattle.codec.specs.declared.Reading.the-variants.{Number}
 use Rattle.codec.proofs.ReadAfterWrite.{form-read}
-use Rattle.sets.proofs.Bools.{and-both}
-use Rattle.kind.specs.Kinds.{kindNumber, lengthOf, kindOf}
-use Rattle.conversion.specs.Vectors.{countsRefusal, vectorRefusal}
-use Rattle.kind.specs.declared.Kind.{Kind}
-use Rattle.conversion.proofs.Acceptance.{AcceptedVector, accepted-vector}
-use Rattle.kind.proofs.KindNumbers.{kind-back, kind-is-one}
+use Rattle.theory_sets.proofs.Bools.{and-both}
+use Rattle.vector_kind.specs.Kinds.{kindNumber, lengthOf, kindOf}
+use Rattle.vector_conversion.specs.Vectors.{countsRefusal, vectorRefusal}
+use Rattle.vector_kind.specs.declared.Kind.{Kind}
+use Rattle.vector_conversion.proofs.Acceptance.{AcceptedVector, accepted-vector}
+use Rattle.vector_kind.proofs.KindNumbers.{kind-back, kind-is-one}
 use Rattle.sheet.proofs.Codes.{kind-few}
 use Rattle.sheet_reading.proofs.Bounds.{Fitting, accepted-fitting}
 use Rattle.sheet_reading.specs.Steps.{ended, entered, numbered, kinded}

@@ -13,9 +13,9 @@ use Rattle.answer.specs.declared.Verdict.the-variants.{Accepted}
 use Rattle.codec.proofs.WriteAfterRead.{Bytes}
 use Rattle.structure.specs.Checks.{partsRefusal}
 use Rattle.vector.specs.Held.{vectorHolding, entriesOf, heldRefusal}
-use Rattle.kind.specs.Kinds.{lengthOf}
-use Rattle.conversion.specs.Vectors.{countsRefusal, vectorRefusal}
-use Rattle.kind.specs.declared.Kind.{Kind}
+use Rattle.vector_kind.specs.Kinds.{lengthOf}
+use Rattle.vector_conversion.specs.Vectors.{countsRefusal, vectorRefusal}
+use Rattle.vector_kind.specs.declared.Kind.{Kind}
 use Rattle.vector.specs.declared.Vector.{Vector}
 use Rattle.sheet_reading.specs.Answers.{sheetRead}
 use Rattle.sheet.specs.Sheets.{sheetBytes, sheetOf}

@@ -15,7 +15,7 @@ use Rattle.answer.specs.Outcome as answer
 use Rattle.answer.specs.Refusals.{wrongPartCount, wrongVectorLength, bytesLeft}
 use Rattle.answer.specs.declared.Verdict.the-variants.{Accepted}
 use Rattle.answer.proofs.Outcomes.{refuse-passed}
-use Rattle.sets.proofs.Bools.{and-both}
+use Rattle.theory_sets.proofs.Bools.{and-both}
 use Rattle.answer.specs.declared.Refusal.{Refusal}
 use Rattle.answer.proofs.FixedCells.{cells-more}
 use Rattle.codec.specs.Reading.{numberAt}
@@ -23,9 +23,9 @@ use Rattle.codec.specs.declared.Field.the-variants as field
 use Rattle.codec.specs.declared.Reading.{Reading}
 use Rattle.codec.specs.declared.Reading.the-variants as reading
 use Rattle.vector.specs.Held.{mostEntries, entryCells}
-use Rattle.kind.specs.Kinds.{lengthOf}
-use Rattle.conversion.specs.Vectors.{countsRefusal, vectorRefusal}
-use Rattle.kind.specs.declared.Kind.{Kind}
+use Rattle.vector_kind.specs.Kinds.{lengthOf}
+use Rattle.vector_conversion.specs.Vectors.{countsRefusal, vectorRefusal}
+use Rattle.vector_kind.specs.declared.Kind.{Kind}
 use Rattle.sheet.specs.Sheets.{decoded, Sheet, Given, Refused, refuse, afterNumber, afterEntries, judged}
 use Rattle.sheet_reading.specs.Steps.{ended}
 

@@ -19,9 +19,9 @@ use Rattle.codec.specs.declared.Field.the-variants as field
 use Rattle.codec.specs.declared.Reading.{Reading}
 use Rattle.codec.specs.declared.Reading.the-variants as reading
 use Rattle.codec.proofs.WriteAfterRead.{Bytes, ReadForm, read-form}
-use Rattle.kind.specs.Kinds.{kindNumber, lengthOf, isKind, kindOf}
-use Rattle.conversion.specs.Vectors.{countsRefusal, vectorRefusal}
-use Rattle.kind.specs.declared.Kind.{Kind}
+use Rattle.vector_kind.specs.Kinds.{kindNumber, lengthOf, isKind, kindOf}
+use Rattle.vector_conversion.specs.Vectors.{countsRefusal, vectorRefusal}
+use Rattle.vector_kind.specs.declared.Kind.{Kind}
 use Rattle.sheet.specs.Sheets.{coded, decoded, entryBytes, sheetBytes, Sheet, Given, Refused, refuse, afterNumber, afterEntries, judged, sheetOf}
 use Rattle.sheet.proofs.Codes.{number-back, coded-decoded}
 use Rattle.sheet_reading.specs.Steps.{ended, numbered, kinded}

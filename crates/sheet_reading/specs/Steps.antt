@@ -8,9 +8,9 @@ use lib.ListN.{length}
 use Rattle.answer.specs.Refusals.{wrongPartCount, bytesLeft, wrongKind}
 use Rattle.codec.specs.Reading.{numberAt}
 use Rattle.codec.specs.declared.Field.the-variants as field
-use Rattle.kind.specs.Kinds.{lengthOf, isKind, kindOf}
-use Rattle.conversion.specs.Vectors.{countsRefusal}
-use Rattle.kind.specs.declared.Kind.{Kind}
+use Rattle.vector_kind.specs.Kinds.{lengthOf, isKind, kindOf}
+use Rattle.vector_conversion.specs.Vectors.{countsRefusal}
+use Rattle.vector_kind.specs.declared.Kind.{Kind}
 use Rattle.sheet.specs.Sheets.{Sheet, Given, refuse, afterNumber, afterEntries, judged}
 
 module _ (bytes : List ℕ) where

@@ -2,8 +2,8 @@
 use answer::Verdict;
 use codec::Field;
 use codec::Reading;
-use kind::Kind;
 use vector::Vector;
+use vector_kind::Kind;
 ghost use mathlib.Core.Path.{_≡_};
 ghost use Prim.Native.Nat.{_≤_};
 ghost use lib.Dec.{ltb};
@@ -13,7 +13,7 @@ ghost use Rattle.answer.specs.Refusals.{bytesLeft};
 ghost use Rattle.codec.specs.Fields.{top};
 ghost use Rattle.codec.specs.Reading.{numberAt};
 ghost use Rattle.vector.specs.Held.{entryCells, entriesOf};
-ghost use Rattle.conversion.specs.Vectors.{vectorRefusal, countsRefusal};
+ghost use Rattle.vector_conversion.specs.Vectors.{vectorRefusal, countsRefusal};
 ghost use Rattle.sheet.specs.Sheets.{decoded, Refused, sheetOf, afterNumber};
 ghost use Rattle.sheet_reading.specs.Answers.{sheetRead};
 ghost use Rattle.sheet_reading.specs.Steps.{ended, entered, numbered};
@@ -38,7 +38,7 @@ pub fn vector_of_sheet(bytes: &[u8]) -> SheetRead
             if 4 < value {
                 return refused_sheet(answer::WRONG_KIND, 0);
             }
-            read_parts(bytes, kind::kind_of(value as u8), next)
+            read_parts(bytes, vector_kind::kind_of(value as u8), next)
         }
     }
 }
@@ -118,7 +118,7 @@ fn judged_sheet(bytes: &[u8], vector: Vector, end: usize) -> SheetRead
     let kind = vector.kind;
     let length = vector.length;
     let entries = vector.entries;
-    let counted = conversion::judge(kind, vector.n, &entries[..length]);
+    let counted = vector_conversion::judge(kind, vector.n, &entries[..length]);
     let verdict = first_of(left, counted);
     match verdict {
         Verdict::Refused(refusal) => refused_sheet(refusal.number, refusal.place),

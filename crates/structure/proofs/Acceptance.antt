@@ -18,16 +18,16 @@ use Rattle.answer.specs.Outcome.{refuse}
 use Rattle.answer.specs.Refusals.{wrongPartCount, emptyList, longList, unknownPart, emptySet, wrongTableLength, unusedBit, emptySetWorks, fullSetFails, brokenSet}
 use Rattle.answer.specs.declared.Verdict.the-variants.{Accepted}
 use Rattle.answer.proofs.Outcomes.{refuse-accepted, refuse-passed}
-use Rattle.orders.specs.Antichains.{mostSets}
-use Rattle.orders.proofs.Sperner.{minimalSets-most}
-use Rattle.sets.specs.Masks.{has, holds, any, least, Rising}
-use Rattle.sets.specs.Structures.{Semicoherent, listed, broken, minimal, minimalSets}
-use Rattle.sets.specs.Tables.{packed, inTable, tableOf, tableLength}
-use Rattle.sets.proofs.Bools.{and-left, and-right, and-both, clash}
-use Rattle.sets.proofs.Lists.{Covers, listed-same, listed-semicoherent, minimal-listed, listed-minimal}
-use Rattle.sets.proofs.Ranges.{any-false, any-none, any-same, those-elim, those-intro, below-or-above}
-use Rattle.sets.proofs.Structures.{upward-steps, steps-upward, unbroken-steps, steps-unbroken, minimal-works, minimal-below, semicoherent-same, minimalSets-same}
-use Rattle.sets.proofs.Tables.{packed-unique, inTable-at, inTable-beyond, tableOf-length, tableOf-at, tableOf-works, tableLength-small, tableLength-large}
+use Rattle.theory_orders.specs.Antichains.{mostSets}
+use Rattle.theory_orders.proofs.Sperner.{minimalSets-most}
+use Rattle.theory_sets.specs.Masks.{has, holds, any, least, Rising}
+use Rattle.theory_sets.specs.Structures.{Semicoherent, listed, broken, minimal, minimalSets}
+use Rattle.theory_sets.specs.Tables.{packed, inTable, tableOf, tableLength}
+use Rattle.theory_sets.proofs.Bools.{and-left, and-right, and-both, clash}
+use Rattle.theory_sets.proofs.Lists.{Covers, listed-same, listed-semicoherent, minimal-listed, listed-minimal}
+use Rattle.theory_sets.proofs.Ranges.{any-false, any-none, any-same, those-elim, those-intro, below-or-above}
+use Rattle.theory_sets.proofs.Structures.{upward-steps, steps-upward, unbroken-steps, steps-unbroken, minimal-works, minimal-below, semicoherent-same, minimalSets-same}
+use Rattle.theory_sets.proofs.Tables.{packed-unique, inTable-at, inTable-beyond, tableOf-length, tableOf-at, tableOf-works, tableLength-small, tableLength-large}
 use Rattle.numbers.proofs.Tables.{tabulate-unique}
 use Rattle.structure.specs.Checks.{entriesRefusal, listRefusal, unused, tableRefusal}
 

@@ -13,18 +13,18 @@ use lib.Pow.{pow-mono}
 use borrow.Author.Tests.{lt-ltb, le-ltb}
 use Rattle.numbers.specs.Tables.{tabulate}
 use Rattle.numbers.proofs.Tables.{tabulate-unique, tabulate-length, tabulate-at}
-use Rattle.sets.specs.Masks.{has, any, those, least}
-use Rattle.sets.specs.Structures.{broken, listed, minimal, minimalSets}
-use Rattle.sets.specs.Tables.{packed, inTable, tableOf, tableLength}
-use Rattle.sets.proofs.Bools.{true-or-false}
-use Rattle.sets.proofs.Masks.{add-below}
-use Rattle.sets.proofs.Ranges.{any-same, those-same, those-skip, those-empty, least-some, below-or-above}
-use Rattle.sets.proofs.Tables.{packed-same, tableLength-small, tableLength-large}
-use Rattle.words.specs.Words.{inWords, wordsOf, among}
-use Rattle.closure.specs.Closure.{without, spread, trimmed}
-use Rattle.words.proofs.Words.{inWords-wordsOf}
-use Rattle.closure.proofs.ListedSets.{spread-listed, spread-beyond}
-use Rattle.closure.proofs.MinimalSets.{trimmed-minimal}
+use Rattle.theory_sets.specs.Masks.{has, any, those, least}
+use Rattle.theory_sets.specs.Structures.{broken, listed, minimal, minimalSets}
+use Rattle.theory_sets.specs.Tables.{packed, inTable, tableOf, tableLength}
+use Rattle.theory_sets.proofs.Bools.{true-or-false}
+use Rattle.theory_sets.proofs.Masks.{add-below}
+use Rattle.theory_sets.proofs.Ranges.{any-same, those-same, those-skip, those-empty, least-some, below-or-above}
+use Rattle.theory_sets.proofs.Tables.{packed-same, tableLength-small, tableLength-large}
+use Rattle.structure_words.specs.Words.{inWords, wordsOf, among}
+use Rattle.structure_closure.specs.Closure.{without, spread, trimmed}
+use Rattle.structure_words.proofs.Words.{inWords-wordsOf}
+use Rattle.structure_closure.proofs.ListedSets.{spread-listed, spread-beyond}
+use Rattle.structure_closure.proofs.MinimalSets.{trimmed-minimal}
 use Rattle.structure.proofs.Acceptance.{AcceptedTable, AcceptedList, table-beyond}
 
 -- ---- set functions that agree on the masks of 16 parts

@@ -8,10 +8,10 @@ use Rattle.answer.specs.Outcome.{refuse}
 use Rattle.answer.specs.Refusals.{wrongPartCount, emptyList, longList, unknownPart, emptySet, wrongTableLength, unusedBit, emptySetWorks, fullSetFails, brokenSet}
 use Rattle.answer.specs.declared.Verdict.{Verdict}
 use Rattle.answer.specs.declared.Verdict.the-variants.{Accepted}
-use Rattle.orders.specs.Antichains.{mostSets}
-use Rattle.sets.specs.Masks.{any, least}
-use Rattle.sets.specs.Structures.{broken}
-use Rattle.sets.specs.Tables.{inTable, tableLength}
+use Rattle.theory_orders.specs.Antichains.{mostSets}
+use Rattle.theory_sets.specs.Masks.{any, least}
+use Rattle.theory_sets.specs.Structures.{broken}
+use Rattle.theory_sets.specs.Tables.{inTable, tableLength}
 
 -- n, always first
 abbrev pub partsRefusal : ℕ → Verdict → Verdict

@@ -5,8 +5,8 @@ ghost use mathlib.Core.Bool.{false, _&&_};
 ghost use Prim.Native.Nat.{ℕ, _^_, _≤_};
 ghost use lib.Dec.{leb};
 ghost use Rattle.numbers.specs.Counts.{upTo16};
-ghost use Rattle.sets.specs.Masks.{has, any};
-ghost use Rattle.sets.specs.Tables.{inTable, tableLength};
+ghost use Rattle.theory_sets.specs.Masks.{has, any};
+ghost use Rattle.theory_sets.specs.Tables.{inTable, tableLength};
 ghost use Rattle.structure.specs.Checks.{listRefusal, entriesRefusal, tableRefusal, structureRefusal};
 
 // The verdict on a list of sets.
@@ -57,14 +57,14 @@ fn structure_verdict(n: usize, table: &[u8]) -> Verdict
     requires { ⌜ ((a : ℕ) → 2 ^ n ≤ a → inTable (now table) a ≡ false) ⌝ }
     ensures { λ r. ⌜ r ≡ structureRefusal n (inTable (now (table .entry))) ⌝ }
 {
-    let loaded = words::load(table);
-    if words::works(&loaded, 0) {
+    let loaded = structure_words::load(table);
+    if structure_words::works(&loaded, 0) {
         return answer::refused(answer::EMPTY_SET_WORKS, 0);
     }
-    if !words::works(&loaded, numbers::power(n) - 1) {
+    if !structure_words::works(&loaded, numbers::power(n) - 1) {
         return answer::refused(answer::FULL_SET_FAILS, 0);
     }
-    let place = closure::first_broken(&loaded, n);
+    let place = structure_closure::first_broken(&loaded, n);
     if place < 65536 {
         return answer::refused(answer::BROKEN_SET, place);
     }

@@ -15,7 +15,7 @@ use mir.Syntax.{w64}
 use mir.Val.{Fits, SFits}
 use borrow.Author.Tests.{lt-ltb, le-ltb}
 use Rattle.io.specs.Digits.{glyph, digits, Fewest}
-use Rattle.sets.proofs.Ranges.{below-or-above}
+use Rattle.theory_sets.proofs.Ranges.{below-or-above}
 use Rattle.text.specs.Texts.{spelled, decimal, signed}
 
 -- ---- one digit, and one digit more

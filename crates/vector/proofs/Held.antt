@@ -20,15 +20,15 @@ use Rattle.answer.specs.declared.Verdict.{Verdict}
 use Rattle.answer.specs.declared.Verdict.the-variants.{Accepted}
 use Rattle.answer.proofs.Outcomes.{refuse-accepted}
 use Rattle.numbers.proofs.Tables.{tabulate-length}
-use Rattle.sets.proofs.Bools.{and-left, and-right, true-or-false}
+use Rattle.theory_sets.proofs.Bools.{and-left, and-right, true-or-false}
 use Rattle.vector.specs.Held.{mostEntries, entryCells, entriesOf, heldRefusal}
-use Rattle.kind.specs.Kinds.{lengthOf}
+use Rattle.vector_kind.specs.Kinds.{lengthOf}
 use Rattle.vector.specs.Steps.{lentCells}
-use Rattle.conversion.specs.Vectors.{countsOf, countsRefusal, vectorRefusal, figure, converted}
-use Rattle.kind.specs.declared.Kind.{Kind}
-use Rattle.kind.specs.declared.Kind.the-variants.{PathCounts, Tail, Signature, Domination}
+use Rattle.vector_conversion.specs.Vectors.{countsOf, countsRefusal, vectorRefusal, figure, converted}
+use Rattle.vector_kind.specs.declared.Kind.{Kind}
+use Rattle.vector_kind.specs.declared.Kind.the-variants.{PathCounts, Tail, Signature, Domination}
 use Rattle.vector.specs.declared.Vector.{Vector}
-use Rattle.conversion.proofs.Acceptance.{accepted-vector}
+use Rattle.vector_conversion.proofs.Acceptance.{accepted-vector}
 use Rattle.vector.proofs.Vector.{the-row}
 
 -- a length that no vector of 1 to 16 parts has

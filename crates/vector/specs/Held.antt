@@ -10,11 +10,11 @@ use Rattle.answer.specs.Refusals.{wrongVectorLength}
 use Rattle.answer.specs.declared.Verdict.{Verdict}
 use Rattle.answer.specs.declared.Verdict.the-variants.{Accepted, Refused}
 use Rattle.structure.specs.Checks.{partsRefusal}
-use Rattle.kind.specs.Kinds.{lengthOf}
-use Rattle.conversion.specs.Vectors.{countsRefusal, converted}
+use Rattle.vector_kind.specs.Kinds.{lengthOf}
+use Rattle.vector_conversion.specs.Vectors.{countsRefusal, converted}
 use Rattle.vector.specs.declared.Converted.{Converted}
-use Rattle.kind.specs.declared.Kind.{Kind}
-use Rattle.kind.specs.declared.Kind.the-variants.{PathCounts}
+use Rattle.vector_kind.specs.declared.Kind.{Kind}
+use Rattle.vector_kind.specs.declared.Kind.the-variants.{PathCounts}
 use Rattle.vector.specs.declared.Vector.{Vector}
 
 -- the cells of a vector: the most entries that one can have

@@ -1,11 +1,11 @@
 // Vectors of the four kinds (01, "Vector sheets"): in a struct, and with their kinds as numbers.
 use answer::Verdict;
 use answer::Written;
-use kind::Kind;
+use vector_kind::Kind;
 ghost use mathlib.Core.Path.{_≡_};
 ghost use Rattle.answer.specs.Outcome.{outcome, delivered};
-ghost use Rattle.kind.specs.Kinds.{kindOf, kindRefusal};
-ghost use Rattle.conversion.specs.Vectors.{vectorRefusal, converted};
+ghost use Rattle.vector_kind.specs.Kinds.{kindOf, kindRefusal};
+ghost use Rattle.vector_conversion.specs.Vectors.{vectorRefusal, converted};
 ghost use Rattle.vector.specs.Held.{heldRefusal, heldConverted};
 ghost use Rattle.vector.specs.Steps.{lentCells};
 
@@ -32,7 +32,7 @@ impl Vector {
         let kind = self.kind;
         let entries = self.entries;
         let count = lent(self.length);
-        conversion::judge(kind, self.n, &entries[..count])
+        vector_conversion::judge(kind, self.n, &entries[..count])
     }
 
     // The vector as one of another kind.
@@ -43,7 +43,13 @@ impl Vector {
         let entries = self.entries;
         let count = lent(self.length);
         let mut cells = [0i64; 17];
-        let written = conversion::convert(kind, self.n, &entries[..count], target, &mut cells);
+        let written = vector_conversion::convert(
+            kind,
+            self.n,
+            &entries[..count],
+            target,
+            &mut cells,
+        );
         match written {
             Written::Refused(refusal) => Converted {
                 vector: Vector {
@@ -71,8 +77,8 @@ impl Vector {
 pub fn judge_numbered(kind: u8, n: usize, entries: &[i64]) -> Verdict
     ensures { λ r. ⌜ r ≡ kindRefusal kind (vectorRefusal (kindOf kind) n (now (entries .entry))) ⌝ }
 {
-    if kind::is_kind(kind) {
-        return conversion::judge(kind::kind_of(kind), n, entries);
+    if vector_kind::is_kind(kind) {
+        return vector_conversion::judge(vector_kind::kind_of(kind), n, entries);
     }
     answer::refused(answer::WRONG_KIND, 0)
 }
@@ -87,13 +93,13 @@ pub fn convert_numbered(
 ) -> Written
     ensures { λ r. ⌜ outcome r (now (cells .exit)) ≡ delivered (kindRefusal kind (kindRefusal target (vectorRefusal (kindOf kind) n (now (entries .entry))))) (converted (kindOf target) (kindOf kind) n (now (entries .entry))) (now (cells .entry)) ⌝ }
 {
-    if kind::is_kind(kind) {
-        if kind::is_kind(target) {
-            return conversion::convert(
-                kind::kind_of(kind),
+    if vector_kind::is_kind(kind) {
+        if vector_kind::is_kind(target) {
+            return vector_conversion::convert(
+                vector_kind::kind_of(kind),
                 n,
                 entries,
-                kind::kind_of(target),
+                vector_kind::kind_of(target),
                 cells,
             );
         }

@@ -1,7 +1,7 @@
 -- `nahokipe::nahokipe_figures` meets its contract: it hands out the verdict of the function behind it and leaves its four buffers.
 -- Assumes nothing.
 use mathlib.Core.Path.{ap, _∙_}
-use Rattle.signature.specs.All.{AllOutcome}
+use Rattle.figures.specs.All.{AllOutcome}
 use Rattle.nahokipe.specs.Answers.{ofVerdict}
 use borrow.Author.Needs.{needs}
 use Rattle.nahokipe.proofs.nahokipe_figures.Statement.{statement}

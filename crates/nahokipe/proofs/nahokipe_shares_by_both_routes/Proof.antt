@@ -1,7 +1,7 @@
 -- `nahokipe::nahokipe_shares_by_both_routes` meets its contract: it hands out the answer of the function behind it and leaves its two buffers.
 -- Assumes nothing.
 use mathlib.Core.Path.{ap, _∙_}
-use Rattle.subsignature.specs.Both.{BothOutcome}
+use Rattle.shares.specs.Both.{BothOutcome}
 use Rattle.nahokipe.specs.Answers.{ofWritten}
 use borrow.Author.Needs.{needs}
 use Rattle.nahokipe.proofs.nahokipe_shares_by_both_routes.Statement.{statement}

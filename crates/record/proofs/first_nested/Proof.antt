@@ -7,7 +7,7 @@ use native.Mathlib.Nat.{sub-zero}
 use native.Mathlib.Omega.{arith}
 use denote.Ref.{now}
 use borrow.Author.Needs.{needs}
-use Rattle.words.specs.Words.{inWords}
+use Rattle.structure_words.specs.Words.{inWords}
 use Rattle.record.specs.Steps.{nestedAt}
 use Rattle.record.proofs.Marking.{nested-ended, nested-here, nested-past, nested-none}
 use Rattle.record.proofs.first_nested.Statement.{statement}

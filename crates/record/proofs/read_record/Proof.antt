@@ -3,8 +3,8 @@
 use mathlib.Core.Path.{_≡_, sym, _∙_}
 use denote.Ref.{now}
 use borrow.Author.Needs.{needs}
-use Rattle.heading.specs.Headings.{found, headAt}
-use Rattle.heading.proofs.Answers.{head-few, heading-given, heading-refused}
+use Rattle.record_head.specs.Headings.{found, headAt}
+use Rattle.record_head.proofs.Answers.{head-few, heading-given, heading-refused}
 use Rattle.record.proofs.Answers.{ending-given, ending-refused, contents-no-head, contents-no-sets, contents-given}
 use Rattle.record.proofs.read_record.Statement.{statement}
 use Rattle.record.proofs.read_record.Tie as tie

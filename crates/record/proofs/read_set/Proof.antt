@@ -9,9 +9,9 @@ use Rattle.answer.specs.Refusals.{unknownPart, emptySet, wrongSet}
 use Rattle.answer.specs.Outcome.{at}
 use Rattle.answer.proofs.Outcomes.{refuse-held, refuse-passed}
 use Rattle.numbers.proofs.Counts.{upTo16-given}
-use Rattle.heading.specs.Steps.{asRead}
+use Rattle.record_head.specs.Steps.{asRead}
 use Rattle.record.specs.Steps.{risingRefusal}
-use Rattle.heading.proofs.Found.{field-ended, field-passed, field-held}
+use Rattle.record_head.proofs.Found.{field-ended, field-passed, field-held}
 use Rattle.record.proofs.read_set.Statement.{statement}
 use Rattle.record.proofs.read_set.Tie as tie
 

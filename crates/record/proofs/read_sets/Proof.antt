@@ -6,8 +6,8 @@ use Prim.Native.Nat.{ℕ, min}
 use denote.Ref.{now}
 use borrow.Author.Needs.{needs}
 use Rattle.answer.specs.declared.Verdict.{Verdict}
-use Rattle.words.specs.Words.{inWords, wordsOf}
-use Rattle.closure.specs.Closure.{spread, trimmed}
+use Rattle.structure_words.specs.Words.{inWords, wordsOf}
+use Rattle.structure_closure.specs.Closure.{spread, trimmed}
 use Rattle.record.specs.declared.Ending.the-variants as ending
 use Rattle.record.specs.declared.Marked.{Marked}
 use Rattle.record.specs.Records.{setsAt}

@@ -14,12 +14,12 @@ use Rattle.answer.specs.declared.Written.{Written}
 use Rattle.answer.proofs.Deliveries.{delivered-short, delivered-whole}
 use Rattle.numbers.proofs.Counts.{upTo16-given}
 use Rattle.numbers.specs.Tables.{tabulate}
-use Rattle.sets.specs.Structures.{listed}
-use Rattle.sets.specs.Tables.{packed, tableOf, tableLength}
-use Rattle.sets.proofs.Tables.{tableOf-length}
+use Rattle.theory_sets.specs.Structures.{listed}
+use Rattle.theory_sets.specs.Tables.{packed, tableOf, tableLength}
+use Rattle.theory_sets.proofs.Tables.{tableOf-length}
 use Rattle.structure.proofs.Walks.{listed-walk}
-use Rattle.words.specs.Words.{inWords, wordsOf, among}
-use Rattle.closure.specs.Closure.{spread}
+use Rattle.structure_words.specs.Words.{inWords, wordsOf, among}
+use Rattle.structure_closure.specs.Closure.{spread}
 use Rattle.record.specs.declared.Contents.{Contents}
 use Rattle.record.specs.declared.Marked.{Marked}
 use Rattle.record.specs.Contents.{designIn, recordRefusal}

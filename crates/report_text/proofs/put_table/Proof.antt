@@ -6,9 +6,9 @@ use Prim.Native.Nat.{ℕ, _≤_}
 use denote.Ref.{now}
 use lib.ListN.{length}
 use Rattle.answer.specs.Placed.{placed}
-use Rattle.sets.specs.Tables.{inTable}
+use Rattle.theory_sets.specs.Tables.{inTable}
 use Rattle.structure.proofs.Acceptance.{accepted-table}
-use Rattle.signature.specs.All.{AllOutcome}
+use Rattle.figures.specs.All.{AllOutcome}
 use Rattle.report_text.proofs.Figures.{all-figures, figures-text}
 use borrow.Author.Needs.{needs}
 use Rattle.report_text.proofs.put_table.Statement.{statement}

@@ -8,11 +8,11 @@ use native.Mathlib.Omega.{arith}
 use denote.Ref.{now}
 use lib.ListN.{length, take, replicate}
 use lib.Seq.{length-take-le}
-use Rattle.parts.specs.declared.PartList.{PartList}
-use Rattle.sets.specs.Tables.{inTable}
+use Rattle.record_parts.specs.declared.PartList.{PartList}
+use Rattle.theory_sets.specs.Tables.{inTable}
 use Rattle.structure.specs.Checks.{tableRefusal}
-use Rattle.heading.specs.declared.Heading.{Heading}
-use Rattle.heading.specs.Headings.{Read}
+use Rattle.record_head.specs.declared.Heading.{Heading}
+use Rattle.record_head.specs.Headings.{Read}
 use Rattle.record.specs.Records.{Design}
 use Rattle.record.proofs.MinimalSets.{design-table}
 use Rattle.report_text.specs.Reports.{reportOf}

@@ -5,8 +5,8 @@ use lib.IntN.{natAbs}
 use mir.Facts.{toZ-ofZ}
 use mir.Syntax.{w64}
 use mir.Val.{toZ, ofZ}
-use Rattle.kind.specs.declared.Kind.{Kind}
-use Rattle.kind.specs.declared.Kind.the-variants.{Domination}
+use Rattle.vector_kind.specs.declared.Kind.{Kind}
+use Rattle.vector_kind.specs.declared.Kind.the-variants.{Domination}
 use Rattle.sheet.specs.Sheets.{coded}
 use borrow.Author.Needs.{needs}
 use Rattle.sheet.proofs.code.Statement.{statement}

@@ -11,9 +11,9 @@ use lib.ListN.{length, take, length-append}
 use lib.Seq.{take-all}
 use Rattle.codec.specs.ByteForm.{bytesOf}
 use Rattle.codec.proofs.ByteForms.{bytes-at-most}
-use Rattle.kind.specs.Kinds.{kindNumber}
-use Rattle.conversion.specs.Vectors.{entryAt}
-use Rattle.conversion.proofs.CountAt.{entry-read}
+use Rattle.vector_kind.specs.Kinds.{kindNumber}
+use Rattle.vector_conversion.specs.Vectors.{entryAt}
+use Rattle.vector_conversion.proofs.CountAt.{entry-read}
 use Rattle.sheet.specs.Sheets.{coded, sheetBytes}
 use Rattle.sheet.proofs.Codes.{kind-few}
 use Rattle.sheet.proofs.Written.{sheet-front, sheet-next}

@@ -14,9 +14,9 @@ use Rattle.answer.proofs.Deliveries.{in-front-now, in-front-on}
 use Rattle.answer.specs.Placed.{placed}
 use Rattle.codec.specs.ByteForm.{bytesOf}
 use Rattle.answer.proofs.Placing.{in-front-more}
-use Rattle.kind.specs.Kinds.{kindNumber}
-use Rattle.conversion.specs.Vectors.{entryAt}
-use Rattle.conversion.proofs.CountAt.{entry-read}
+use Rattle.vector_kind.specs.Kinds.{kindNumber}
+use Rattle.vector_conversion.specs.Vectors.{entryAt}
+use Rattle.vector_conversion.proofs.CountAt.{entry-read}
 use Rattle.sheet.specs.Sheets.{coded, entryBytes, sheetBytes}
 use Rattle.sheet.proofs.Written.{sheet-append, sheet-front, sheet-next, sheet-part}
 use borrow.Author.Needs.{needs}

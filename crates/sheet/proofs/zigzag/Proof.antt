@@ -6,7 +6,7 @@ use native.Mathlib.Omega.{arith}
 use lib.IntN.{negsuc, natAbs}
 use mir.Facts.{toZ-ofZ}
 use mir.Syntax.{w64}
-use Rattle.kind.specs.declared.Kind.the-variants.{Domination}
+use Rattle.vector_kind.specs.declared.Kind.the-variants.{Domination}
 use Rattle.integers.proofs.Signs.{less-found, less-small, whole-found, whole-small}
 use Rattle.sheet.specs.Sheets.{coded}
 use borrow.Author.Needs.{needs}

@@ -8,8 +8,8 @@ use denote.Ref.{now}
 use lib.IntN.{ℤ, pos}
 use lib.ListN.{length, drop}
 use Rattle.numbers.proofs.Tables.{tabulate-unique, filled, filled-none, filled-again, filled-length}
-use Rattle.conversion.specs.Vectors.{entryAt}
-use Rattle.conversion.proofs.CountAt.{entry-read}
+use Rattle.vector_conversion.specs.Vectors.{entryAt}
+use Rattle.vector_conversion.proofs.CountAt.{entry-read}
 use Rattle.sheet_entries.proofs.copy.Statement.{statement}
 use Rattle.sheet_entries.proofs.copy.Tie as tie
 

@@ -2,7 +2,7 @@
 -- Assumes nothing.
 use mathlib.Core.Path.{ap}
 use Rattle.answer.specs.declared.Written.{Written}
-use Rattle.kind.specs.declared.Kind.the-variants.{PathCounts}
+use Rattle.vector_kind.specs.declared.Kind.the-variants.{PathCounts}
 use Rattle.sheet_entries.specs.declared.Received.{Received}
 use borrow.Author.Needs.{needs}
 use Rattle.sheet_entries.proofs.not_received.Statement.{statement}

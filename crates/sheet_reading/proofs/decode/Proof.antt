@@ -6,7 +6,7 @@ use lib.IntN.{pos}
 use mir.Facts.{toZ-pos, toZ-ofZ}
 use mir.Syntax.{w64}
 use mir.Val.{toZ}
-use Rattle.kind.specs.declared.Kind.{Kind}
+use Rattle.vector_kind.specs.declared.Kind.{Kind}
 use Rattle.sheet.specs.Sheets.{decoded}
 use borrow.Author.Needs.{needs}
 use Rattle.sheet_reading.proofs.decode.Statement.{statement}

@@ -12,7 +12,7 @@ use Rattle.answer.specs.Refusals.{wrongPartCount}
 use Rattle.codec.specs.Reading.{numberAt}
 use Rattle.codec.specs.declared.Field.the-variants as field
 use Rattle.codec.specs.declared.Reading.{Reading}
-use Rattle.kind.specs.declared.Kind.{Kind}
+use Rattle.vector_kind.specs.declared.Kind.{Kind}
 use Rattle.sheet_reading.specs.Answers.{sheetRead}
 use Rattle.sheet.specs.Sheets.{Refused, refuse, afterNumber}
 use Rattle.sheet_reading.specs.Steps.{entered, numbered}

@@ -12,8 +12,8 @@ use Rattle.answer.specs.Refusals.{wrongKind}
 use Rattle.codec.specs.Reading.{numberAt}
 use Rattle.codec.specs.declared.Field.the-variants as field
 use Rattle.codec.specs.declared.Reading.{Reading}
-use Rattle.kind.specs.Kinds.{isKind, kindOf}
-use Rattle.kind.specs.declared.Kind.{Kind}
+use Rattle.vector_kind.specs.Kinds.{isKind, kindOf}
+use Rattle.vector_kind.specs.declared.Kind.{Kind}
 use Rattle.sheet_reading.specs.Answers.{sheetRead}
 use Rattle.sheet.specs.Sheets.{Refused, refuse, afterNumber, sheetOf}
 use Rattle.sheet_reading.specs.Steps.{numbered, kinded}

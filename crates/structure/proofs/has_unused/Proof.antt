@@ -10,9 +10,9 @@ use lib.Pow.{pow-mono}
 use borrow.Author.Tests.{lt-leb}
 use Rattle.numbers.specs.Tables.{tabulate}
 use Rattle.numbers.proofs.Tables.{tabulate-agree}
-use Rattle.sets.specs.Masks.{has, any}
-use Rattle.sets.proofs.Bools.{and-left, clash}
-use Rattle.sets.proofs.Ranges.{any-false}
+use Rattle.theory_sets.specs.Masks.{has, any}
+use Rattle.theory_sets.proofs.Bools.{and-left, clash}
+use Rattle.theory_sets.proofs.Ranges.{any-false}
 use Rattle.structure.proofs.has_unused.Statement.{statement}
 use Rattle.structure.proofs.has_unused.Tie as tie
 

@@ -13,11 +13,11 @@ use Rattle.answer.specs.Refusals.{emptySetWorks, fullSetFails, brokenSet}
 use Rattle.answer.specs.declared.Verdict.the-variants.{Accepted, Refused}
 use Rattle.answer.proofs.Outcomes.{refuse-held, refuse-passed}
 use Rattle.numbers.proofs.Counts.{upTo16-given}
-use Rattle.sets.specs.Masks.{least}
-use Rattle.sets.specs.Structures.{broken}
-use Rattle.sets.specs.Tables.{inTable}
-use Rattle.words.specs.Words.{inWords, wordsOf}
-use Rattle.words.proofs.Words.{inWords-wordsOf}
+use Rattle.theory_sets.specs.Masks.{least}
+use Rattle.theory_sets.specs.Structures.{broken}
+use Rattle.theory_sets.specs.Tables.{inTable}
+use Rattle.structure_words.specs.Words.{inWords, wordsOf}
+use Rattle.structure_words.proofs.Words.{inWords-wordsOf}
 use Rattle.structure.proofs.Walks.{first-found, first-none}
 use borrow.Author.Needs.{needs}
 use Rattle.structure.proofs.structure_verdict.Statement.{statement}

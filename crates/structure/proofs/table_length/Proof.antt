@@ -6,8 +6,8 @@ use native.Mathlib.Nat.{add-sub-of-le}
 use native.Mathlib.Omega.{arith}
 use lib.Pow.{pow-add}
 use Rattle.numbers.proofs.Counts.{upTo16-given, upTo16-above}
-use Rattle.sets.specs.Tables.{tableLength}
-use Rattle.sets.proofs.Tables.{tableLength-small, tableLength-large}
+use Rattle.theory_sets.specs.Tables.{tableLength}
+use Rattle.theory_sets.proofs.Tables.{tableLength-small, tableLength-large}
 use borrow.Author.Needs.{needs}
 use Rattle.structure.proofs.table_length.Statement.{statement}
 use Rattle.structure.proofs.table_length.Tie as tie

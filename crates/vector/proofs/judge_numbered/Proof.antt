@@ -2,10 +2,10 @@
 -- Assumes nothing.
 use mathlib.Core.Path.{sym, ap, _∙_}
 use denote.Ref.{now}
-use Rattle.kind.specs.Kinds.{kindOf}
-use Rattle.conversion.specs.Vectors.{vectorRefusal}
-use Rattle.kind.specs.declared.Kind.{Kind}
-use Rattle.kind.proofs.KindNumbers.{kind-passed, kind-refused}
+use Rattle.vector_kind.specs.Kinds.{kindOf}
+use Rattle.vector_conversion.specs.Vectors.{vectorRefusal}
+use Rattle.vector_kind.specs.declared.Kind.{Kind}
+use Rattle.vector_kind.proofs.KindNumbers.{kind-passed, kind-refused}
 use borrow.Author.Needs.{needs}
 use Rattle.vector.proofs.judge_numbered.Statement.{statement}
 use Rattle.vector.proofs.judge_numbered.Tie as tie

@@ -16,8 +16,8 @@ use Rattle.answer.specs.declared.Written.{Written}
 use Rattle.answer.specs.declared.Written.the-variants as written
 use Rattle.vector.specs.Held.{mostEntries, vectorHolding, entriesOf, heldRefusal, given, heldConverted}
 use Rattle.vector.specs.Steps.{lentCells}
-use Rattle.conversion.specs.Vectors.{vectorRefusal, converted}
-use Rattle.kind.specs.declared.Kind.{Kind}
+use Rattle.vector_conversion.specs.Vectors.{vectorRefusal, converted}
+use Rattle.vector_kind.specs.declared.Kind.{Kind}
 use Rattle.vector.specs.declared.Vector.{Vector}
 use Rattle.vector.proofs.Held.{lent-judged, lent-few, lent-all, cells-all, zeros-behind, converted-fits}
 use Rattle.answer.proofs.Deliveries.{refused-by}

@@ -6,7 +6,7 @@ use native.Mathlib.Omega.{arith}
 use lib.ListN.{length, take}
 use lib.Seq.{length-take-le}
 use Rattle.vector.specs.Held.{mostEntries}
-use Rattle.conversion.specs.Vectors.{vectorRefusal}
+use Rattle.vector_conversion.specs.Vectors.{vectorRefusal}
 use Rattle.vector.proofs.Held.{lent-judged, lent-few, cells-all}
 use borrow.Author.Needs.{needs}
 use Rattle.vector.proofs.Vector.judge.Statement.{statement}

@@ -1,0 +1,145 @@
+// Runs worked examples of 01 on numbers, records and changes and prints what the calculator answers; the file stdout beside this one's folder
+// holds what it must print.
+use answer::Written;
+use codec::Field;
+use codec::Reading;
+use libc::STDOUT_FILENO;
+use record_parts::PartList;
+use record_reader::Found;
+
+fn main() {
+    numbers();
+    replayed();
+}
+
+// Numbers in groups of seven bits, on an edge.
+fn numbers() {
+    say(b"numbers\n");
+    number(b"AC 02", &[0xAC, 0x02]);
+    number(b"80 00", &[0x80, 0x00]);
+    number(b"80", &[0x80]);
+    number(b"FF FF FF FF 0F", &[0xFF, 0xFF, 0xFF, 0xFF, 0x0F]);
+    number(b"FF FF FF FF 10", &[0xFF, 0xFF, 0xFF, 0xFF, 0x10]);
+    number(b"FF FF FF FF FF", &[0xFF, 0xFF, 0xFF, 0xFF, 0xFF]);
+}
+
+fn number(name: &[u8], bytes: &[u8]) {
+    say(name);
+    say(b": ");
+    let found = codec::read_number(bytes, 0, Field::Record);
+    match found {
+        Reading::Refused(refusal) => refused(refusal.number, refusal.place),
+        Reading::Number { value, next: _ } => {
+            io::print_decimal(STDOUT_FILENO, value);
+        }
+    }
+    say(b"\n");
+}
+
+// The spreadsheet's fault replayed: a pump is taken out and a sensor added. The sensor's number is new, and it stands in no set.
+fn replayed() {
+    say(b"the spreadsheet's fault replayed\n");
+    let mut bytes = [0u8; 12];
+    let made = record_changes::first_record(3, &[3, 5], &mut bytes);
+    match made {
+        Written::Refused(refusal) => refused(refusal.number, refusal.place),
+        Written::Length(length) => with_spare_pump(&bytes, length),
+    }
+}
+
+fn with_spare_pump(bytes: &[u8], length: usize) {
+    if length <= bytes.len() {
+        take_pump_out(&bytes[..length]);
+    }
+}
+
+fn take_pump_out(record: &[u8]) {
+    design(b"controller 1, pump 2, spare pump 3", record);
+    let mut bytes = [0u8; 12];
+    let made = record_changes::take_out(record, 3, &mut bytes);
+    match made {
+        Written::Refused(refusal) => refused(refusal.number, refusal.place),
+        Written::Length(length) => without_spare_pump(&bytes, length),
+    }
+}
+
+fn without_spare_pump(bytes: &[u8], length: usize) {
+    if length <= bytes.len() {
+        add_sensor(&bytes[..length]);
+    }
+}
+
+fn add_sensor(record: &[u8]) {
+    design(b"the spare pump taken out", record);
+    let mut bytes = [0u8; 12];
+    let made = record_changes::add_part(record, &mut bytes);
+    match made {
+        Written::Refused(refusal) => refused(refusal.number, refusal.place),
+        Written::Length(length) => with_sensor(&bytes, length),
+    }
+}
+
+fn with_sensor(bytes: &[u8], length: usize) {
+    if length <= bytes.len() {
+        sensor_design(&bytes[..length]);
+    }
+}
+
+fn sensor_design(record: &[u8]) {
+    design(b"an oxygen sensor added", record);
+}
+
+// A design by its part numbers.
+fn design(name: &[u8], record: &[u8]) {
+    let contents = record::whole_record(record);
+    let list = contents.list;
+    say(name);
+    say(b": parts");
+    show_parts(list, 65535);
+    say(b"; mark ");
+    io::print_decimal(STDOUT_FILENO, list.mark);
+    say(b"; sets");
+    show_named(record, list, contents.begin, contents.sets);
+    say(b"\n");
+}
+
+// So many sets of a record from an offset on, by part numbers.
+fn show_named(record: &[u8], list: PartList, begin: usize, count: usize) {
+    let mut offset = begin;
+    for _ in 0..count {
+        let found = record_reader::read_set(record, offset);
+        match found {
+            Found::End => return,
+            Found::Set { set, next } => {
+                say(b" {");
+                show_parts(list, set);
+                say(b" }");
+                offset = next;
+            }
+        }
+    }
+}
+
+// The numbers of the parts that a set names.
+fn show_parts(list: PartList, set: u64) {
+    let numbers = list.numbers;
+    for i in 0..PartList::MOST_PARTS {
+        if i < list.count {
+            if (set >> i) % 2 == 1 {
+                say(b" ");
+                io::print_decimal(STDOUT_FILENO, numbers[i]);
+            }
+        }
+    }
+}
+
+fn refused(number: u8, place: usize) {
+    say(b"refused ");
+    io::print_decimal(STDOUT_FILENO, number as u64);
+    say(b" at ");
+    io::print_decimal(STDOUT_FILENO, place as u64);
+}
+
+fn say(text: &[u8]) {
+    io::write_all(STDOUT_FILENO, text);
+}

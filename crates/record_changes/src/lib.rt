@@ -1,0 +1,180 @@
+// Changes of design records (01, "Records on disk"): a first record, and the three changes of record bytes. The whole record is checked as a
+// reader checks it, then the change, then the new record is written.
+use answer::Verdict;
+use answer::Written;
+use record::Cursor;
+use record::Step;
+use record_parts::Numbered;
+use record_parts::PartList;
+ghost use mathlib.Core.Path.{_≡_};
+ghost use Prim.Native.Nat.{ℕ, _+_, _≤_, _<_};
+ghost use mathlib.Core.List.{List·Memᴰ};
+ghost use lib.ListN.{length};
+ghost use Rattle.answer.specs.Outcome.{outcome, delivered};
+ghost use Rattle.theory_orders.specs.Antichains.{mostSets};
+ghost use Rattle.record.specs.Records.{design, wholeRecord};
+ghost use Rattle.record.specs.Contents.{stepAt, metIn};
+ghost use Rattle.record.specs.RecordBytes.{recordBytes, DesignRules};
+ghost use Rattle.record_lines.specs.Changes.{addPart, takeOut, addSet, setsWithout};
+ghost use Rattle.record_lines.specs.Records.{changedRecord, firstRecord};
+ghost use Rattle.record_changes.specs.Steps.{setCells, openedOf};
+
+// What a change works on: the part list of a record, the number of its sets, and these sets in front of an array.
+// Of a refused record: a list of no parts and no sets.
+struct Opened {
+    list: PartList,
+    count: usize,
+    sets: [u16; 12870],
+    verdict: Verdict,
+}
+
+// Add part: position n+1, part number mark+1, in no set.
+pub fn add_part(bytes: &[u8], buffer: &mut [u8]) -> Written
+    ensures { λ r. ⌜ outcome r (now (buffer .exit)) ≡ changedRecord addPart (now (bytes .entry)) (now (buffer .entry)) ⌝ }
+{
+    let opened = open_record(bytes);
+    let verdict = opened.verdict;
+    if let Verdict::Refused(refusal) = verdict {
+        return Written::Refused(refusal);
+    }
+    let old = opened.list;
+    let changed = old.add();
+    let numbered = changed.answer;
+    if let Numbered::Refused(refusal) = numbered {
+        return Written::Refused(refusal);
+    }
+    let list = changed.list;
+    let sets = opened.sets;
+    let count = opened.count;
+    write_design(list, &sets[..count], buffer)
+}
+
+// Take out the part at a position: the sets that name it go, higher positions move down by one, part numbers and mark stay.
+pub fn take_out(bytes: &[u8], position: usize, buffer: &mut [u8]) -> Written
+    ensures { λ r. ⌜ outcome r (now (buffer .exit)) ≡ changedRecord (takeOut position) (now (bytes .entry)) (now (buffer .entry)) ⌝ }
+{
+    let opened = open_record(bytes);
+    let verdict = opened.verdict;
+    if let Verdict::Refused(refusal) = verdict {
+        return Written::Refused(refusal);
+    }
+    let old = opened.list;
+    let changed = old.take_out(position);
+    let numbered = changed.answer;
+    if let Numbered::Refused(refusal) = numbered {
+        return Written::Refused(refusal);
+    }
+    let list = changed.list;
+    let sets = opened.sets;
+    let count = opened.count;
+    let mut kept = [0u16; 12870];
+    let left = sets_without(&sets[..count], position - 1, &mut kept);
+    if left == 0 {
+        return answer::unwritten(answer::IN_EVERY_SET, 0);
+    }
+    write_design(list, &kept[..left], buffer)
+}
+
+// Add set: the minimal sets of the old ones and the new one.
+pub fn add_set(bytes: &[u8], set: u16, buffer: &mut [u8]) -> Written
+    ensures { λ r. ⌜ outcome r (now (buffer .exit)) ≡ changedRecord (addSet set) (now (bytes .entry)) (now (buffer .entry)) ⌝ }
+{
+    let opened = open_record(bytes);
+    let verdict = opened.verdict;
+    if let Verdict::Refused(refusal) = verdict {
+        return Written::Refused(refusal);
+    }
+    let list = opened.list;
+    let n = list.count;
+    let sets = opened.sets;
+    let count = opened.count;
+    let mut minimal = [0u16; 12870];
+    let found = record_sets::minimal_with(n, &sets[..count], set, &mut minimal);
+    match found {
+        Written::Refused(refusal) => Written::Refused(refusal),
+        Written::Length(left) => write_design(list, &minimal[..left], buffer),
+    }
+}
+
+// A first record, from the number of parts and a list of sets: part numbers 1 to n, mark n, the minimal sets.
+pub fn first_record(n: usize, list: &[u16], buffer: &mut [u8]) -> Written
+    ensures { λ r. ⌜ outcome r (now (buffer .exit)) ≡ firstRecord n (now (list .entry)) (now (buffer .entry)) ⌝ }
+{
+    let mut sets = [0u16; 12870];
+    let found = record_sets::minimal_of_list(n, list, &mut sets);
+    match found {
+        Written::Refused(refusal) => Written::Refused(refusal),
+        Written::Length(count) => {
+            let numbers: [u64; 16] = [1, 2, 3, 4, 5, 6, 7, 8, 9, 10, 11, 12, 13, 14, 15, 16];
+            record_writing::write_record(n as u64, &numbers[..n], &sets[..count], buffer)
+        }
+    }
+}
+
+// The record that the bytes are, checked whole, and its sets loaded.
+fn open_record(bytes: &[u8]) -> Opened
+    ensures { λ r. ⌜ r ≡ openedOf (wholeRecord (now (bytes .entry))) ⌝ }
+{
+    let contents = record::whole_record(bytes);
+    let first = Cursor {
+        next: contents.begin,
+        left: contents.sets,
+    };
+    let sets = load_sets(bytes, first);
+    let list = contents.list;
+    let verdict = contents.verdict;
+    Opened {
+        list,
+        count: contents.sets,
+        sets,
+        verdict,
+    }
+}
+
+// The sets that a walk from a cursor meets.
+fn load_sets(bytes: &[u8], first: Cursor) -> [u16; 12870]
+    requires { ⌜ first .left ≤ mostSets ⌝ }
+    requires { ⌜ ((set : ℕ) → List·Memᴰ set (metIn (first .left) (now bytes) (stepAt (now bytes) first)) → set < 65536) ⌝ }
+    ensures { λ r. ⌜ r ≡ setCells (metIn (first .left) (now (bytes .entry)) (stepAt (now (bytes .entry)) first)) ⌝ }
+{
+    let mut sets = [0u16; 12870];
+    let count = first.left;
+    let mut cursor = first;
+    let mut read = 0;
+    while read < count {
+        let step = cursor.step(bytes);
+        let Step::Set {
+            set,
+            cursor: behind,
+        } = step
+        else {
+            return sets;
+        };
+        sets[read] = set as u16;
+        cursor = behind;
+        read += 1;
+    }
+    sets
+}
+
+// The sets that do not name the part at an index, with higher positions moved down by one, into a local array, and how many they are.
+fn sets_without(sets: &[u16], index: usize, kept: &mut [u16]) -> usize
+    requires { ⌜ length (now sets) ≤ length (now kept) ⌝ }
+    ensures { λ r. ⌜ outcome (Written.Length r) (now (kept .exit)) ≡ delivered Verdict.Accepted (setsWithout index (now (sets .entry))) (now (kept .entry)) ⌝ }
+{
+    let written = record_sets::sets_without(sets, index, kept);
+    match written {
+        Written::Refused(_) => 0,
+        Written::Length(left) => left,
+    }
+}
+
+// Writes the record of this part list and these minimal sets into a lent buffer, or says how many bytes it needs.
+fn write_design(list: PartList, sets: &[u16], buffer: &mut [u8]) -> Written
+    requires { ⌜ DesignRules (design list (now sets)) ⌝ }
+    ensures { λ r. ⌜ outcome r (now (buffer .exit)) ≡ delivered Verdict.Accepted (recordBytes (design list (now (sets .entry)))) (now (buffer .entry)) ⌝ }
+{
+    let numbers = list.numbers;
+    let count = list.count;
+    record_writing::write_record(list.mark, &numbers[..count], sets, buffer)
+}

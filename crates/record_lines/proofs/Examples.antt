@@ -1,0 +1,69 @@
+-- The definitions of changes on the bridge and at the edges: they compute.
+-- Assumes nothing.
+use mathlib.Core.Path.{_≡_, refl}
+use mathlib.Core.List.{List, [], _∷_, map}
+use Prim.Native.Nat.{ℕ}
+use lib.ListN.{replicate}
+use Rattle.answer.specs.Outcome.{at, outcome}
+use Rattle.answer.specs.declared.Written.{Written}
+use Rattle.answer.specs.declared.Written.the-variants.{Length, Refused}
+use Rattle.codec.specs.Reading.{numberIn, numberAt}
+use Rattle.codec.specs.ByteForm.{grouped, bytesOf}
+use Rattle.numbers.specs.Tables.{tabulate}
+use Rattle.record_numbers.specs.Numbering.{partListRefusal}
+use Rattle.record_parts.specs.Changes.{added, takenOut}
+use Rattle.theory_sets.specs.Masks.{has, holds, any, those}
+use Rattle.theory_sets.specs.Structures.{listed, minimal}
+use Rattle.structure.specs.Checks as structure
+use Rattle.record_head.specs.Headings.{fieldAt, numbersAt, partsAt, headAt}
+use Rattle.record.specs.Records.{misplaced, setsAt, recordAt, wholeRecord}
+use Rattle.record_head.specs.HeadingBytes.{formsOf, partsBytes, headBytes}
+use Rattle.record.specs.RecordBytes.{recordBytes}
+use Rattle.record_lines.specs.Changes.{Change, addPart, takeOut, addSet, lowered, setsWithout}
+use Rattle.record_lines.specs.Records.{changedRecord, firstRecord}
+use Rattle.record_lines.specs.Lines.{Call, after, lastOf}
+
+-- 01's bridge: 05 05 01 02 03 04 05 04 09 0E 12 15
+abbrev bridge : List ℕ
+bridge = 5 ∷ 5 ∷ 1 ∷ 2 ∷ 3 ∷ 4 ∷ 5 ∷ 4 ∷ 9 ∷ 14 ∷ 18 ∷ 21 ∷ []
+
+-- a call with room enough
+abbrev call : Change → Call
+call change = record { change = change; buffer = replicate 20 0 }
+
+abbrev answer : Change → List ℕ → ℕ → Written
+answer change bytes room = changedRecord change bytes (replicate room 0) .answer
+
+-- Changes that are made: the highest part leaves and the mark stays; the next part gets the number after the mark, and not after the highest
+-- part; an idle part leaves without touching a set; a set that is there, or holds one that is, changes nothing; one inside old ones replaces
+-- them, at its place.
+made :
+    after (call (takeOut 5)) bridge ∷ after (call addPart) (4 ∷ 5 ∷ 1 ∷ 2 ∷ 3 ∷ 4 ∷ 2 ∷ 9 ∷ 14 ∷ []) ∷ after (call addPart) (1 ∷ 9 ∷ 3 ∷ 1 ∷ 1 ∷ [])
+    ∷ after (call (takeOut 2)) (2 ∷ 2 ∷ 1 ∷ 2 ∷ 1 ∷ 1 ∷ []) ∷ after (call (takeOut 3)) bridge ∷ after (call (addSet 9)) bridge ∷ after (call (addSet 31)) bridge
+    ∷ after (call (addSet 1)) bridge ∷ []
+    ≡ (4 ∷ 5 ∷ 1 ∷ 2 ∷ 3 ∷ 4 ∷ 2 ∷ 9 ∷ 14 ∷ []) ∷ (5 ∷ 6 ∷ 1 ∷ 2 ∷ 3 ∷ 4 ∷ 6 ∷ 2 ∷ 9 ∷ 14 ∷ []) ∷ (2 ∷ 10 ∷ 3 ∷ 10 ∷ 1 ∷ 1 ∷ [])
+    ∷ (1 ∷ 2 ∷ 1 ∷ 1 ∷ 1 ∷ []) ∷ (4 ∷ 5 ∷ 1 ∷ 2 ∷ 4 ∷ 5 ∷ 2 ∷ 5 ∷ 10 ∷ []) ∷ bridge ∷ bridge
+    ∷ (5 ∷ 5 ∷ 1 ∷ 2 ∷ 3 ∷ 4 ∷ 5 ∷ 3 ∷ 1 ∷ 14 ∷ 18 ∷ []) ∷ []
+unfolding changedRecord wholeRecord recordAt headAt partsAt numbersAt setsAt fieldAt misplaced has holds any those listed minimal numberAt numberIn recordBytes headBytes partsBytes formsOf bytesOf grouped added takenOut partListRefusal lowered setsWithout
+made = refl
+
+-- Changes that are refused: the last part is 18; a position that is not there is 17, before 18; 20 looks at the mark; 4 and 5 at place 0; 11 with the
+-- needed length behind the change's own refusals; and 25 of the record before anything of the change.
+not-made :
+    answer (takeOut 1) (1 ∷ 1 ∷ 1 ∷ 1 ∷ 1 ∷ []) 9 ∷ answer (takeOut 1) (3 ∷ 3 ∷ 1 ∷ 2 ∷ 3 ∷ 2 ∷ 3 ∷ 5 ∷ []) 9 ∷ answer (takeOut 0) (1 ∷ 1 ∷ 1 ∷ 1 ∷ 1 ∷ []) 9
+    ∷ answer (takeOut 2) (1 ∷ 1 ∷ 1 ∷ 1 ∷ 1 ∷ []) 9 ∷ answer addPart (1 ∷ 255 ∷ 255 ∷ 255 ∷ 255 ∷ 15 ∷ 1 ∷ 1 ∷ 1 ∷ []) 9
+    ∷ answer (addSet 0) (1 ∷ 1 ∷ 1 ∷ 1 ∷ 1 ∷ []) 9 ∷ answer (addSet 2) (1 ∷ 1 ∷ 1 ∷ 1 ∷ 1 ∷ []) 9 ∷ answer (takeOut 3) bridge 8
+    ∷ answer (takeOut 9) bridge 0 ∷ answer (takeOut 9) (1 ∷ 1 ∷ 1 ∷ 1 ∷ 1 ∷ 0 ∷ []) 9 ∷ []
+    ≡ map Refused (at 18 0 ∷ at 18 0 ∷ at 17 0 ∷ at 17 0 ∷ at 20 0 ∷ at 5 0 ∷ at 4 0 ∷ at 11 9 ∷ at 17 0 ∷ at 25 5 ∷ [])
+unfolding changedRecord wholeRecord recordAt headAt partsAt numbersAt setsAt fieldAt misplaced has holds any those listed minimal numberAt numberIn recordBytes headBytes partsBytes formsOf bytesOf grouped added takenOut partListRefusal lowered setsWithout
+not-made = refl
+
+-- The spreadsheet's fault: a pump, part 3, is taken out and a sensor is added. The sensor is part 6 and stands in no set.
+sensor : lastOf (call (takeOut 3) ∷ call addPart ∷ []) bridge ≡ 5 ∷ 6 ∷ 1 ∷ 2 ∷ 4 ∷ 5 ∷ 6 ∷ 2 ∷ 5 ∷ 10 ∷ []
+unfolding changedRecord wholeRecord recordAt headAt partsAt numbersAt setsAt fieldAt misplaced has holds any those listed minimal numberAt numberIn recordBytes headBytes partsBytes formsOf bytesOf grouped added takenOut partListRefusal lowered setsWithout
+sensor = refl
+
+-- a first record of a list with a repeat and a nested set
+first : firstRecord 2 (3 ∷ 1 ∷ 1 ∷ []) (replicate 7 9) ≡ outcome (Length 6) (2 ∷ 2 ∷ 1 ∷ 2 ∷ 1 ∷ 1 ∷ 9 ∷ [])
+unfolding firstRecord structure.listRefusal structure.entriesRefusal tabulate holds any those listed minimal recordBytes headBytes partsBytes formsOf bytesOf grouped
+first = refl

@@ -1,0 +1,138 @@
+-- Laws of the part numbers of a set: which they are, that they decide the set, and that one set holds another exactly if it names all that the
+-- other names.
+-- Assumes nothing.
+use mathlib.Core.Path.{_≡_, refl, sym, ap, ap₂, _∙_, subst}
+use mathlib.Core.Bool.{Bool, true, false, cond, _||_}
+use mathlib.Core.List.{List, [], _∷_, _++_, List·Memᴰ·head, List·Memᴰ·tail, List·Memᴰ·not-nil, List·Memᴰ·cases-cons}
+use mathlib.Core.Logic.{_⊎_, inl, inr}
+use Prim.Native.Nat.{ℕ, zero, suc, _/_, _^_, _≤_, _<_}
+use native.Mathlib.Nat.{pow-succ', le-of-suc-le-suc}
+use native.Mathlib.Omega.{arith}
+use borrow.Author.Tests.{eqb-true, eq-eqb}
+use lib.Dec.{eqb}
+use lib.ListN.{length, getD}
+use lib.Seq.{take-nil}
+use Rattle.theory_sums.specs.Sums.{some}
+use Rattle.record_numbers.specs.Numbering.{RisingWithin, without}
+use Rattle.record_parts.specs.Lines.{In}
+use Rattle.record_parts.proofs.LeftOut.{in-at}
+use Rattle.record_parts.proofs.Numbers.{rising-in}
+use Rattle.theory_sets.specs.Masks.{has, holds}
+use Rattle.theory_sets.proofs.Bools.{clash, or-cases, or-left, or-right}
+use Rattle.theory_sets.proofs.Masks.{has-suc, has-even, has-above, holds-part, holds-of-parts, holds-antisym}
+use Rattle.theory_sets.proofs.Ranges.{below-or-above}
+use Rattle.record_lines.specs.Changes.{lowered}
+use Rattle.record_lines.specs.Names.{named, names}
+use Rattle.record_lines.proofs.MovedDown.{lowered-zero, lowered-low, lowered-half}
+
+-- the numbers of a set by its lowest bit and the rest
+abbrev picked : Bool → ℕ → List ℕ → List ℕ
+picked here number rest = cond here (number ∷ rest) rest
+
+-- a part more, which the set lacks, changes no names
+pub named-more : (numbers : List ℕ) (number set : ℕ) → set < 2 ^ length numbers → named (numbers ++ (number ∷ [])) set ≡ named numbers set
+unfolding named
+named-more [] number set h = ap (λ (p : Bool). picked p number []) (has-even set (omega arith))
+named-more (p ∷ ps) number set h =
+    ap (picked (has set 0) p) (named-more ps number (set / 2) (omega (arith, pow-succ' 2 (length ps))))
+
+-- a part left out that the set lacks, where higher positions move down, changes no names
+pub named-without : (index : ℕ) (numbers : List ℕ) (set : ℕ) → has set index ≡ false → named (without index numbers) (lowered index set) ≡ named numbers set
+unfolding named
+named-without index [] set lacks = simp take-nil
+named-without zero (p ∷ ps) set lacks = ap (named ps) (lowered-zero set) ∙ ap (λ (q : Bool). picked q p (named ps (set / 2))) (sym lacks)
+named-without (suc i) (p ∷ ps) set lacks =
+    ap₂ (λ (q : Bool) (rest : List ℕ). picked q p rest) (lowered-low i set)
+    (ap (named (without i ps)) (lowered-half i set) ∙ named-without i ps (set / 2) (sym (has-suc set i) ∙ lacks))
+
+-- each is one of the numbers, at a position whose bit is set
+pub record Position (numbers : List ℕ) (set number : ℕ) : Type 0 where
+  pub index : ℕ
+  pub inside : index < length numbers
+  pub member : has set index ≡ true
+  pub same : number ≡ getD numbers index 0
+
+pub named-position : (numbers : List ℕ) (set : ℕ) {number : ℕ} → In number (named numbers set) → Position numbers set number
+unfolding named
+named-position [] set i = absurd (List·Memᴰ·not-nil i)
+named-position (p ∷ ps) set {number} i = cases (has set 0) refl (named-position ps (set / 2)) i
+  where
+    later : Position ps (set / 2) number → Position (p ∷ ps) set number
+    later at =
+        record { index = suc (at .index); inside = omega (arith, at .inside); member = has-suc set (at .index) ∙ at .member; same = at .same }
+
+    cases : (q : Bool) → has set 0 ≡ q → (In number (named ps (set / 2)) → Position ps (set / 2) number) → In number (picked q p (named ps (set / 2)))
+        → Position (p ∷ ps) set number
+    cases true e rest i = first (List·Memᴰ·cases-cons i)
+      where
+        first : (number ≡ p) ⊎ In number (named ps (set / 2)) → Position (p ∷ ps) set number
+        first (inl same) = record { index = 0; inside = omega arith; member = e; same = same }
+        first (inr i) = later (rest i)
+    cases false e rest i = later (rest i)
+
+pub named-in : (numbers : List ℕ) (set : ℕ) {number : ℕ} → In number (named numbers set) → In number numbers
+named-in numbers set {number} i =
+    let at = named-position numbers set i in
+    subst (λ (x : ℕ). In x numbers) (sym (at .same)) (in-at (at .index) numbers (at .inside))
+
+pub named-at : (numbers : List ℕ) (set index : ℕ) → index < length numbers → has set index ≡ true → In (getD numbers index 0) (named numbers set)
+unfolding named
+named-at [] set index h k = absurd (omega arith)
+named-at (p ∷ ps) set zero h k = subst (λ (q : Bool). In p (picked q p (named ps (set / 2)))) (sym k) (List·Memᴰ·head refl)
+named-at (p ∷ ps) set (suc i) h k = cases (has set 0) (named-at ps (set / 2) i (le-of-suc-le-suc h) (sym (has-suc set i) ∙ k))
+  where
+    cases : (q : Bool) → In (getD ps i 0) (named ps (set / 2)) → In (getD ps i 0) (picked q p (named ps (set / 2)))
+    cases true rest = List·Memᴰ·tail rest
+    cases false rest = rest
+
+-- Rising numbers stand at one position each, so the number at a position is named exactly if the bit is set.
+rising-once : (low high : ℕ) (numbers : List ℕ) → RisingWithin low high numbers → (i j : ℕ) → i < length numbers → j < length numbers → getD numbers i 0 ≡ getD numbers j 0 → i ≡ j
+rising-once low high [] r i j hi hj e = absurd (omega arith)
+rising-once low high (p ∷ ps) r zero zero hi hj e = refl
+rising-once low high (p ∷ ps) r zero (suc j) hi hj e = absurd (omega (arith, rising-in p high ps (r .2) (in-at j ps (le-of-suc-le-suc hj)) .0))
+rising-once low high (p ∷ ps) r (suc i) zero hi hj e = absurd (omega (arith, rising-in p high ps (r .2) (in-at i ps (le-of-suc-le-suc hi)) .0))
+rising-once low high (p ∷ ps) r (suc i) (suc j) hi hj e = ap suc (rising-once p high ps (r .2) i j (le-of-suc-le-suc hi) (le-of-suc-le-suc hj) e)
+
+module _ (low high : ℕ) (numbers : List ℕ) (rising : RisingWithin low high numbers) where
+  pub named-has : (set index : ℕ) → index < length numbers → In (getD numbers index 0) (named numbers set) → has set index ≡ true
+  named-has set index h i =
+      let at = named-position numbers set i in
+      let same : at .index ≡ index = rising-once low high numbers rising (at .index) index (at .inside) h (sym (at .same)) in
+      subst (λ (k : ℕ). has set k ≡ true) same (at .member)
+
+  -- one set holds another exactly if it names all that the other names
+  pub holds-names : (a b : ℕ) → holds a b ≡ true → (number : ℕ) → In number (named numbers b) → In number (named numbers a)
+  holds-names a b within number i =
+      let at = named-position numbers b i in
+      subst (λ (x : ℕ). In x (named numbers a)) (sym (at .same)) (named-at numbers a (at .index) (at .inside) (holds-part a b within (at .index) (at .member)))
+
+  pub names-hold : (a b : ℕ) → b < 2 ^ length numbers → ((number : ℕ) → In number (named numbers b) → In number (named numbers a)) → holds a b ≡ true
+  names-hold a b hb within = holds-of-parts a b (λ i k. cases i k (below-or-above i (length numbers)))
+    where
+      cases : (i : ℕ) → has b i ≡ true → (i < length numbers) ⊎ (length numbers ≤ i) → has a i ≡ true
+      cases i k (inl below) = named-has a i below (within (getD numbers i 0) (named-at numbers b i below k))
+      cases i k (inr above) = clash k (has-above b (length numbers) i hb above)
+
+  -- and the names decide the set
+  pub named-once : (a b : ℕ) → a < 2 ^ length numbers → b < 2 ^ length numbers → named numbers a ≡ named numbers b → a ≡ b
+  named-once a b ha hb e =
+      holds-antisym a b (names-hold a b hb (λ number i. rw e i)) (names-hold b a ha (λ number i. rw e at i))
+
+-- the test for a name
+pub names-intro : (number : ℕ) (set : List ℕ) → In number set → names number set ≡ true
+unfolding some
+names-intro number [] i = absurd (List·Memᴰ·not-nil i)
+names-intro number (x ∷ xs) i = cases (List·Memᴰ·cases-cons i) (names-intro number xs)
+  where
+    cases : (number ≡ x) ⊎ In number xs → (In number xs → names number xs ≡ true) → eqb number x || names number xs ≡ true
+    cases (inl e) rest = or-left (names number xs) (eq-eqb number x e)
+    cases (inr later) rest = or-right (eqb number x) (rest later)
+
+pub names-elim : (number : ℕ) (set : List ℕ) → names number set ≡ true → In number set
+unfolding some
+names-elim number [] h = clash {p = true} refl (sym h)
+names-elim number (x ∷ xs) h = cases (or-cases (eqb number x) (names number xs) h) (names-elim number xs)
+  where
+    cases : (eqb number x ≡ true) ⊎ (names number xs ≡ true) → (names number xs ≡ true → In number xs) → In number (x ∷ xs)
+    cases (inl e) rest = List·Memᴰ·head (eqb-true number x e)
+    cases (inr later) rest = List·Memᴰ·tail (rest later)

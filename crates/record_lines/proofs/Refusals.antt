@@ -1,0 +1,59 @@
+-- Each change is refused exactly where 01 says so: 17 for a position that is not there, 18 if every set names the part, 19 for the seventeenth
+-- part, 20 if no number is left, 4 and 5 for a set; and nothing else refuses it but a buffer that is too short.
+-- Assumes nothing.
+use mathlib.Core.Path.{_≡_, ap, _∙_}
+use mathlib.Core.Bool.{false}
+use mathlib.Core.List.{List, List·Memᴰ}
+use mathlib.Core.Logic.{_↔_}
+use Prim.Native.Nat.{ℕ, _-_, _^_, _≤_, _<_}
+use native.Mathlib.Omega.{arith}
+use borrow.Author.Tests.{ne-eqb, le-ltb, lt-leb, le-leb}
+use lib.ListN.{length}
+use Rattle.answer.specs.Outcome.{delivered}
+use Rattle.answer.specs.declared.Verdict.{Verdict}
+use Rattle.answer.specs.declared.Verdict.the-variants.{Accepted}
+use Rattle.answer.specs.declared.Written.the-variants.{Length}
+use Rattle.record_numbers.specs.Numbering.{mostParts, topNumber}
+use Rattle.theory_sets.specs.Masks.{has}
+use Rattle.theory_sets.proofs.Bools.{clash, false-of}
+use Rattle.record_head.specs.Headings.{Read, found}
+use Rattle.record.specs.Records.{Design, wholeRecord}
+use Rattle.record.specs.RecordBytes.{recordBytes, DesignRules}
+use Rattle.record_lines.specs.Changes.{Change, addPart, takeOut, addSet, every, changeRefusal, changed}
+use Rattle.record_lines.specs.Records.{changedRead, changedRecord}
+use Rattle.record_lines.proofs.Keeping.{every-elim, every-fails}
+use Rattle.record_lines.proofs.Rules.{add-accepted, take-out-accepted, set-accepted}
+
+-- a part is added while there are fewer than 16 and a number is left
+pub add-part-exactly : (d : Design) → DesignRules d → (changeRefusal addPart d ≡ Accepted) ↔ ((d .parts .count < mostParts) × (d .parts .mark < topNumber))
+add-part-exactly d r = (
+  add-accepted (d .parts) (r .parts),
+  λ room. simp (ne-eqb (d .parts .count) mostParts (λ e. omega (arith, room .0)), ne-eqb (d .parts .mark) topNumber (λ e. omega (arith, room .1))),
+)
+
+-- a part is taken out at a position of the machine, while some set does not name it
+pub take-out-exactly : (position : ℕ) (d : Design) → DesignRules d → (changeRefusal (takeOut position) d ≡ Accepted)
+    ↔ ((1 ≤ position) × (position ≤ d .parts .count) × ((set : ℕ) × List·Memᴰ set (d .sets) × (has set (position - 1) ≡ false)))
+take-out-exactly position d r = (
+  λ accepted. let a = take-out-accepted position d r accepted in (a .from, a .to, every-fails (λ set. has set (position - 1)) (d .sets) (a .left)),
+  λ good.
+      let left : every (λ set. has set (position - 1)) (d .sets) ≡ false =
+      false-of (every (λ set. has set (position - 1)) (d .sets)) (λ all. clash (every-elim (λ set. has set (position - 1)) (d .sets) all (good .2 .1)) (good .2 .2)) in
+      simp (ne-eqb position 0 (λ e. omega (arith, good .0)), le-ltb (d .parts .count) position (good .1), left),
+)
+
+-- a set is added that has a part, and only parts of the machine
+pub add-set-exactly : (set : ℕ) (d : Design) → (changeRefusal (addSet set) d ≡ Accepted) ↔ ((set < 2 ^ (d .parts .count)) × (0 < set))
+add-set-exactly set d = (
+  set-accepted set d,
+  λ good. simp (lt-leb (2 ^ (d .parts .count)) set (good .0), ne-eqb set 0 (λ e. omega (arith, good .1))),
+)
+
+-- a change that nothing refuses is made wherever the buffer has room for the new record, whose bytes are then the front of it
+pub change-given : (change : Change) (bytes buffer : List ℕ) (d : Design) (next : ℕ) → wholeRecord bytes ≡ found d next → changeRefusal change d ≡ Accepted
+    → length (recordBytes (changed change d)) ≤ length buffer → changedRecord change bytes buffer .answer ≡ Length (length (recordBytes (changed change d)))
+unfolding changedRecord
+change-given change bytes buffer d next read accepted room =
+    let result : List ℕ = recordBytes (changed change d) in
+    ap (λ (r : Read Design). changedRead change r buffer .answer) read ∙ ap (λ (v : Verdict). delivered v result buffer .answer) accepted
+    ∙ simp (le-leb (length result) (length buffer) room)

@@ -1,0 +1,194 @@
+-- What a change gives keeps the rules of a design, and so does a first design. Parts refuse the only part of a list by 18 themselves: every set
+-- of a machine of one part names it, so the record's 18 agrees.
+-- Assumes nothing.
+use mathlib.Core.Path.{_≡_, refl, sym, ap, _∙_, subst}
+use mathlib.Core.Bool.{Bool, true, false}
+use mathlib.Core.List.{List, [], _∷_, List·Memᴰ, List·Memᴰ·cases-cons}
+use mathlib.Core.Logic.{_⊎_, inl, inr, ⊎-elim}
+use Prim.Native.Nat.{ℕ, zero, suc, _+_, _-_, _^_, _≤_, _<_}
+use native.Mathlib.Nat.{pow-succ', pos-of-ne-zero}
+use native.Mathlib.Omega.{arith}
+use borrow.Author.Tests.{eqb-true, eqb-false, ltb-false, leb-false}
+use lib.Dec.{eqb, ltb, leb}
+use lib.ListN.{length, length-append}
+use Rattle.answer.specs.Refusals.{unknownPart, emptySet, unknownPosition, inEverySet, fullMachine, numbersSpent}
+use Rattle.answer.specs.Outcome.{at, refuse}
+use Rattle.answer.specs.declared.Refusal.{Refusal}
+use Rattle.answer.specs.declared.Verdict.the-variants.{Accepted, Refused}
+use Rattle.answer.proofs.Outcomes.{refuse-accepted}
+use Rattle.numbers.specs.Tables.{tabulate}
+use Rattle.numbers.proofs.Tables.{tabulate-length, tabulate-suc}
+use Rattle.record_parts.specs.declared.PartList.{PartList}
+use Rattle.record_parts.specs.declared.Changed.{Changed}
+use Rattle.record_numbers.specs.Numbering.{mostParts, topNumber, RisingWithin}
+use Rattle.record_parts.specs.PartLists.{numbersOf, WellFormed}
+use Rattle.record_parts.specs.Changes.{added, takenOut, addRefusal}
+use Rattle.record_parts.specs.Changes as parts
+use Rattle.record_parts.specs.Lines as lines
+use Rattle.record_parts.proofs.LeftOut.{length-without}
+use Rattle.record_parts.proofs.Numbers.{rising-append}
+use Rattle.record_parts.proofs.OneChange.{line-one, added-given, taken-out-given}
+use Rattle.record_parts.proofs.WellFormed.{list-well-formed, well-formed-counted}
+use Rattle.theory_sets.specs.Masks.{has}
+use Rattle.theory_sets.specs.Structures.{listed, minimalSets}
+use Rattle.theory_sets.proofs.Bools.{clash}
+use Rattle.theory_sets.proofs.Masks.{has-odd}
+use Rattle.theory_sets.proofs.Ranges.{below-or-above}
+use Rattle.theory_sets.proofs.Lists.{listed-semicoherent}
+use Rattle.structure.specs.Checks.{listRefusal}
+use Rattle.structure.proofs.Acceptance.{AcceptedList, accepted-list}
+use Rattle.record.specs.Records.{Design}
+use Rattle.record.specs.RecordBytes.{SetRules, DesignRules}
+use Rattle.record_lines.specs.Changes.{Change, addPart, takeOut, addSet, every, takeOutRefusal, addSetRefusal, changeRefusal, changed, firstDesign}
+use Rattle.record_lines.proofs.Keeping.{every-intro}
+use Rattle.record_lines.proofs.MinimalSets.{minimal-set-rules}
+use Rattle.record_lines.proofs.TakenOut.{without-rules}
+
+-- ---- what an accepted change may rest on
+
+pub add-accepted : (list : PartList) → WellFormed list → addRefusal list ≡ Accepted → (list .count < mostParts) × (list .mark < topNumber)
+add-accepted list w accepted =
+    let s = refuse-accepted (eqb (list .count) mostParts) fullMachine 0 _ accepted in
+    let t = refuse-accepted (eqb (list .mark) topNumber) numbersSpent 0 Accepted (s .1) in
+    (omega (arith, eqb-false (list .count) mostParts (s .0), w .rules .few), omega (arith, eqb-false (list .mark) topNumber (t .0), w .rules .top))
+
+-- every set of a machine of one part names it
+pub one-part : (sets : List ℕ) → SetRules 1 sets → every (λ set. has set 0) sets ≡ true
+one-part sets r =
+    every-intro (λ set. has set 0) sets (λ a m. let w = r .within a m in has-odd a (omega (arith, w .0, w .1)))
+
+pub record TakeOutAccepted (position : ℕ) (d : Design) : Type 0 where
+  pub from : 1 ≤ position
+  pub to : position ≤ d .parts .count
+  pub two : 2 ≤ d .parts .count
+  pub left : every (λ set. has set (position - 1)) (d .sets) ≡ false
+
+pub take-out-accepted : (position : ℕ) (d : Design) → DesignRules d → takeOutRefusal position d ≡ Accepted → TakeOutAccepted position d
+take-out-accepted position d r accepted =
+    let n : ℕ = d .parts .count in
+    let s = refuse-accepted (eqb position 0) unknownPosition 0 _ accepted in
+    let t = refuse-accepted (ltb n position) unknownPosition 0 _ (s .1) in
+    let u = refuse-accepted (every (λ set. has set (position - 1)) (d .sets)) inEverySet 0 Accepted (t .1) in
+    let from : 1 ≤ position = pos-of-ne-zero (eqb-false position 0 (s .0)) in
+    let to : position ≤ n = ltb-false n position (t .0) in
+    record { from = from; to = to; two = several from to (u .0) (below-or-above 1 n); left = u .0 }
+  where
+    several : 1 ≤ position → position ≤ d .parts .count → every (λ set. has set (position - 1)) (d .sets) ≡ false → (1 < d .parts .count) ⊎ (d .parts .count ≤ 1)
+        → 2 ≤ d .parts .count
+    several from to left (inl more) = more
+    several from to left (inr one) =
+        let single : d .parts .count ≡ 1 = omega (arith, r .parts .rules .some) in
+        let index : position - 1 ≡ 0 = omega arith in
+        clash (one-part (d .sets) (rw single at (r .sets))) (rw index at left)
+
+-- what parts refuse, the record refuses by the same number; 18 for the only part among it
+pub take-out-agrees : (position : ℕ) (d : Design) → DesignRules d → (refusal : Refusal) → parts.takeOutRefusal (d .parts) position ≡ Refused refusal
+    → takeOutRefusal position d ≡ Refused refusal
+take-out-agrees position d r refusal = first (eqb position 0) refl
+  where
+    third : ltb (d .parts .count) position ≡ false → eqb position 0 ≡ false → (p : Bool) → eqb (d .parts .count) 1 ≡ p → refuse p inEverySet 0 Accepted ≡ Refused refusal
+        → refuse (every (λ set. has set (position - 1)) (d .sets)) inEverySet 0 Accepted ≡ Refused refusal
+    third within some true e refused =
+        let single : d .parts .count ≡ 1 = eqb-true (d .parts .count) 1 e in
+        let index : position - 1 ≡ 0 = omega (arith, ltb-false (d .parts .count) position within) in
+        let whole : every (λ set. has set (position - 1)) (d .sets) ≡ true = rw index (one-part (d .sets) (rw single at (r .sets))) in
+        rw whole refused
+    third within some false e refused = let z : _≡_ {A = ℕ} 0 1 = cc in absurd (omega arith)
+
+    second : eqb position 0 ≡ false → (p : Bool) → ltb (d .parts .count) position ≡ p
+        → refuse p unknownPosition 0 (refuse (eqb (d .parts .count) 1) inEverySet 0 Accepted) ≡ Refused refusal
+        → refuse p unknownPosition 0 (refuse (every (λ set. has set (position - 1)) (d .sets)) inEverySet 0 Accepted) ≡ Refused refusal
+    second some true e refused = refused
+    second some false e refused = third e some (eqb (d .parts .count) 1) refl refused
+
+    first : (p : Bool) → eqb position 0 ≡ p
+        → refuse p unknownPosition 0 (refuse (ltb (d .parts .count) position) unknownPosition 0 (refuse (eqb (d .parts .count) 1) inEverySet 0 Accepted)) ≡ Refused refusal
+        → refuse p unknownPosition 0 (refuse (ltb (d .parts .count) position) unknownPosition 0 (refuse (every (λ set. has set (position - 1)) (d .sets)) inEverySet 0 Accepted)) ≡ Refused refusal
+    first true e refused = refused
+    first false e refused = second e (ltb (d .parts .count) position) refl refused
+
+-- ---- the rules
+
+-- sets of n parts are sets of one part more
+sets-more : (n : ℕ) (sets : List ℕ) → SetRules n sets → SetRules (suc n) sets
+sets-more n sets r =
+    record {
+      some = r .some;
+      most = r .most;
+      within = λ a m. let w = r .within a m in (omega (arith, w .0, pow-succ' 2 n), w .1);
+      rising = r .rising;
+      apart = r .apart;
+    }
+
+-- a list of sets, none empty, gives minimal sets that keep the rules, however long it is
+pub listed-rules : (n set : ℕ) (sets : List ℕ) → n ≤ 16 → ((b : ℕ) → List·Memᴰ b (set ∷ sets) → (b < 2 ^ n) × (0 < b)) → SetRules n (minimalSets n (listed (set ∷ sets)))
+listed-rules n set sets few good = minimal-set-rules n (listed (set ∷ sets)) few (listed-semicoherent n set sets good)
+
+pub set-accepted : (set : ℕ) (d : Design) → addSetRefusal set d ≡ Accepted → (set < 2 ^ (d .parts .count)) × (0 < set)
+set-accepted set d accepted =
+    let s = refuse-accepted (leb (2 ^ (d .parts .count)) set) unknownPart 0 _ accepted in
+    let t = refuse-accepted (eqb set 0) emptySet 0 Accepted (s .1) in
+    (leb-false (2 ^ (d .parts .count)) set (s .0), pos-of-ne-zero (eqb-false set 0 (t .0)))
+
+pub with-set-within : (set : ℕ) (d : Design) → DesignRules d → addSetRefusal set d ≡ Accepted → (b : ℕ) → List·Memᴰ b (set ∷ d .sets) → (b < 2 ^ (d .parts .count)) × (0 < b)
+with-set-within set d r accepted b m =
+    ⊎-elim
+    (λ (e : b ≡ set). rw e (set-accepted set d accepted))
+    (λ (k : List·Memᴰ b (d .sets)). r .sets .within b k)
+    (List·Memᴰ·cases-cons m)
+
+pub added-count : (list : PartList) → WellFormed list → addRefusal list ≡ Accepted → added list .list .count ≡ suc (list .count)
+added-count list w accepted =
+    let a = add-accepted list w accepted in
+    let issued = list .mark + 1 in
+    ap (λ (c : Changed). c .list .count) (added-given list w (a .0) (a .1)) ∙ length-append (numbersOf list) (issued ∷ []) ∙ omega (arith, well-formed-counted list w)
+
+pub taken-out-count : (position : ℕ) (d : Design) → DesignRules d → takeOutRefusal position d ≡ Accepted → suc (takenOut (d .parts) position .list .count) ≡ d .parts .count
+taken-out-count position d r accepted =
+    let a = take-out-accepted position d r accepted in
+    let counted = well-formed-counted (d .parts) (r .parts) in
+    ap (λ (c : Changed). suc (c .list .count)) (taken-out-given (d .parts) (r .parts) position (a .from) (a .to) (a .two))
+    ∙ length-without (position - 1) (numbersOf (d .parts)) (omega (arith, a .from, a .to)) ∙ counted
+
+pub changed-rules : (change : Change) (d : Design) → DesignRules d → changeRefusal change d ≡ Accepted → DesignRules (changed change d)
+changed-rules addPart d r accepted =
+    record {
+      parts = line-one lines.addPart (d .parts) (r .parts) .well-formed;
+      sets = rw (added-count (d .parts) (r .parts) accepted) (sets-more (d .parts .count) (d .sets) (r .sets));
+    }
+changed-rules (takeOut position) d r accepted =
+    let a = take-out-accepted position d r accepted in
+    let count = takenOut (d .parts) position .list .count in
+    let counted : suc count ≡ d .parts .count = taken-out-count position d r accepted in
+    record {
+      parts = line-one (lines.takeOut position) (d .parts) (r .parts) .well-formed;
+      sets = without-rules count (position - 1) (d .sets) (omega (arith, a .to)) (rw counted (r .sets)) (a .left);
+    }
+changed-rules (addSet set) d r accepted =
+    record {
+      parts = r .parts;
+      sets = listed-rules (d .parts .count) set (d .sets) (r .parts .rules .few) (with-set-within set d r accepted);
+    }
+
+-- ---- a first design
+
+-- 1 to n rise to n
+first-rising : (n : ℕ) → RisingWithin 0 n (tabulate n (λ i. i + 1))
+unfolding tabulate
+first-rising zero = tt
+first-rising (suc n) =
+    subst (RisingWithin 0 (suc n)) (sym (tabulate-suc n (λ i. i + 1)))
+    (rising-append 0 n (suc n) (tabulate n (λ i. i + 1)) ((n + 1) ∷ []) (omega arith) (omega arith) (first-rising n) (omega arith, omega arith, tt))
+
+pub first-rules : (n : ℕ) (list : List ℕ) → listRefusal n list ≡ Accepted → DesignRules (firstDesign n list)
+first-rules n list accepted = whole list (accepted-list n list accepted)
+  where
+    whole : (list : List ℕ) → AcceptedList n list → DesignRules (firstDesign n list)
+    whole [] a = absurd (omega (arith, a .any-set))
+    whole (set ∷ sets) a =
+        let counted : length (tabulate n (λ i. i + 1)) ≡ n = tabulate-length n (λ i. i + 1) in
+        record {
+          parts = list-well-formed n (tabulate n (λ i. i + 1))
+              (record { some = omega (arith, a .some); few = omega (arith, a .few); rising = first-rising n; top = omega (arith, a .few) });
+          sets = rw counted (listed-rules n set sets (a .few) (a .sets));
+        }

@@ -1,0 +1,75 @@
+-- Changes of a design (01, "Records on disk"): add part, take out the part at a position, add set; and a first design.
+use mathlib.Core.Bool.{Bool, true, not, cond, _&&_}
+use mathlib.Core.List.{List, [], _∷_, map}
+use Prim.Native.Nat.{ℕ, suc, _+_, _-_, _*_, _/_, _%_, _^_}
+use lib.Dec.{leb, ltb, eqb}
+use Rattle.answer.specs.Refusals.{unknownPart, emptySet, unknownPosition, inEverySet}
+use Rattle.answer.specs.Outcome.{refuse}
+use Rattle.answer.specs.declared.Verdict.{Verdict}
+use Rattle.answer.specs.declared.Verdict.the-variants as verdict
+use Rattle.numbers.specs.Tables.{tabulate}
+use Rattle.record_parts.specs.PartLists.{listOf}
+use Rattle.record_parts.specs.Changes.{addRefusal, added, takenOut}
+use Rattle.theory_sets.specs.Masks.{has}
+use Rattle.theory_sets.specs.Structures.{listed, minimalSets}
+use Rattle.record.specs.Records.{Design, design}
+
+-- a change of a design: one part more; the part at a position, from 1, taken out; one path set more, as a mask
+pub data Change : Type 0 where
+  addPart : Change
+  takeOut : ℕ → Change
+  addSet : ℕ → Change
+
+-- ---- sets without a part
+
+-- those of a list that pass a test, in order
+abbrev pub keep : {A : Type 0} → (A → Bool) → List A → List A
+keep test [] = []
+keep test (x ∷ xs) = cond (test x) (x ∷ keep test xs) (keep test xs)
+
+-- every one of a list passes a test
+abbrev pub every : {A : Type 0} → (A → Bool) → List A → Bool
+every test [] = true
+every test (x ∷ xs) = test x && every test xs
+
+-- "higher positions move down by one": the bits above the index move down, those below it stay, and the bit at the index is gone
+unfoldable pub lowered : ℕ → ℕ → ℕ
+lowered index set = set / 2 ^ suc index * 2 ^ index + set % 2 ^ index
+
+-- the part with this bit is held failed: "Sets naming it go, higher positions move down by one"
+unfoldable pub setsWithout : ℕ → List ℕ → List ℕ
+setsWithout index sets = map (lowered index) (keep (λ set. not (has set index)) sets)
+
+-- ---- what refuses a change, at place 0
+
+-- 17: the position is not 1 to n; 18: every set names that part
+abbrev pub takeOutRefusal : ℕ → Design → Verdict
+takeOutRefusal position d =
+    refuse (eqb position 0) unknownPosition 0
+    (refuse (ltb (d .parts .count) position) unknownPosition 0
+    (refuse (every (λ set. has set (position - 1)) (d .sets)) inEverySet 0 verdict.Accepted))
+
+-- a set that is added to a machine of n parts, 4: bit n or above; 5: mask 0
+abbrev pub newSetRefusal : ℕ → ℕ → Verdict
+newSetRefusal n set = refuse (leb (2 ^ n) set) unknownPart 0 (refuse (eqb set 0) emptySet 0 verdict.Accepted)
+
+abbrev pub addSetRefusal : ℕ → Design → Verdict
+addSetRefusal set d = newSetRefusal (d .parts .count) set
+
+-- adding a part has the refusals of its part list: 19 before 20
+abbrev pub changeRefusal : Change → Design → Verdict
+changeRefusal addPart d = addRefusal (d .parts)
+changeRefusal (takeOut position) d = takeOutRefusal position d
+changeRefusal (addSet set) d = addSetRefusal set d
+
+-- ---- what a change gives where nothing refuses it
+
+-- add part: the sets stay; take out: the part is held failed; add set: the minimal sets of the old ones and the new one
+abbrev pub changed : Change → Design → Design
+changed addPart d = design (added (d .parts) .list) (d .sets)
+changed (takeOut position) d = design (takenOut (d .parts) position .list) (setsWithout (position - 1) (d .sets))
+changed (addSet set) d = design (d .parts) (minimalSets (d .parts .count) (listed (set ∷ d .sets)))
+
+-- a first design, of n parts and a list of sets as in the list form: part numbers 1 to n, mark n, the minimal sets
+abbrev pub firstDesign : ℕ → List ℕ → Design
+firstDesign n list = design (listOf n (tabulate n (λ i. i + 1))) (minimalSets n (listed list))

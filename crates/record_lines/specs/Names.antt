@@ -1,0 +1,39 @@
+-- A design named by its part numbers and not by positions.
+use mathlib.Core.Bool.{Bool, cond}
+use mathlib.Core.List.{List, [], _∷_, map, List·Memᴰ}
+use mathlib.Core.Path.{_≡_}
+use Prim.Native.Nat.{ℕ, _-_, _/_}
+use lib.Dec.{eqb}
+use lib.ListN.{getD}
+use Rattle.theory_sums.specs.Sums.{some}
+use Rattle.record_parts.specs.PartLists.{numbersOf}
+use Rattle.record_parts.specs.Lines.{In}
+use Rattle.theory_sets.specs.Masks.{has}
+use Rattle.record.specs.Records.{Design}
+use Rattle.record_lines.specs.Changes.{every}
+
+-- the part numbers of a set, where these are the numbers by position: each of which the bit is set
+unfoldable pub named : List ℕ → ℕ → List ℕ
+named [] set = []
+named (number ∷ numbers) set = cond (has set 0) (number ∷ named numbers (set / 2)) (named numbers (set / 2))
+
+-- the minimal sets of a design, each by its part numbers
+abbrev pub namedSets : Design → List (List ℕ)
+namedSets d = map (named (numbersOf (d .parts))) (d .sets)
+
+-- the number of the part at a position, from 1
+abbrev pub partNumberAt : Design → ℕ → ℕ
+partNumberAt d position = getD (numbersOf (d .parts)) (position - 1) 0
+
+-- a set of part numbers names a part
+abbrev pub names : ℕ → List ℕ → Bool
+names number set = some (λ other. eqb number other) set
+
+-- a set of part numbers is least among some: none of these has all its numbers in it but itself
+abbrev pub LeastNamed : List (List ℕ) → List ℕ → Type 0
+LeastNamed sets set =
+    List·Memᴰ set sets × ((other : List ℕ) → List·Memᴰ other sets → ((number : ℕ) → In number other → In number set) → set ≡ other)
+
+-- The structure by part numbers: the machine runs while those parts work, since all parts of some minimal set do.
+abbrev pub runs : Design → (ℕ → Bool) → Bool
+runs d working = some (every working) (namedSets d)

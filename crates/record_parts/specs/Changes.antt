@@ -1,0 +1,62 @@
+-- Changes of a part list (01, "Records on disk"): add part, and take out the part at a position.
+use mathlib.Core.List.{[], _∷_, _++_}
+use Prim.Native.Nat.{ℕ, _+_, _-_}
+use lib.Dec.{ltb, eqb}
+use lib.ListN.{getD}
+use Rattle.answer.specs.Refusals.{unknownPosition, inEverySet, fullMachine, numbersSpent}
+use Rattle.answer.specs.Outcome.{refuse}
+use Rattle.answer.specs.declared.Verdict.{Verdict}
+use Rattle.answer.specs.declared.Verdict.the-variants as verdict
+use Rattle.record_parts.specs.declared.PartList.{PartList}
+use Rattle.record_parts.specs.declared.Changed.{Changed}
+use Rattle.record_parts.specs.declared.Numbered.{Numbered}
+use Rattle.record_parts.specs.declared.Numbered.the-variants as numbered
+use Rattle.record_numbers.specs.Numbering.{mostParts, topNumber, partListRefusal, without}
+use Rattle.record_parts.specs.PartLists.{numbersOf, listOf}
+
+-- what a change hands back: the list, and the part number that it issued or took out, or the refusal
+abbrev pub changed : PartList → Numbered → Changed
+changed list answer = record { list = list; answer = answer }
+
+-- a refused change leaves the list as it was
+abbrev pub unless : Verdict → PartList → Changed → Changed
+unless (verdict.Refused refusal) list change = changed list (numbered.Refused refusal)
+unless verdict.Accepted list change = change
+
+-- What refuses a list that breaks the rules, as one built by hand may: the number and the place that reading it would give. Spare cells are
+-- not looked at, and hold 0 after every change that is made.
+abbrev pub brokenRefusal : PartList → Verdict
+brokenRefusal list = partListRefusal (list .count) (list .mark) (numbersOf list)
+
+-- A change: a list that breaks the rules is refused before anything else, then the change's own refusals follow.
+abbrev pub change : PartList → Verdict → Changed → Changed
+change list refusal result = unless (brokenRefusal list) list (unless refusal list result)
+
+-- 19 before 20
+abbrev pub addRefusal : PartList → Verdict
+addRefusal list =
+    refuse (eqb (list .count) mostParts) fullMachine 0 (refuse (eqb (list .mark) topNumber) numbersSpent 0 verdict.Accepted)
+
+-- one part more: position n+1, part number mark+1; the mark rises by one
+abbrev pub withPart : PartList → Changed
+withPart list =
+    changed (listOf (list .mark + 1) (numbersOf list ++ ((list .mark + 1) ∷ []))) (numbered.Number (list .mark + 1))
+
+-- add part
+unfoldable pub added : PartList → Changed
+added list = change list (addRefusal list) (withPart list)
+
+-- 17, and then 18 for a machine's only part, which every set of it names
+abbrev pub takeOutRefusal : PartList → ℕ → Verdict
+takeOutRefusal list position =
+    refuse (eqb position 0) unknownPosition 0
+    (refuse (ltb (list .count) position) unknownPosition 0 (refuse (eqb (list .count) 1) inEverySet 0 verdict.Accepted))
+
+-- the part at a position left out: higher positions move down by one, part numbers and mark stay
+abbrev pub withoutPart : PartList → ℕ → Changed
+withoutPart list position =
+    changed (listOf (list .mark) (without (position - 1) (numbersOf list))) (numbered.Number (getD (numbersOf list) (position - 1) 0))
+
+-- take out the part at a position, counted from 1
+unfoldable pub takenOut : PartList → ℕ → Changed
+takenOut list position = change list (takeOutRefusal list position) (withoutPart list position)

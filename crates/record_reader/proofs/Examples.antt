@@ -1,0 +1,39 @@
+-- The definitions on the bridge, and where a number of two bytes stands: they compute.
+-- Assumes nothing.
+use mathlib.Core.Path.{_≡_, refl}
+use mathlib.Core.List.{List, [], _∷_}
+use Prim.Native.Nat.{ℕ}
+use Rattle.codec.specs.Reading.{numberIn, numberAt}
+use Rattle.record.specs.Contents.{stepAt}
+use Rattle.record_reader.specs.Places.{setAt, metFrom}
+use Rattle.record_reader.specs.declared.Found.the-variants.{Set, End}
+
+-- 01's bridge: 05 05 01 02 03 04 05 04 09 0E 12 15
+abbrev bridge : List ℕ
+bridge = 5 ∷ 5 ∷ 1 ∷ 2 ∷ 3 ∷ 4 ∷ 5 ∷ 4 ∷ 9 ∷ 14 ∷ 18 ∷ 21 ∷ []
+
+second-set : setAt bridge 9 ≡ Set 14 10
+unfolding setAt stepAt numberAt numberIn
+second-set = refl
+
+behind-the-last : setAt bridge 12 ≡ End
+unfolding setAt stepAt numberAt numberIn
+behind-the-last = refl
+
+bridge-met : metFrom 5 bridge (setAt bridge 8) ≡ 9 ∷ 14 ∷ 18 ∷ 21 ∷ []
+unfolding setAt stepAt numberAt numberIn
+bridge-met = refl
+
+-- 300 is AC 02, and a place inside it is not the place of a set of the record: what stands there is read for itself
+two-bytes : setAt (1 ∷ 0xAC ∷ 2 ∷ []) 1 ≡ Set 300 3
+unfolding setAt stepAt numberAt numberIn
+two-bytes = refl
+
+inside-a-set : setAt (1 ∷ 0xAC ∷ 2 ∷ []) 2 ≡ Set 2 3
+unfolding setAt stepAt numberAt numberIn
+inside-a-set = refl
+
+-- no number stands where the bytes end inside it
+end-inside : setAt (1 ∷ 0xAC ∷ []) 1 ≡ End
+unfolding setAt stepAt numberAt numberIn
+end-inside = refl

@@ -1,0 +1,84 @@
+-- Laws of numbers written one after the other, whatever their width: the form of one more stands behind that of those before it, and placing
+-- form after form is placing them all; and the pieces of a record.
+-- Assumes nothing.
+use mathlib.Core.Path.{_≡_, refl, sym, ap, _∙_}
+use mathlib.Core.List.{List, [], _∷_, _++_, append-assoc, append-nil}
+use Prim.Native.Nat.{ℕ, suc, _+_, _*_, _≤_, _<_}
+use native.Mathlib.Nat.{mul-suc}
+use native.Mathlib.Numerals.{add-one}
+use native.Mathlib.Omega.{arith}
+use lib.ListN.{length, getD, take, drop, length-append, take-append-drop}
+use lib.Seq.{take-suc, take-all}
+use Rattle.answer.specs.Placed.{leaves, placed}
+use Rattle.codec.specs.ByteForm.{bytesOf}
+use Rattle.answer.proofs.Forms.{placed-more, wrote-none}
+use Rattle.record_parts.specs.PartLists.{listOf}
+use Rattle.record_parts.proofs.WellFormed.{numbers-of-list}
+use Rattle.record.specs.Records.{design}
+use Rattle.record_head.specs.HeadingBytes.{formsOf, partsBytes, headBytes}
+use Rattle.record.specs.RecordBytes.{recordBytes}
+
+pub forms-append : (front behind : List ℕ) → formsOf (front ++ behind) ≡ formsOf front ++ formsOf behind
+unfolding formsOf
+forms-append [] behind = refl
+forms-append (x ∷ xs) behind =
+    ap (λ (l : List ℕ). bytesOf x ++ l) (forms-append xs behind) ∙ sym (append-assoc (bytesOf x) (formsOf xs) (formsOf behind))
+
+-- one number more
+pub forms-next : (i : ℕ) (numbers : List ℕ) → i < length numbers → formsOf (take (i + 1) numbers) ≡ formsOf (take i numbers) ++ bytesOf (getD numbers i 0)
+unfolding formsOf
+forms-next i numbers h =
+    ap (λ (k : ℕ). formsOf (take k numbers)) (add-one i) ∙ ap formsOf (take-suc numbers i 0 h) ∙ forms-append (take i numbers) (getD numbers i 0 ∷ [])
+    ∙ ap (λ (l : List ℕ). formsOf (take i numbers) ++ l) (append-nil (bytesOf (getD numbers i 0)))
+
+pub forms-longer : (i : ℕ) (numbers : List ℕ) → i < length numbers → length (formsOf (take (i + 1) numbers)) ≡ length (formsOf (take i numbers)) + length (bytesOf (getD numbers i 0))
+forms-longer i numbers h = ap length (forms-next i numbers h) ∙ length-append (formsOf (take i numbers)) (bytesOf (getD numbers i 0))
+
+-- the first numbers take no more than all
+pub forms-part : (i : ℕ) (numbers : List ℕ) → length (formsOf (take i numbers)) ≤ length (formsOf numbers)
+forms-part i numbers =
+    let whole : formsOf numbers ≡ formsOf (take i numbers) ++ formsOf (drop i numbers) =
+    ap formsOf (sym (take-append-drop i numbers)) ∙ forms-append (take i numbers) (drop i numbers) in
+    omega (arith, simp length-append at (ap length whole))
+
+-- so many bytes at the most, where no number takes more than so many
+pub forms-most : (most : ℕ) (numbers : List ℕ) → ((i : ℕ) → length (bytesOf (getD numbers i 0)) ≤ most) → length (formsOf numbers) ≤ most * length numbers
+unfolding formsOf
+forms-most most [] h = omega arith
+forms-most most (x ∷ numbers) h =
+    omega (arith, length-append (bytesOf x) (formsOf numbers), h 0, forms-most most numbers (λ i. h (suc i)), mul-suc most (length numbers))
+
+-- ---- placed from a position on, where there is room for all of them
+
+module _ (numbers buffer : List ℕ) (start : ℕ) (room : start + length (formsOf numbers) ≤ length buffer) where
+  -- before the first
+  pub forms-none : leaves start buffer ≡ placed buffer start (formsOf (take 0 numbers))
+  unfolding formsOf
+  forms-none = wrote-none buffer start (omega arith) .wrote
+
+  -- one number more, placed where those before it end
+  pub forms-more : (i : ℕ) → i < length numbers → (entry : List ℕ) (position : ℕ) (exit : List ℕ) (next : ℕ) → leaves position entry ≡ placed buffer start (formsOf (take i numbers))
+      → leaves next exit ≡ placed entry position (bytesOf (getD numbers i 0)) → leaves next exit ≡ placed buffer start (formsOf (take (i + 1) numbers))
+  forms-more i h entry position exit next before wrote =
+      let more = forms-next i numbers h in
+      placed-more buffer start (formsOf (take i numbers)) entry position (bytesOf (getD numbers i 0)) exit next (omega (arith, ap length more, forms-part (i + 1) numbers)) before wrote
+      ∙ ap (placed buffer start) (sym more)
+
+  -- after the last
+  pub forms-all : (i : ℕ) → length numbers ≤ i → (exit : List ℕ) (next : ℕ) → leaves next exit ≡ placed buffer start (formsOf (take i numbers)) → leaves next exit ≡ placed buffer start (formsOf numbers)
+  forms-all i h exit next before = before ∙ ap (λ (l : List ℕ). placed buffer start (formsOf l)) (take-all i numbers h)
+
+-- ---- a record, piece by piece
+
+abbrev pub pieces : ℕ → List ℕ → List ℕ → List ℕ
+pieces mark numbers sets = bytesOf (length numbers) ++ bytesOf mark ++ formsOf numbers ++ bytesOf (length sets) ++ formsOf sets
+
+pub record-pieces : (mark : ℕ) (numbers sets : List ℕ) → recordBytes (design (listOf mark numbers) sets) ≡ pieces mark numbers sets
+unfolding recordBytes headBytes partsBytes
+record-pieces mark numbers sets =
+    ap (λ (l : List ℕ). (bytesOf (length numbers) ++ (bytesOf mark ++ formsOf l)) ++ bytesOf (length sets) ++ formsOf sets) (numbers-of-list mark numbers)
+    ∙ ap (λ (l : List ℕ). l ++ bytesOf (length sets) ++ formsOf sets) (sym (append-assoc (bytesOf (length numbers)) (bytesOf mark) (formsOf numbers)))
+
+pub record-length : (mark : ℕ) (numbers sets : List ℕ) → length (recordBytes (design (listOf mark numbers) sets))
+    ≡ length (bytesOf (length numbers)) + length (bytesOf mark) + length (formsOf numbers) + length (bytesOf (length sets)) + length (formsOf sets)
+record-length mark numbers sets = ap length (record-pieces mark numbers sets) ∙ simp length-append

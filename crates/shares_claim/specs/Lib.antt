@@ -1,0 +1,5 @@
+pub mod Polynomials
+pub mod Shares
+pub mod Refusals
+pub mod Claim
+pub mod Steps

@@ -1,2 +1,0 @@
-pub mod All
-pub mod Steps

@@ -1,0 +1,150 @@
+// What follows upwards from a set function, and what of it is minimal, a word of 64 sets at a time: the sets that hold a given one, the
+// path sets that are none without any single part, and the first set that breaks the rule.
+ghost use mathlib.Core.Path.{_≡_};
+ghost use mathlib.Core.Bool.{not, _||_};
+ghost use Prim.Native.Nat.{_<_, min};
+ghost use Rattle.theory_sets.specs.Masks.{has, least};
+ghost use Rattle.theory_sets.specs.Structures.{broken};
+ghost use Rattle.theory_sets.specs.Tables.{packed};
+ghost use Rattle.structure_words.specs.Words.{inWords, wordOf, wordsOf};
+ghost use Rattle.structure_closure.specs.Closure.{without as withoutPart, spare, spread, trimmed as trimmedSet};
+ghost use Rattle.structure_closure.specs.Steps.{with as withPart, lost as lostSet};
+
+// The sets that work without some of the first parts, at most 16 of these.
+pub fn carried(words: &[u64], parts: usize) -> [u64; 1024]
+    ensures { λ r. ⌜ r ≡ wordsOf (spread (min parts 16) (inWords (now (words .entry)))) ⌝ }
+{
+    let mut next = copied(words);
+    let end = at_most_16(parts);
+    for part in 0..end {
+        next = carried_over(&next, part);
+    }
+    next
+}
+
+// The path sets that are none without any single one of the first parts, at most 16 of these.
+pub fn trimmed(words: &[u64], parts: usize) -> [u64; 1024]
+    ensures { λ r. ⌜ r ≡ wordsOf (trimmedSet (min parts 16) (inWords (now (words .entry)))) ⌝ }
+{
+    let mut next = [0u64; 1024];
+    for at in 0..1024 {
+        next[at] = numbers::cell(words, at) & !spared(words, at, parts);
+    }
+    next
+}
+
+// The smallest path set that some single one of the first parts, at most 16 of these, leads to a set that is none; 65,536 where there is none.
+pub fn first_broken(words: &[u64], parts: usize) -> usize
+    ensures { λ r. ⌜ r ≡ least (broken (min parts 16) (inWords (now (words .entry)))) 65536 ⌝ }
+{
+    for at in 0..1024 {
+        let bad = numbers::cell(words, at) & lost(words, at, parts);
+        if bad != 0 {
+            return 64 * at + structure_words::lowest(bad);
+        }
+    }
+    65536
+}
+
+// The bits of a word whose index lacks the part, for the six parts that an index within a word has.
+fn lacking(part: usize) -> u64
+    requires { ⌜ part < 6 ⌝ }
+    ensures { λ r. ⌜ r ≡ packed 64 (λ k. not (has k part)) ⌝ }
+{
+    match part {
+        0 => 0x5555_5555_5555_5555,
+        1 => 0x3333_3333_3333_3333,
+        2 => 0x0F0F_0F0F_0F0F_0F0F,
+        3 => 0x00FF_00FF_00FF_00FF,
+        4 => 0x0000_FFFF_0000_FFFF,
+        _ => 0x0000_0000_FFFF_FFFF,
+    }
+}
+
+// Word `at` of the sets that have the part and work without it.
+fn without(words: &[u64], at: usize, part: usize) -> u64
+    requires { ⌜ part < 16 ⌝ }
+    ensures { λ r. ⌜ r ≡ wordOf (withoutPart part (inWords (now (words .entry)))) at ⌝ }
+{
+    if part < 6 {
+        return (numbers::cell(words, at) & lacking(part)) << numbers::power(part);
+    }
+    let high = part - 6;
+    if (at >> high) % 2 == 1 {
+        numbers::cell(words, at - numbers::power(high))
+    } else {
+        0
+    }
+}
+
+// Word `at` of the sets that have the part or work with it.
+fn with(words: &[u64], at: usize, part: usize) -> u64
+    requires { ⌜ at < 1024 ⌝ }
+    requires { ⌜ part < 16 ⌝ }
+    ensures { λ r. ⌜ r ≡ wordOf (withPart part (inWords (now (words .entry)))) at ⌝ }
+{
+    if part < 6 {
+        return (numbers::cell(words, at) >> numbers::power(part)) | !lacking(part);
+    }
+    let high = part - 6;
+    if (at >> high) % 2 == 1 {
+        0xFFFF_FFFF_FFFF_FFFF
+    } else {
+        numbers::cell(words, at + numbers::power(high))
+    }
+}
+
+// Word `at` of the sets that work, or have the part and work without it.
+fn carried_over(words: &[u64], part: usize) -> [u64; 1024]
+    requires { ⌜ part < 16 ⌝ }
+    ensures { λ r. ⌜ r ≡ wordsOf (λ a. inWords (now (words .entry)) a || withoutPart part (inWords (now (words .entry))) a) ⌝ }
+{
+    let mut next = [0u64; 1024];
+    for at in 0..1024 {
+        next[at] = numbers::cell(words, at) | without(words, at, part);
+    }
+    next
+}
+
+// The words in an array of their own.
+fn copied(words: &[u64]) -> [u64; 1024]
+    ensures { λ r. ⌜ r ≡ wordsOf (inWords (now (words .entry))) ⌝ }
+{
+    let mut next = [0u64; 1024];
+    for at in 0..1024 {
+        next[at] = numbers::cell(words, at);
+    }
+    next
+}
+
+// Word `at` of the sets that work without some single one of the first parts that they have.
+fn spared(words: &[u64], at: usize, parts: usize) -> u64
+    ensures { λ r. ⌜ r ≡ wordOf (spare (min parts 16) (inWords (now (words .entry)))) at ⌝ }
+{
+    let mut some: u64 = 0;
+    let end = at_most_16(parts);
+    for part in 0..end {
+        some = some | without(words, at, part);
+    }
+    some
+}
+
+// Word `at` of the sets that some single one of the first parts leads to a set that does not work.
+fn lost(words: &[u64], at: usize, parts: usize) -> u64
+    requires { ⌜ at < 1024 ⌝ }
+    ensures { λ r. ⌜ r ≡ wordOf (lostSet (min parts 16) (inWords (now (words .entry)))) at ⌝ }
+{
+    let mut some: u64 = 0;
+    let end = at_most_16(parts);
+    for part in 0..end {
+        some = some | !with(words, at, part);
+    }
+    some
+}
+
+// The number of parts that is gone by, 16 at the most.
+fn at_most_16(parts: usize) -> usize
+    ensures { λ r. ⌜ r ≡ min parts 16 ⌝ }
+{
+    if parts < 16 { parts } else { 16 }
+}

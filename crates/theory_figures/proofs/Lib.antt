@@ -1,0 +1,10 @@
+pub mod Binomials
+pub mod Holding
+pub mod Sizes
+pub mod Tails
+pub mod Supersets
+pub mod Dominations
+pub mod Inversion
+pub mod Importances
+pub mod Ranges
+pub mod Signs

@@ -14,7 +14,7 @@ use lib.IntN.{ℤ, pos}
 use lib.Pow.{pow-mono}
 use lib.Seq.{getD-take, length-take-le}
 use borrow.Author.Tests.{ne-eqb, lt-leb}
-use Rattle.numbers.specs.Tables.{tabulate}
+use Rattle.numbers.specs.Tables.{tabulate, NoneOver}
 use Rattle.numbers.proofs.Tables.{tabulate-at, tabulate-length, tabulate-unique}
 use Rattle.theory_sums.specs.Sums.{sumBelow}
 use Rattle.theory_sums.proofs.Sums.{sumBelow-same, sumBelow-zero, sumBelow-append}
@@ -30,8 +30,7 @@ use Rattle.structure_words.proofs.Words.{inWords-wordsOf}
 use Rattle.structure.proofs.Acceptance.{AcceptedTable, table-beyond}
 use Rattle.theory_figures.specs.Figures.{importance, pathCounts, importances}
 use Rattle.figures_counts.specs.Rows.{hasPart, rowsOf, row}
-use Rattle.figures_counts.specs.Steps.{Few}
-use Rattle.figures.specs.Steps.{countsOf, entriesOf, sizedIn, rowsIn, ways, addedSets, takenSets, Parted, importanceBy, Rows}
+use Rattle.figures.specs.Inside.{countsOf, entriesOf, sizedIn, rowsIn, partWeight, addedSets, takenSets, Parted, importanceBy, Rows}
 use Rattle.theory_figures.proofs.Sizes.{pathCount-few}
 use Rattle.numbers.proofs.Tables.{tabulate-same}
 use Rattle.figures_counts.proofs.Rows.{row-is}
@@ -107,7 +106,7 @@ module _ (n : ℕ) (table : List ℕ) (accepted : AcceptedTable n table) where
     pub table-counts : countsOf counts ≡ pathCount n (inTable table)
     table-counts = counted n (inTable table) (accepted .few) beyond counts (is ∙ ap (λ (f : ℕ → Bool). tabulate 17 (pathCount 16 f)) works)
 
-    pub table-few : Few counts
+    pub table-few : NoneOver 65536 counts
     table-few s =
         le-trans (le-of-eq (ap (λ (f : ℕ → ℕ). f s) table-counts)) (le-trans (pathCount-few n (inTable table) s) (pow-mono (accepted .few)))
 
@@ -149,11 +148,11 @@ module _ (n : ℕ) (table : List ℕ) (accepted : AcceptedTable n table) where
           low = omega (arith, lower)
 
       part-sums : importance n (inTable table) (suc i) + takenSets n (row 16 rows) (row i rows) n ≡ addedSets n (row i rows) n
-      unfolding takenSets addedSets ways
+      unfolding takenSets addedSets partWeight
       part-sums =
-          ap₂ (λ (f g : ℕ → ℕ). importance n (inTable table) (suc i) + sumBelow (λ s. (f s - g s) * ways n s) n) (table-counts (row 16 rows) all-row) part-row
+          ap₂ (λ (f g : ℕ → ℕ). importance n (inTable table) (suc i) + sumBelow (λ s. (f s - g s) * partWeight n s) n) (table-counts (row 16 rows) all-row) part-row
           ∙ importance-by-size n (inTable table) i l (accepted .semicoherent)
-          ∙ ap (λ (g : ℕ → ℕ). sumBelow (λ s. g (suc s) * ways n s) n) (sym part-row)
+          ∙ ap (λ (g : ℕ → ℕ). sumBelow (λ s. g (suc s) * partWeight n s) n) (sym part-row)
 
       part-is-importance : importanceBy n rows i ≡ importance n (inTable table) (suc i)
       unfolding importanceBy
@@ -185,6 +184,6 @@ module _ (n : ℕ) (table : List ℕ) (accepted : AcceptedTable n table) where
 -- ---- the weight of a set in an importance
 
 -- 15!
-pub ways-few : (n s : ℕ) → n ≤ 16 → s < n → ways n s ≤ 1307674368000
-unfolding ways factorial
-ways-few n s few h = factorials-few s (n - suc s) 15 (omega arith)
+pub partWeight-few : (n s : ℕ) → n ≤ 16 → s < n → partWeight n s ≤ 1307674368000
+unfolding partWeight factorial
+partWeight-few n s few h = factorials-few s (n - suc s) 15 (omega arith)

@@ -22,7 +22,7 @@ use Rattle.vector_kind.specs.declared.Kind.the-variants.{PathCounts}
 use Rattle.vector_conversion.specs.Vectors.{countsOf, vectorRefusal, figure, converted}
 use Rattle.theory_figures.specs.Figures.{pathCounts, signatures, dominations, importances}
 use Rattle.figures.specs.All.{Buffers, buffersOf, roomRefusal}
-use Rattle.figures.specs.Steps.{allWritten}
+use Rattle.figures.specs.Inside.{allWritten}
 
 pub record Room (n counts signature domination importance : ℕ) : Type 0 where
   pub for-counts : n + 1 ≤ counts

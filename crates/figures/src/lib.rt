@@ -6,16 +6,15 @@ ghost use mathlib.Core.Path.{_≡_};
 ghost use mathlib.Core.List.{_++_};
 ghost use Prim.Native.Nat.{_+_, _≤_, _<_};
 ghost use lib.ListN.{length, drop};
-ghost use Rattle.numbers.specs.Tables.{tabulate};
+ghost use Rattle.numbers.specs.Tables.{tabulate, NoneOver};
 ghost use Rattle.theory_sets.specs.Tables.{inTable};
 ghost use Rattle.answer.specs.Outcome.{outcome, delivered};
 ghost use Rattle.answer.specs.declared.Verdict.the-variants.{Accepted};
 ghost use Rattle.structure.specs.Checks.{tableRefusal};
 ghost use Rattle.theory_figures.specs.Figures.{pathCounts, tails, signatures, dominations, importances};
 ghost use Rattle.vector_conversion.specs.Vectors.{vectorRefusal, converted, figuresOf};
-ghost use Rattle.figures_counts.specs.Steps.{Few};
 ghost use Rattle.figures.specs.All.{buffersOf, roomRefusal, allOutcome, allFigures};
-ghost use Rattle.figures.specs.Steps.{ways as waysOf, addedSets, takenSets, Parted, importanceBy, Rows, entriesOf, sizedIn, rowsIn, figuresRefusal, allWritten};
+ghost use Rattle.figures.specs.Inside.{partWeight as waysOf, addedSets, takenSets, Parted, importanceBy, Rows, entriesOf, sizedIn, rowsIn, figuresRefusal, allWritten};
 
 // The path counts φ(0) to φ(n), into a lent buffer.
 pub fn path_counts(n: usize, table: &[u8], cells: &mut [i64]) -> Written
@@ -111,7 +110,7 @@ fn entries_of(table: &[u8]) -> [i64; 17]
     ensures { λ r. ⌜ r ≡ entriesOf (sizedIn (now (table .entry))) ⌝ }
 {
     let words = structure_words::load(table);
-    let counts = figures_counts::sized(&words);
+    let counts = figures_counts::counts_by_size(&words);
     signed(&counts)
 }
 
@@ -120,12 +119,12 @@ fn rows_of(table: &[u8]) -> [u64; 289]
     ensures { λ r. ⌜ r ≡ rowsIn (now (table .entry)) ⌝ }
 {
     let words = structure_words::load(table);
-    figures_counts::tally(&words)
+    figures_counts::counts_by_part(&words)
 }
 
 // Path counts as entries.
 fn signed(counts: &[u64]) -> [i64; 17]
-    requires { ⌜ Few (now counts) ⌝ }
+    requires { ⌜ NoneOver 65536 (now counts) ⌝ }
     ensures { λ r. ⌜ r ≡ entriesOf (now (counts .entry)) ⌝ }
 {
     let mut entries = [0i64; 17];
@@ -219,7 +218,7 @@ fn write_vectors(
 }
 
 // s! × (n-s-1)!, the weight of a set of size s in the importance of a part that it lacks.
-fn ways(n: usize, s: usize) -> u64
+fn part_weight(n: usize, s: usize) -> u64
     requires { ⌜ n ≤ 16 ⌝ }
     requires { ⌜ s < n ⌝ }
     ensures { λ r. ⌜ r ≡ waysOf n s ⌝ }
@@ -235,7 +234,7 @@ fn part_importance(n: usize, counts: &[u64], with: &[u64]) -> u64
     let mut added: u64 = 0;
     let mut taken: u64 = 0;
     for s in 0..n {
-        let weight = ways(n, s);
+        let weight = part_weight(n, s);
         added += numbers::cell(with, s + 1) * weight;
         taken += (numbers::cell(counts, s) - numbers::cell(with, s)) * weight;
     }

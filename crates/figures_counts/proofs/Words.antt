@@ -12,7 +12,7 @@ use lib.Dec.{ltb, eqb}
 use lib.ListN.{length, getD, set, List·getD-eq-default}
 use lib.Seq.{getD-set-same, getD-set-other}
 use borrow.Author.Tests.{eqb-true, eqb-false, eq-eqb, ne-eqb, le-leb, lt-leb, lt-ltb, le-ltb}
-use Rattle.numbers.specs.Tables.{tabulate}
+use Rattle.numbers.specs.Tables.{tabulate, NoneOver}
 use Rattle.numbers.proofs.Tables.{tabulate-unique, tabulate-at, tabulate-length}
 use Rattle.theory_sums.specs.Sums.{indicator, sumBelow}
 use Rattle.theory_sums.proofs.Sums.{sumBelow-same, sumBelow-le, sumBelow-zero, sumBelow-ones, sumBelow-add, sumBelow-append}
@@ -28,7 +28,7 @@ use Rattle.theory_orders.proofs.Sizes.{size-bits}
 use Rattle.structure_words.specs.Words.{wordOf}
 use Rattle.structure_words.proofs.Words.{wordOf-unique}
 use Rattle.figures_counts.specs.Rows.{hasPart}
-use Rattle.figures_counts.specs.Steps.{inWord, Few}
+use Rattle.figures_counts.specs.Inside.{inWord}
 
 -- ---- the sets that have a part
 
@@ -237,7 +237,7 @@ module _ (test : ℕ → Bool) where
   sizes-all s = refl
 
 -- a table of few counts
-pub tabulate-few : (n : ℕ) (f : ℕ → ℕ) → ((i : ℕ) → f i ≤ 65536) → Few (tabulate n f)
+pub tabulate-few : (n : ℕ) (f : ℕ → ℕ) → ((i : ℕ) → f i ≤ 65536) → NoneOver 65536 (tabulate n f)
 tabulate-few n f few s = cases (below-or-above s n)
   where
     cases : (s < n) ⊎ (n ≤ s) → getD (tabulate n f) s 0 ≤ 65536

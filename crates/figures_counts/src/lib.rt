@@ -3,16 +3,16 @@ ghost use mathlib.Core.Path.{_≡_};
 ghost use Prim.Native.Nat.{_+_, _/_, _%_, _≤_, _<_};
 ghost use lib.Dec.{eqb};
 ghost use lib.ListN.{length, getD};
-ghost use Rattle.numbers.specs.Tables.{tabulate};
+ghost use Rattle.numbers.specs.Tables.{tabulate, NoneOver};
 ghost use Rattle.theory_orders.specs.Formulas.{pathCount};
 ghost use Rattle.theory_sets.specs.Masks.{size, meet};
 ghost use Rattle.theory_sets.specs.Tables.{packed};
 ghost use Rattle.structure_words.specs.Words.{inWords, wordOf};
 ghost use Rattle.figures_counts.specs.Rows.{hasPart, rowsOf};
-ghost use Rattle.figures_counts.specs.Steps.{inWord, Few};
+ghost use Rattle.figures_counts.specs.Inside.{inWord};
 
 // How many path sets have each size.
-pub fn sized(words: &[u64]) -> [u64; 17]
+pub fn counts_by_size(words: &[u64]) -> [u64; 17]
     ensures { λ r. ⌜ r ≡ tabulate 17 (pathCount 16 (inWords (now (words .entry)))) ⌝ }
 {
     let mut counts = [0u64; 17];
@@ -24,7 +24,7 @@ pub fn sized(words: &[u64]) -> [u64; 17]
 }
 
 // The same for each part, of the path sets that have it, in rows of 17 sizes; row 16 is for all path sets. One pass over the words.
-pub fn tally(words: &[u64]) -> [u64; 289]
+pub fn counts_by_part(words: &[u64]) -> [u64; 289]
     ensures { λ r. ⌜ r ≡ rowsOf (inWords (now (words .entry))) ⌝ }
 {
     let mut rows = [0u64; 289];
@@ -38,7 +38,7 @@ pub fn tally(words: &[u64]) -> [u64; 289]
 // Adds to each row of counts the sets of word `at` that have its part.
 fn add_rows(rows: &mut [u64], word: u64, at: usize)
     requires { ⌜ length (now rows) ≡ 289 ⌝ }
-    requires { ⌜ Few (now rows) ⌝ }
+    requires { ⌜ NoneOver 65536 (now rows) ⌝ }
     requires { ⌜ at < 1024 ⌝ }
     ensures { λ _. ⌜ now (rows .exit) ≡ tabulate 289 (λ i. getD (now (rows .entry)) i 0 + inWord (meet word (wordOf (hasPart (i / 17)) at)) (size at) (i % 17)) ⌝ }
 {
@@ -57,7 +57,7 @@ fn add_rows(rows: &mut [u64], word: u64, at: usize)
 // Adds to the counts the sets of a word, whose sizes begin at `base`.
 fn add_word(counts: &mut [u64], word: u64, base: usize)
     requires { ⌜ length (now counts) ≡ 17 ⌝ }
-    requires { ⌜ Few (now counts) ⌝ }
+    requires { ⌜ NoneOver 65536 (now counts) ⌝ }
     requires { ⌜ base ≤ 10 ⌝ }
     ensures { λ _. ⌜ now (counts .exit) ≡ tabulate 17 (λ s. getD (now (counts .entry)) s 0 + inWord word base s) ⌝ }
 {

@@ -16,8 +16,8 @@ use Rattle.record.specs.declared.Step.the-variants as step
 use Rattle.nahokipe.specs.declared.Answer.{Answer}
 use Rattle.nahokipe.specs.declared.Record.{Record}
 use Rattle.vector_kind.specs.Kinds.{kindNumber}
-use Rattle.sheet_entries.specs.declared.Received.{Received}
-use Rattle.sheet_entries.specs.Answers.{ReceivedOutcome}
+use Rattle.sheet_entries.specs.declared.EntriesRead.{EntriesRead}
+use Rattle.sheet_entries.specs.Answers.{EntriesOutcome}
 use Rattle.report_text.specs.Reporting.{ReportOutcome}
 use Rattle.nahokipe.specs.declared.NextSet.{NextSet}
 use Rattle.nahokipe.specs.declared.Sheet.{Sheet}
@@ -69,17 +69,17 @@ ofStep step.End = record { given = 0; set = 0; next = 0; left = 0 }
 ofStep (step.Set set cursor) = record { given = 1; set = set; next = cursor .next; left = cursor .left }
 
 -- what reading a sheet hands out: the refusal, or 0 and how many entries were written; the kind's number and n
-abbrev pub ofReceived : Received → Sheet
-ofReceived received =
+abbrev pub ofEntriesRead : EntriesRead → Sheet
+ofEntriesRead entriesDelivered =
     record {
-      number = ofWritten (received .answer) .number;
-      value = ofWritten (received .answer) .value;
-      kind = kindNumber (received .kind);
-      n = received .n;
+      number = ofWritten (entriesDelivered .answer) .number;
+      value = ofWritten (entriesDelivered .answer) .value;
+      kind = kindNumber (entriesDelivered .kind);
+      n = entriesDelivered .n;
     }
 
-pub record LeavesSheet (o : ReceivedOutcome) (handed : Sheet) (cells : List ℤ) : Type 0 where
-  pub answered : handed ≡ ofReceived (o .answer)
+pub record LeavesSheet (o : EntriesOutcome) (handed : Sheet) (cells : List ℤ) : Type 0 where
+  pub answered : handed ≡ ofEntriesRead (o .answer)
   pub left : cells ≡ o .cells
 
 -- what making a report hands out, and leaves in its two buffers

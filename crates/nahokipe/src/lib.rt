@@ -4,7 +4,7 @@ use answer::Written;
 use record::Contents;
 use record::Cursor;
 use record::Step;
-use sheet_entries::Received;
+use sheet_entries::EntriesRead;
 ghost use mathlib.Core.Path.{_≡_};
 ghost use Rattle.answer.specs.Outcome.{delivered};
 ghost use Rattle.theory_sets.specs.Structures.{listed, minimalSets};
@@ -22,11 +22,11 @@ ghost use Rattle.answer.specs.Outcome.{at};
 ghost use Rattle.record_lines.specs.Changes.{addPart, takeOut, addSet};
 ghost use Rattle.record_lines.specs.Records.{firstRecord, changedRecord};
 ghost use Rattle.sheet.specs.Sheets.{sheetBytes, sheetOf};
-ghost use Rattle.sheet_entries.specs.Answers.{received};
+ghost use Rattle.sheet_entries.specs.Answers.{entriesDelivered};
 ghost use Rattle.report_lines.specs.Lines.{refusedLine};
 ghost use Rattle.report_text.specs.Reporting.{reported};
 ghost use Prim.Native.Nat.{_-_};
-ghost use Rattle.nahokipe.specs.Answers.{ofVerdict, ofWritten, ofContents, ofStep, ofReceived, Leaves, LeavesAll, LeavesBoth, LeavesSheet, LeavesReport};
+ghost use Rattle.nahokipe.specs.Answers.{ofVerdict, ofWritten, ofContents, ofStep, ofEntriesRead, Leaves, LeavesAll, LeavesBoth, LeavesSheet, LeavesReport};
 
 // What a host is handed: number 0 and the length written, or a refusal's number and place.
 #[repr(C)]
@@ -245,9 +245,9 @@ pub extern "C" fn nahokipe_write_sheet(
 // The entries of a sheet.
 #[no_mangle]
 pub extern "C" fn nahokipe_read_sheet(bytes: &[u8], cells: &mut [i64]) -> Sheet
-    ensures { λ r. ⌜ LeavesSheet (received (sheetOf (now (bytes .entry))) (now (cells .entry))) r (now (cells .exit)) ⌝ }
+    ensures { λ r. ⌜ LeavesSheet (entriesDelivered (sheetOf (now (bytes .entry))) (now (cells .entry))) r (now (cells .exit)) ⌝ }
 {
-    of_received(sheet_entries::read_sheet(bytes, cells))
+    of_entries_read(sheet_entries::read_sheet(bytes, cells))
 }
 
 // What stands in the record that the bytes are.
@@ -407,16 +407,16 @@ fn of_step(step: Step) -> NextSet
     }
 }
 
-fn of_received(received: Received) -> Sheet
-    ensures { λ r. ⌜ r ≡ ofReceived received ⌝ }
+fn of_entries_read(entriesDelivered: EntriesRead) -> Sheet
+    ensures { λ r. ⌜ r ≡ ofEntriesRead entriesDelivered ⌝ }
 {
-    let written = received.answer;
+    let written = entriesDelivered.answer;
     let answer = of_written(written);
-    let kind = received.kind;
+    let kind = entriesDelivered.kind;
     Sheet {
         number: answer.number,
         value: answer.value,
         kind: kind.number(),
-        n: received.n,
+        n: entriesDelivered.n,
     }
 }

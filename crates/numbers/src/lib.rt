@@ -191,7 +191,7 @@ pub fn binomial(n: usize, k: usize) -> u32
 }
 
 // 2^n for n up to 16, and 0 above.
-pub fn power(n: usize) -> usize
+pub fn power_of_two(n: usize) -> usize
     ensures { λ r. ⌜ r ≡ upTo16 n (2 ^ n) ⌝ }
 {
     if n <= 16 { 1 << n } else { 0 }

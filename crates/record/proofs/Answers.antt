@@ -18,7 +18,7 @@ use Rattle.record.specs.declared.Ending.the-variants as ending
 use Rattle.record_head.specs.Headings.{Read, found, refused, then, fieldAt, Head, headAt}
 use Rattle.record.specs.Records.{setRefusal, setsAt, Design, recordAt, alone, wholeRecord}
 use Rattle.record.specs.Contents.{nothing, contentsOf, contentsAt, wholeContents}
-use Rattle.record.specs.Steps.{endingOf, passed, Pass, decided}
+use Rattle.record.specs.Inside.{endingOf, passed, Pass, decided}
 use Rattle.record_head.proofs.Found.{then-found}
 use Rattle.record_head.proofs.Answers.{not-both}
 

@@ -29,7 +29,7 @@ use Rattle.theory_sets.proofs.Ranges.{any-same}
 use Rattle.structure_words.specs.Words.{wordsOf, among}
 use Rattle.structure_words.proofs.Words.{wordsOf-none, wordsOf-same, marked-more}
 use Rattle.record_head.specs.Headings.{Read, found, refused, fieldAt, lastNumber}
-use Rattle.record.specs.Steps.{risingRefusal, Pass, passed, passOn, risingAt, markedOf, nestedOn, nestedAt}
+use Rattle.record.specs.Inside.{risingRefusal, Pass, passed, passOn, risingAt, markedOf, nestedOn, nestedAt}
 use Rattle.record_head.proofs.Found.{field-checked}
 use Rattle.record_head.proofs.PartNumbers.{last-more}
 

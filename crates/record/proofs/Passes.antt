@@ -29,14 +29,14 @@ use Rattle.theory_sets.proofs.Masks.{holds-refl, holds-trans, holds-le, holds-a
 use Rattle.theory_sets.proofs.Ranges.{any-same, rising-above}
 use Rattle.theory_sets.proofs.Structures.{minimal-least, minimal-intro}
 use Rattle.structure_words.specs.Words.{inWords, wordsOf, among}
-use Rattle.structure_closure.specs.Closure.{without, spread, trimmed}
+use Rattle.structure_closure.specs.Closure.{without, spread, irredundant}
 use Rattle.structure_words.proofs.Words.{inWords-wordsOf}
 use Rattle.structure_closure.proofs.ListedSets.{spread-listed}
-use Rattle.structure_closure.proofs.MinimalSets.{trimmed-minimal}
-use Rattle.structure.proofs.Walks.{trimmed-same, spread-same}
+use Rattle.structure_closure.proofs.MinimalSets.{irredundant-minimal}
+use Rattle.structure.proofs.Walks.{irredundant-same, spread-same}
 use Rattle.record_head.specs.Headings.{Read, found, then, unless, judged, fieldAt, lastNumber}
 use Rattle.record.specs.Records.{misplaced, setRefusal, setsAt}
-use Rattle.record.specs.Steps.{risingRefusal, Pass, passed, passOn, risingAt, nestedOn, nestedAt, decided}
+use Rattle.record.specs.Inside.{risingRefusal, Pass, passed, passOn, risingAt, nestedOn, nestedAt, decided}
 use Rattle.record.proofs.Sets.{misplaced-none, none-misplaced, rising-before}
 use Rattle.record.proofs.Marking.{climb}
 
@@ -199,28 +199,28 @@ module _ (bytes : List ℕ) (n : ℕ) (p : Pass) (kept : ℕ → Bool) (rising :
 
 -- ---- from the words
 
-trimmed-below : (n : ℕ) (f g : ℕ → Bool) → ((b : ℕ) → b < 2 ^ n → f b ≡ g b) → (a : ℕ) → a < 2 ^ n → trimmed n f a ≡ trimmed n g a
-unfolding trimmed
-trimmed-below n f g same a h =
+irredundant-below : (n : ℕ) (f g : ℕ → Bool) → ((b : ℕ) → b < 2 ^ n → f b ≡ g b) → (a : ℕ) → a < 2 ^ n → irredundant n f a ≡ irredundant n g a
+unfolding irredundant
+irredundant-below n f g same a h =
     ap₂ (λ (p q : Bool). p && not q) (same a h)
     (any-same (λ part. without part f a) (λ part. without part g a) n (λ part l.
     ap (λ (p : Bool). has a part && p) (same (a - 2 ^ part) (lt-of-le-of-lt (sub-le a (2 ^ part)) h))))
 
 -- what carrying and trimming the marked sets leaves of them is the minimal ones
 pub kept-minimal : (n : ℕ) (sets : List ℕ) → n ≤ 16 → ((a : ℕ) → List·Memᴰ a sets → (a < 2 ^ n) × (0 < a)) → (a : ℕ) → List·Memᴰ a sets
-    → inWords (wordsOf (trimmed (min n 16) (inWords (wordsOf (spread (min n 16) (inWords (wordsOf (among sets)))))))) a ≡ minimal n (listed sets) a
+    → inWords (wordsOf (irredundant (min n 16) (inWords (wordsOf (spread (min n 16) (inWords (wordsOf (among sets)))))))) a ≡ minimal n (listed sets) a
 kept-minimal n sets few within a m =
     let inside : 2 ^ n ≤ 65536 = pow-mono few in
     let small : a < 2 ^ n = within a m .0 in
     let near : a < 65536 = omega arith in
     let reached : ℕ → Bool = spread n (inWords (wordsOf (among sets))) in
-    ap (λ (k : ℕ). inWords (wordsOf (trimmed k (inWords (wordsOf (spread k (inWords (wordsOf (among sets)))))))) a) (min-eq-left few)
-    ∙ inWords-wordsOf (trimmed n (inWords (wordsOf reached))) a near
-    ∙ trimmed-same (inWords (wordsOf reached)) reached (inWords-wordsOf reached) n a near
-    ∙ trimmed-below n reached (listed sets) (λ b h.
+    ap (λ (k : ℕ). inWords (wordsOf (irredundant k (inWords (wordsOf (spread k (inWords (wordsOf (among sets)))))))) a) (min-eq-left few)
+    ∙ inWords-wordsOf (irredundant n (inWords (wordsOf reached))) a near
+    ∙ irredundant-same (inWords (wordsOf reached)) reached (inWords-wordsOf reached) n a near
+    ∙ irredundant-below n reached (listed sets) (λ b h.
     spread-same (inWords (wordsOf (among sets))) (among sets) (inWords-wordsOf (among sets)) n b (lt-of-lt-of-le h inside)
     ∙ spread-listed n sets (λ c k. within c k .0) b h) a small
-    ∙ trimmed-minimal n (listed sets) (coherent sets m within) a small
+    ∙ irredundant-minimal n (listed sets) (coherent sets m within) a small
   where
     coherent : (sets : List ℕ) → List·Memᴰ a sets → ((a : ℕ) → List·Memᴰ a sets → (a < 2 ^ n) × (0 < a)) → Semicoherent n (listed sets)
     coherent [] k within = absurd (List·Memᴰ·not-nil k)
@@ -228,12 +228,12 @@ kept-minimal n sets few within a m =
 
 -- the two passes decide what reading the sets one by one does
 pub passes-decide : (bytes : List ℕ) (n count start : ℕ) → n ≤ 16 → setsAt bytes n count [] start
-    ≡ decided (nestedAt bytes (inWords (wordsOf (trimmed (min n 16) (inWords (wordsOf (spread (min n 16) (inWords (wordsOf (among (risingAt bytes n count [] start .sets)))))))))) (length (risingAt bytes n count [] start .sets)) start) (risingAt bytes n count [] start)
+    ≡ decided (nestedAt bytes (inWords (wordsOf (irredundant (min n 16) (inWords (wordsOf (spread (min n 16) (inWords (wordsOf (among (risingAt bytes n count [] start .sets)))))))))) (length (risingAt bytes n count [] start .sets)) start) (risingAt bytes n count [] start)
 passes-decide bytes n count start few =
     let p : Pass = risingAt bytes n count [] start in
     let c = climb bytes n count [] start in
     let within : (a : ℕ) → List·Memᴰ a (p .sets) → (a < 2 ^ n) × (0 < a) = subst (λ (l : List ℕ). (a : ℕ) → List·Memᴰ a l → (a < 2 ^ n) × (0 < a)) (sym (c .behind-earlier)) (c .within) in
-    let kept : ℕ → Bool = inWords (wordsOf (trimmed (min n 16) (inWords (wordsOf (spread (min n 16) (inWords (wordsOf (among (p .sets))))))))) in
+    let kept : ℕ → Bool = inWords (wordsOf (irredundant (min n 16) (inWords (wordsOf (spread (min n 16) (inWords (wordsOf (among (p .sets))))))))) in
     let d = decides bytes n p kept (lower (p .sets) (subst (RisingFrom 1) (sym (c .behind-earlier)) (c .rising))) within (kept-minimal n (p .sets) few within) count [] start refl in
     d .same ∙ ap (λ (l : List ℕ). decided (nestedAt bytes kept (length l) start) p) (sym (d .behind-earlier))
   where

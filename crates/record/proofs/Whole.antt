@@ -24,13 +24,13 @@ use Rattle.record.specs.Records.{setRefusal, setsAt, Design, design, rec
 use Rattle.record_head.specs.HeadingBytes.{formsOf}
 use Rattle.record.specs.RecordBytes.{DesignRules}
 use Rattle.record.specs.Contents.{nothing, contentsOf, wholeContents, recordRefusal, designOr, designIn, stretchOf, cursor, firstCursor, stepOn, stepFrom, stepAt, metIn}
-use Rattle.record.specs.Steps.{Pass, passed, risingAt, nestedAt, decided}
+use Rattle.record.specs.Inside.{Pass, passed, risingAt, nestedAt, decided}
 use Rattle.record_head.proofs.Found.{then-found, field-number, Stands}
 use Rattle.record.proofs.RoundTrip.{record-found, whole-found}
 use Rattle.record.proofs.MinimalSets.{rules-accepted-list}
 use Rattle.record.proofs.Passes.{passes-decide}
 use Rattle.structure_words.specs.Words.{inWords, wordsOf, among}
-use Rattle.structure_closure.specs.Closure.{spread, trimmed}
+use Rattle.structure_closure.specs.Closure.{spread, irredundant}
 use Rattle.structure.proofs.Acceptance.{AcceptedList}
 
 -- ---- accepted or refused
@@ -146,7 +146,7 @@ decided-sets Accepted pass sets end e = cases (pass .verdict) refl e
 pub pass-sets : (bytes : List ℕ) (n count begin : ℕ) (sets : List ℕ) (end : ℕ) → n ≤ 16 → setsAt bytes n count [] begin ≡ found sets end → risingAt bytes n count [] begin .sets ≡ sets
 pass-sets bytes n count begin sets end few e =
     let p : Pass = risingAt bytes n count [] begin in
-    let kept : ℕ → Bool = inWords (wordsOf (trimmed (min n 16) (inWords (wordsOf (spread (min n 16) (inWords (wordsOf (among (p .sets))))))))) in
+    let kept : ℕ → Bool = inWords (wordsOf (irredundant (min n 16) (inWords (wordsOf (spread (min n 16) (inWords (wordsOf (among (p .sets))))))))) in
     decided-sets (nestedAt bytes kept (length (p .sets)) begin) p sets end (sym (passes-decide bytes n count begin few) ∙ e)
 
 -- what an accepted record's contents are, for its table

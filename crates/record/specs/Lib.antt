@@ -1,4 +1,4 @@
 pub mod Records
 pub mod RecordBytes
 pub mod Contents
-pub mod Steps
+pub mod Inside

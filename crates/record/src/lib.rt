@@ -16,8 +16,8 @@ ghost use Rattle.structure_words.specs.Words.{inWords};
 ghost use Rattle.record_head.specs.Headings.{fieldAt};
 ghost use Rattle.record.specs.Records.{setsAt};
 ghost use Rattle.record.specs.Contents.{nothing, contentsAt, wholeContents, recordRefusal, designIn, stretchOf, firstCursor, stepAt};
-ghost use Rattle.record_head.specs.Steps.{asRead};
-ghost use Rattle.record.specs.Steps.{endingOf, risingRefusal, risingAt, markedOf, nestedAt};
+ghost use Rattle.record_head.specs.Inside.{asRead};
+ghost use Rattle.record.specs.Inside.{endingOf, risingRefusal, risingAt, markedOf, nestedAt};
 
 // What reading a record finds: its part list, the number of its sets, and where their bytes begin and end, which is where the record ends.
 // Of a refused record: a list of no parts and an empty stretch at 0.
@@ -164,7 +164,7 @@ pub fn table_of_record(bytes: &[u8], table: &mut [u8]) -> Written
             }
             let marked = mark_sets(bytes, contents.begin, n, contents.sets);
             let words = marked.words;
-            let reached = structure_closure::carried(&words, n);
+            let reached = structure_closure::spread(&words, n);
             structure_words::store(&reached, &mut table[..needed]);
             Written::Length(needed)
         }
@@ -180,7 +180,7 @@ fn read_set(bytes: &[u8], start: usize, n: usize, previous: u64) -> Reading
     match number {
         Reading::Refused(refusal) => Reading::Refused(refusal),
         Reading::Number { value, next } => {
-            if numbers::power(n) as u64 <= value {
+            if numbers::power_of_two(n) as u64 <= value {
                 return codec::refused(answer::UNKNOWN_PART, start);
             }
             if value == 0 {
@@ -218,8 +218,8 @@ fn read_sets(bytes: &[u8], start: usize, n: usize, count: usize) -> Ending
 {
     let marked = mark_sets(bytes, start, n, count);
     let words = marked.words;
-    let reached = structure_closure::carried(&words, n);
-    let minimal = structure_closure::trimmed(&reached, n);
+    let reached = structure_closure::spread(&words, n);
+    let minimal = structure_closure::irredundant(&reached, n);
     let nested = first_nested(bytes, start, marked.read, &minimal);
     if let Verdict::Refused(refusal) = nested {
         return Ending::Refused(refusal);

@@ -19,7 +19,7 @@ use Rattle.codec.proofs.WriteAfterRead.{Bytes}
 use Rattle.record_parts.specs.declared.PartList.{PartList}
 use Rattle.record_parts.specs.declared.Changed.{Changed}
 use Rattle.record_parts.specs.declared.Numbered.the-variants as numbered
-use Rattle.record_parts.specs.Changes.{addRefusal, added, takenOut, withPart, withoutPart}
+use Rattle.record_parts.specs.Changes.{addRefusal, partAdded, takenOut, withPart, withoutPart}
 use Rattle.record_parts.specs.Changes as parts
 use Rattle.record_parts.proofs.OneChange.{added-whole, taken-out-whole, take-out-accepted}
 use Rattle.theory_sets.specs.Masks.{has}
@@ -33,7 +33,7 @@ use Rattle.record_lines.specs.Records.{changedRead, changedRecord}
 use Rattle.record_lines.proofs.TakenOut.{without-none, without-some}
 use Rattle.record_lines.proofs.Rules.{changed-rules, take-out-agrees}
 use Rattle.record_changes.specs.declared.Opened.{Opened}
-use Rattle.record_changes.specs.Steps.{openedOf}
+use Rattle.record_changes.specs.Inside.{openedOf}
 use Rattle.record_sets.specs.Lists.{withSetRefusal}
 use Rattle.record_changes.proofs.Loading.{room}
 
@@ -142,11 +142,11 @@ module _ (v : Verdict) (list : PartList) (result : Changed) (number : ℕ) (give
       cases Accepted e = refl
 
 module _ (d : Design) (r : DesignRules d) where
-  pub add-refused : (why : Refusal) → added (d .parts) .answer ≡ numbered.Refused why → changeRefusal addPart d ≡ Refused why
+  pub add-refused : (why : Refusal) → partAdded (d .parts) .answer ≡ numbered.Refused why → changeRefusal addPart d ≡ Refused why
   add-refused why e =
       unless-refused (addRefusal (d .parts)) (d .parts) (withPart (d .parts)) _ refl why (sym (ap (λ (c : Changed). c .answer) (added-whole (d .parts) (r .parts))) ∙ e)
 
-  pub add-made : (k : ℕ) → added (d .parts) .answer ≡ numbered.Number k → changeRefusal addPart d ≡ Accepted
+  pub add-made : (k : ℕ) → partAdded (d .parts) .answer ≡ numbered.Number k → changeRefusal addPart d ≡ Accepted
   add-made k e =
       unless-made (addRefusal (d .parts)) (d .parts) (withPart (d .parts)) _ refl k (sym (ap (λ (c : Changed). c .answer) (added-whole (d .parts) (r .parts))) ∙ e)
 

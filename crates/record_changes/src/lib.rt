@@ -17,7 +17,7 @@ ghost use Rattle.record.specs.Contents.{stepAt, metIn};
 ghost use Rattle.record.specs.RecordBytes.{recordBytes, DesignRules};
 ghost use Rattle.record_lines.specs.Changes.{addPart, takeOut, addSet, setsWithout};
 ghost use Rattle.record_lines.specs.Records.{changedRecord, firstRecord};
-ghost use Rattle.record_changes.specs.Steps.{setCells, openedOf};
+ghost use Rattle.record_changes.specs.Inside.{setCells, openedOf};
 
 // What a change works on: the part list of a record, the number of its sets, and these sets in front of an array.
 // Of a refused record: a list of no parts and no sets.

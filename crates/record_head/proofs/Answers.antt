@@ -11,7 +11,7 @@ use Rattle.record_parts.specs.declared.PartList.{PartList}
 use Rattle.record_head.specs.declared.Parts.{Parts}
 use Rattle.record_head.specs.declared.Heading.{Heading}
 use Rattle.record_head.specs.Headings.{Read, found, refused, fieldAt, setCountRefusal, partsAt, Head, headAt, headingOf}
-use Rattle.record_head.specs.Steps.{partsOf}
+use Rattle.record_head.specs.Inside.{partsOf}
 use Rattle.record_numbers.specs.Numbering.{mostParts}
 use Rattle.record_head.proofs.Found.{then-found}
 use Rattle.record_head.proofs.PartNumbers.{parts-few}

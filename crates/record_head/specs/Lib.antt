@@ -1,3 +1,3 @@
 pub mod Headings
 pub mod HeadingBytes
-pub mod Steps
+pub mod Inside

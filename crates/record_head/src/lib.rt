@@ -12,7 +12,7 @@ ghost use Rattle.answer.specs.Outcome.{at};
 ghost use Rattle.record_numbers.specs.Numbering.{mostParts};
 ghost use Rattle.record_parts.specs.PartLists.{listOf};
 ghost use Rattle.record_head.specs.Headings.{found, then, fieldAt, partCountRefusal, partNumberRefusal, setCountRefusal, numbersAt, partsAt, headAt, headingOf};
-ghost use Rattle.record_head.specs.Steps.{asRead, partsOf};
+ghost use Rattle.record_head.specs.Inside.{asRead, partsOf};
 
 // What stands before the sets: the part list and the number of sets, and where the sets begin. Where it is refused: a list of no parts, no
 // set and 0.

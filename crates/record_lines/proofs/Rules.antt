@@ -22,7 +22,7 @@ use Rattle.record_parts.specs.declared.PartList.{PartList}
 use Rattle.record_parts.specs.declared.Changed.{Changed}
 use Rattle.record_numbers.specs.Numbering.{mostParts, topNumber, RisingWithin}
 use Rattle.record_parts.specs.PartLists.{numbersOf, WellFormed}
-use Rattle.record_parts.specs.Changes.{added, takenOut, addRefusal}
+use Rattle.record_parts.specs.Changes.{partAdded, takenOut, addRefusal}
 use Rattle.record_parts.specs.Changes as parts
 use Rattle.record_parts.specs.Lines as lines
 use Rattle.record_parts.proofs.LeftOut.{length-without}
@@ -137,7 +137,7 @@ with-set-within set d r accepted b m =
     (λ (k : List·Memᴰ b (d .sets)). r .sets .within b k)
     (List·Memᴰ·cases-cons m)
 
-pub added-count : (list : PartList) → WellFormed list → addRefusal list ≡ Accepted → added list .list .count ≡ suc (list .count)
+pub added-count : (list : PartList) → WellFormed list → addRefusal list ≡ Accepted → partAdded list .list .count ≡ suc (list .count)
 added-count list w accepted =
     let a = add-accepted list w accepted in
     let issued = list .mark + 1 in

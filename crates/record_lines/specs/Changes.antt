@@ -9,7 +9,7 @@ use Rattle.answer.specs.declared.Verdict.{Verdict}
 use Rattle.answer.specs.declared.Verdict.the-variants as verdict
 use Rattle.numbers.specs.Tables.{tabulate}
 use Rattle.record_parts.specs.PartLists.{listOf}
-use Rattle.record_parts.specs.Changes.{addRefusal, added, takenOut}
+use Rattle.record_parts.specs.Changes.{addRefusal, partAdded, takenOut}
 use Rattle.theory_sets.specs.Masks.{has}
 use Rattle.theory_sets.specs.Structures.{listed, minimalSets}
 use Rattle.record.specs.Records.{Design, design}
@@ -66,7 +66,7 @@ changeRefusal (addSet set) d = addSetRefusal set d
 
 -- add part: the sets stay; take out: the part is held failed; add set: the minimal sets of the old ones and the new one
 abbrev pub changed : Change → Design → Design
-changed addPart d = design (added (d .parts) .list) (d .sets)
+changed addPart d = design (partAdded (d .parts) .list) (d .sets)
 changed (takeOut position) d = design (takenOut (d .parts) position .list) (setsWithout (position - 1) (d .sets))
 changed (addSet set) d = design (d .parts) (minimalSets (d .parts .count) (listed (set ∷ d .sets)))
 

@@ -9,7 +9,7 @@ use Rattle.answer.specs.declared.Written.{Written}
 use Rattle.answer.specs.declared.Written.the-variants as written
 use Rattle.record_parts.specs.PartLists.{numbersOf}
 use Rattle.record_parts.specs.Lines.{In, Line, givenNumber}
-use Rattle.record_parts.specs.Changes.{added, takenOut}
+use Rattle.record_parts.specs.Changes.{partAdded, takenOut}
 use Rattle.record.specs.Records.{Design}
 use Rattle.record.specs.RecordBytes.{DesignRules}
 use Rattle.record_lines.specs.Changes.{Change, addPart, takeOut, addSet, changed}
@@ -57,7 +57,7 @@ designAfter (change ∷ changes) d = designAfter changes (changed change d)
 
 -- the number issued in a change, the number that left in it, and the set that it gave, by the part numbers then in use; if any
 abbrev pub issuedIn : Change → Design → List ℕ
-issuedIn addPart d = givenNumber (added (d .parts) .answer)
+issuedIn addPart d = givenNumber (partAdded (d .parts) .answer)
 issuedIn (takeOut position) d = []
 issuedIn (addSet set) d = []
 

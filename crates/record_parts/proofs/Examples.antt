@@ -11,54 +11,54 @@ use Rattle.record_parts.specs.declared.PartList.{PartList}
 use Rattle.record_parts.specs.declared.Numbered.the-variants as numbered
 use Rattle.record_numbers.specs.Numbering.{topNumber, partListRefusal, highest}
 use Rattle.record_parts.specs.PartLists.{listOf, made}
-use Rattle.record_parts.specs.Changes.{added, takenOut}
+use Rattle.record_parts.specs.Changes.{partAdded, takenOut}
 use Rattle.record_parts.specs.Lines.{addPart, takeOut, lastOf, issuedBy, leftBy}
 
 -- mark 0: no part number can be right
 no-mark : made 0 (1 ∷ []) .verdict ≡ verdict.Refused (at wrongPartNumber 0)
-unfolding partListRefusal made added takenOut
+unfolding partListRefusal made partAdded takenOut
 no-mark = refl
 
 number-zero : made 5 (0 ∷ []) .verdict ≡ verdict.Refused (at wrongPartNumber 0)
-unfolding partListRefusal made added takenOut
+unfolding partListRefusal made partAdded takenOut
 number-zero = refl
 
 above-the-mark : made 5 (1 ∷ 6 ∷ []) .verdict ≡ verdict.Refused (at wrongPartNumber 1)
-unfolding partListRefusal made added takenOut
+unfolding partListRefusal made partAdded takenOut
 above-the-mark = refl
 
 not-rising : made 5 (3 ∷ 2 ∷ []) .verdict ≡ verdict.Refused (at wrongPartNumber 1)
-unfolding partListRefusal made added takenOut
+unfolding partListRefusal made partAdded takenOut
 not-rising = refl
 
 -- equal to the mark is right, and so is a mark above all numbers
 at-the-mark : made 5 (5 ∷ []) .verdict ≡ verdict.Accepted
-unfolding partListRefusal made added takenOut
+unfolding partListRefusal made partAdded takenOut
 at-the-mark = refl
 
 under-the-mark : made 9 (3 ∷ []) .list ≡ listOf 9 (3 ∷ [])
-unfolding partListRefusal made added takenOut
+unfolding partListRefusal made partAdded takenOut
 under-the-mark = refl
 
 no-numbers : made 5 [] .verdict ≡ verdict.Refused (at wrongPartCount 0)
-unfolding partListRefusal made added takenOut
+unfolding partListRefusal made partAdded takenOut
 no-numbers = refl
 
 seventeen-numbers : made 5 (replicate 17 0) .verdict ≡ verdict.Refused (at wrongPartCount 0)
-unfolding partListRefusal made added takenOut
+unfolding partListRefusal made partAdded takenOut
 seventeen-numbers = refl
 
 -- a first list
 first-mark : made (highest (2 ∷ 5 ∷ 7 ∷ [])) (2 ∷ 5 ∷ 7 ∷ []) .list .mark ≡ 7
-unfolding partListRefusal made added takenOut
+unfolding partListRefusal made partAdded takenOut
 first-mark = refl
 
 first-top : made (highest (1 ∷ topNumber ∷ [])) (1 ∷ topNumber ∷ []) .verdict ≡ verdict.Accepted
-unfolding partListRefusal made added takenOut
+unfolding partListRefusal made partAdded takenOut
 first-top = refl
 
 first-over : made (highest (1 ∷ (topNumber + 1) ∷ [])) (1 ∷ (topNumber + 1) ∷ []) .verdict ≡ verdict.Refused (at wrongPartNumber 1)
-unfolding partListRefusal made added takenOut
+unfolding partListRefusal made partAdded takenOut
 first-over = refl
 
 -- the bridge: the highest part leaves, the mark stays, and the next part gets 6
@@ -66,61 +66,61 @@ abbrev bridge : PartList
 bridge = listOf 5 (1 ∷ 2 ∷ 3 ∷ 4 ∷ 5 ∷ [])
 
 highest-leaves : takenOut bridge 5 .list ≡ listOf 5 (1 ∷ 2 ∷ 3 ∷ 4 ∷ [])
-unfolding partListRefusal made added takenOut
+unfolding partListRefusal made partAdded takenOut
 highest-leaves = refl
 
 next-is-six : lastOf (takeOut 5 ∷ addPart ∷ []) bridge ≡ listOf 6 (1 ∷ 2 ∷ 3 ∷ 4 ∷ 6 ∷ [])
-unfolding partListRefusal made added takenOut
+unfolding partListRefusal made partAdded takenOut
 next-is-six = refl
 
 -- mark+1, and not one more than the highest part
-after-the-mark : added (listOf 9 (3 ∷ [])) .list ≡ listOf 10 (3 ∷ 10 ∷ [])
-unfolding partListRefusal made added takenOut
+after-the-mark : partAdded (listOf 9 (3 ∷ [])) .list ≡ listOf 10 (3 ∷ 10 ∷ [])
+unfolding partListRefusal made partAdded takenOut
 after-the-mark = refl
 
 -- 17 at 0 and at n+1, and before 18
 position-zero : takenOut bridge 0 .answer ≡ numbered.Refused (at unknownPosition 0)
-unfolding partListRefusal made added takenOut
+unfolding partListRefusal made partAdded takenOut
 position-zero = refl
 
 position-six : takenOut bridge 6 .answer ≡ numbered.Refused (at unknownPosition 0)
-unfolding partListRefusal made added takenOut
+unfolding partListRefusal made partAdded takenOut
 position-six = refl
 
 past-the-only-part : takenOut (listOf 1 (1 ∷ [])) 2 .answer ≡ numbered.Refused (at unknownPosition 0)
-unfolding partListRefusal made added takenOut
+unfolding partListRefusal made partAdded takenOut
 past-the-only-part = refl
 
 the-only-part : takenOut (listOf 1 (1 ∷ [])) 1 .answer ≡ numbered.Refused (at inEverySet 0)
-unfolding partListRefusal made added takenOut
+unfolding partListRefusal made partAdded takenOut
 the-only-part = refl
 
 -- 20 looks at the mark, and 19 comes before it
-spent : added (listOf topNumber (1 ∷ [])) .answer ≡ numbered.Refused (at numbersSpent 0)
-unfolding partListRefusal made added takenOut
+spent : partAdded (listOf topNumber (1 ∷ [])) .answer ≡ numbered.Refused (at numbersSpent 0)
+unfolding partListRefusal made partAdded takenOut
 spent = refl
 
 abbrev sixteen : List ℕ
 sixteen = 1 ∷ 2 ∷ 3 ∷ 4 ∷ 5 ∷ 6 ∷ 7 ∷ 8 ∷ 9 ∷ 10 ∷ 11 ∷ 12 ∷ 13 ∷ 14 ∷ 15 ∷ 16 ∷ []
 
-full-and-spent : added (listOf topNumber sixteen) .answer ≡ numbered.Refused (at fullMachine 0)
-unfolding partListRefusal made added takenOut
+full-and-spent : partAdded (listOf topNumber sixteen) .answer ≡ numbered.Refused (at fullMachine 0)
+unfolding partListRefusal made partAdded takenOut
 full-and-spent = refl
 
 -- built by hand: a count of 40, and numbers that do not rise
-forty : added (record { count = 40; mark = 9; numbers = sixteen }) .answer ≡ numbered.Refused (at wrongPartCount 0)
-unfolding partListRefusal made added takenOut
+forty : partAdded (record { count = 40; mark = 9; numbers = sixteen }) .answer ≡ numbered.Refused (at wrongPartCount 0)
+unfolding partListRefusal made partAdded takenOut
 forty = refl
 
 falling : takenOut (record { count = 2; mark = 9; numbers = 3 ∷ 2 ∷ replicate 14 0 }) 9 .answer ≡ numbered.Refused (at wrongPartNumber 1)
-unfolding partListRefusal made added takenOut
+unfolding partListRefusal made partAdded takenOut
 falling = refl
 
 -- a refused change inside a line leaves the list, and the line goes on
 line-issued : issuedBy (addPart ∷ takeOut 9 ∷ takeOut 2 ∷ addPart ∷ []) bridge ≡ 6 ∷ 7 ∷ []
-unfolding partListRefusal made added takenOut
+unfolding partListRefusal made partAdded takenOut
 line-issued = refl
 
 line-left : leftBy (addPart ∷ takeOut 9 ∷ takeOut 2 ∷ takeOut 2 ∷ []) bridge ≡ 2 ∷ 3 ∷ []
-unfolding partListRefusal made added takenOut
+unfolding partListRefusal made partAdded takenOut
 line-left = refl

@@ -16,7 +16,7 @@ use Rattle.record_parts.specs.declared.Changed.{Changed}
 use Rattle.record_parts.specs.declared.Numbered.the-variants as numbered
 use Rattle.record_numbers.specs.Numbering.{mostParts, topNumber, Rules, without}
 use Rattle.record_parts.specs.PartLists.{numbersOf, listOf, WellFormed}
-use Rattle.record_parts.specs.Changes.{changed, unless, brokenRefusal, change, addRefusal, withPart, added, takeOutRefusal, withoutPart, takenOut}
+use Rattle.record_parts.specs.Changes.{changed, unless, brokenRefusal, change, addRefusal, withPart, partAdded, takeOutRefusal, withoutPart, takenOut}
 use Rattle.record_parts.specs.Lines.{PartChange, addPart, takeOut, apply, givenNumber, issuedIn, leftIn, In, Line}
 use Rattle.record_parts.proofs.LeftOut.{length-without, in-at, in-without, without-in}
 use Rattle.record_parts.proofs.InCells.{numbers-counted}
@@ -111,8 +111,8 @@ module _ (list : PartList) (w : WellFormed list) where
   whole : (refusal : Verdict) (result : Changed) → change list refusal result ≡ unless refusal list result
   whole refusal result = ap (λ (v : Verdict). unless v list (unless refusal list result)) (rules-accepted (w .rules))
 
-  pub added-whole : added list ≡ unless (addRefusal list) list (withPart list)
-  unfolding added
+  pub added-whole : partAdded list ≡ unless (addRefusal list) list (withPart list)
+  unfolding partAdded
   added-whole = whole (addRefusal list) (withPart list)
 
   pub taken-out-whole : (position : ℕ) → takenOut list position ≡ unless (takeOutRefusal list position) list (withoutPart list position)
@@ -120,7 +120,7 @@ module _ (list : PartList) (w : WellFormed list) where
   taken-out-whole position = whole (takeOutRefusal list position) (withoutPart list position)
 
   -- While there is room and a number is left, the numbers are the old ones and mark+1 behind them,
-  pub added-given : list .count < mostParts → list .mark < topNumber → added list ≡ changed (listOf (list .mark + 1) (numbersOf list ++ ((list .mark + 1) ∷ []))) (numbered.Number (list .mark + 1))
+  pub added-given : list .count < mostParts → list .mark < topNumber → partAdded list ≡ changed (listOf (list .mark + 1) (numbersOf list ++ ((list .mark + 1) ∷ []))) (numbered.Number (list .mark + 1))
   added-given few low =
       added-whole ∙ simp (ne-eqb (list .count) mostParts (λ e. omega arith), ne-eqb (list .mark) topNumber (λ e. omega arith))
 
@@ -162,7 +162,7 @@ take-out-accepted list position rules accepted =
 
 -- each change of a well-formed list is a line
 pub line-one : (c : PartChange) (list : PartList) → WellFormed list → Line list (apply c list .list) (issuedIn c list) (leftIn c list)
-unfolding added takenOut
+unfolding partAdded takenOut
 line-one addPart list w =
     by-change (λ r. Line list (r .list) (givenNumber (r .answer)) []) list (addRefusal list) (withPart list)
     (λ rules accepted. let a = add-accepted list rules accepted in line-with-part list w (a .0) (a .1))
@@ -174,7 +174,7 @@ line-one (takeOut position) list w =
 
 -- What a change gives is well-formed, whatever list it was handed: of a list with all its cells, spare ones that do not hold 0 among them.
 pub given-well-formed : (c : PartChange) (list : PartList) → length (list .numbers) ≡ mostParts → (number : ℕ) → apply c list .answer ≡ numbered.Number number → WellFormed (apply c list .list)
-unfolding added takenOut
+unfolding partAdded takenOut
 given-well-formed addPart list all number =
     by-change (λ r. r .answer ≡ numbered.Number number → WellFormed (r .list)) list (addRefusal list) (withPart list)
     (λ rules accepted e. let a = add-accepted list rules accepted in with-part-well-formed list rules (numbers-counted list all (rules .few)) (a .0) (a .1))
@@ -194,7 +194,7 @@ taken-out-mark list position =
 
 -- a list that breaks the rules is never changed
 pub broken-stays : (c : PartChange) (list : PartList) (refusal : Refusal) → brokenRefusal list ≡ Refused refusal → apply c list ≡ changed list (numbered.Refused refusal)
-unfolding added takenOut
+unfolding partAdded takenOut
 broken-stays addPart list refusal broken = change-broken list (addRefusal list) (withPart list) refusal broken
 broken-stays (takeOut position) list refusal broken =
     change-broken list (takeOutRefusal list position) (withoutPart list position) refusal broken

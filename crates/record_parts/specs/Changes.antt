@@ -43,8 +43,8 @@ withPart list =
     changed (listOf (list .mark + 1) (numbersOf list ++ ((list .mark + 1) ∷ []))) (numbered.Number (list .mark + 1))
 
 -- add part
-unfoldable pub added : PartList → Changed
-added list = change list (addRefusal list) (withPart list)
+unfoldable pub partAdded : PartList → Changed
+partAdded list = change list (addRefusal list) (withPart list)
 
 -- 17, and then 18 for a machine's only part, which every set of it names
 abbrev pub takeOutRefusal : PartList → ℕ → Verdict

@@ -8,7 +8,7 @@ use Rattle.record_parts.specs.declared.Numbered.{Numbered}
 use Rattle.record_parts.specs.declared.Numbered.the-variants.{Number, Refused}
 use Rattle.record_numbers.specs.Numbering.{RisingWithin}
 use Rattle.record_parts.specs.PartLists.{numbersOf, WellFormed}
-use Rattle.record_parts.specs.Changes.{added, takenOut}
+use Rattle.record_parts.specs.Changes.{partAdded, takenOut}
 
 -- a change of a part list: one part more, or the part at a position taken out
 pub data PartChange : Type 0 where
@@ -17,7 +17,7 @@ pub data PartChange : Type 0 where
 
 -- what a change hands back, by the definitions that `add` and `take_out` are held to
 abbrev pub apply : PartChange → PartList → Changed
-apply addPart list = added list
+apply addPart list = partAdded list
 apply (takeOut position) list = takenOut list position
 
 -- the number in an answer, where the change was made
@@ -27,7 +27,7 @@ givenNumber (Refused refusal) = []
 
 -- the number issued in a change, and the number that left in it, if any
 abbrev pub issuedIn : PartChange → PartList → List ℕ
-issuedIn addPart list = givenNumber (added list .answer)
+issuedIn addPart list = givenNumber (partAdded list .answer)
 issuedIn (takeOut position) list = []
 
 abbrev pub leftIn : PartChange → PartList → List ℕ

@@ -4,7 +4,7 @@ ghost use Prim.Native.Nat.{_+_, _≤_};
 ghost use Rattle.answer.specs.Outcome.{at};
 ghost use Rattle.record_numbers.specs.Numbering.{topNumber, highest};
 ghost use Rattle.record_parts.specs.PartLists.{made};
-ghost use Rattle.record_parts.specs.Changes.{changed, brokenRefusal, added, takenOut};
+ghost use Rattle.record_parts.specs.Changes.{changed, brokenRefusal, partAdded, takenOut};
 use answer::Refusal;
 use answer::Verdict;
 
@@ -76,7 +76,7 @@ impl PartList {
 
     // Adds a part behind the last position, with the number after the mark, or hands the list back as it was.
     pub fn add(self) -> Changed
-        ensures { λ r. ⌜ r ≡ added self ⌝ }
+        ensures { λ r. ⌜ r ≡ partAdded self ⌝ }
     {
         let verdict = self.judged();
         if let Verdict::Refused(refusal) = verdict {

@@ -25,12 +25,12 @@ use Rattle.theory_sets.proofs.Structures.{minimalSets-same}
 use Rattle.structure.specs.Checks.{listRefusal}
 use Rattle.structure.proofs.Acceptance.{accepted-list, accepted-table, table-beyond, tableOf-accepted, list-works}
 use Rattle.structure_closure.proofs.ListedSets.{spread-listed, spread-beyond}
-use Rattle.structure.proofs.Walks.{trimmed-same, spread-same, minimal-walk}
-use Rattle.structure_closure.specs.Closure.{spread, trimmed}
+use Rattle.structure.proofs.Walks.{irredundant-same, spread-same, minimal-walk}
+use Rattle.structure_closure.specs.Closure.{spread, irredundant}
 use Rattle.structure_words.specs.Words.{inWords, wordsOf, among}
 use Rattle.structure_words.proofs.Words.{inWords-wordsOf}
 use Rattle.record_sets.specs.Lists.{withSetRefusal}
-use Rattle.record_sets.specs.Steps.{leastOf}
+use Rattle.record_sets.specs.Inside.{leastOf}
 
 -- some sets of n parts, none of them empty
 pub record SomeSets (n : ℕ) (sets : List ℕ) : Type 0 where
@@ -58,9 +58,9 @@ sets-walk n sets some =
     (λ (above : 2 ^ n ≤ a). spread-beyond n sets (λ b m. some .within b m .0) a above ∙ sym (table-beyond n table (t .long) (t .clear) a above))
     (below-or-above a (2 ^ n))
     ∙ sym (inWords-wordsOf (inTable table) a h) in
-    those-same (inWords (wordsOf (trimmed (min n 16) (inWords reached)))) (inWords (wordsOf (trimmed (min n 16) (inWords loaded)))) 65536 (λ a h.
-    inWords-wordsOf (trimmed (min n 16) (inWords reached)) a h ∙ trimmed-same (inWords reached) (inWords loaded) works (min n 16) a h
-    ∙ sym (inWords-wordsOf (trimmed (min n 16) (inWords loaded)) a h))
+    those-same (inWords (wordsOf (irredundant (min n 16) (inWords reached)))) (inWords (wordsOf (irredundant (min n 16) (inWords loaded)))) 65536 (λ a h.
+    inWords-wordsOf (irredundant (min n 16) (inWords reached)) a h ∙ irredundant-same (inWords reached) (inWords loaded) works (min n 16) a h
+    ∙ sym (inWords-wordsOf (irredundant (min n 16) (inWords loaded)) a h))
     ∙ minimal-walk n table t ∙ minimalSets-same n (inTable table) (listed sets) (list-works n sets)
   where
     semicoherent : (xs : List ℕ) → 1 ≤ length xs → ((b : ℕ) → List·Memᴰ b xs → (b < 2 ^ n) × (0 < b)) → Semicoherent n (listed xs)

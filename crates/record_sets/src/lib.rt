@@ -13,7 +13,7 @@ ghost use Rattle.structure_words.specs.Words.{wordsOf, among};
 ghost use Rattle.structure.specs.Checks.{listRefusal};
 ghost use Rattle.record_lines.specs.Changes.{lowered, setsWithout};
 ghost use Rattle.record_sets.specs.Lists.{withSetRefusal};
-ghost use Rattle.record_sets.specs.Steps.{leastOf};
+ghost use Rattle.record_sets.specs.Inside.{leastOf};
 
 // The minimal sets of a list of sets, ascending, into a lent buffer.
 pub fn minimal_of_list(n: usize, list: &[u16], sets: &mut [u16]) -> Written
@@ -62,7 +62,7 @@ pub fn lowered(set: u16, index: usize) -> u16
     if 16 <= index {
         return set;
     }
-    let unit = numbers::power(index);
+    let unit = numbers::power_of_two(index);
     let wide = set as usize;
     (wide / (2 * unit) * unit + wide % unit) as u16
 }
@@ -75,7 +75,7 @@ fn with_verdict(n: usize, list: &[u16], set: u16) -> Verdict
     if let Verdict::Refused(refusal) = verdict {
         return Verdict::Refused(refusal);
     }
-    if numbers::power(n) <= set as usize {
+    if numbers::power_of_two(n) <= set as usize {
         return answer::refused(answer::UNKNOWN_PART, 0);
     }
     if set == 0 {
@@ -99,8 +99,8 @@ fn marked_with(list: &[u16], set: u16) -> [u64; 1024]
 fn minimal_of_marks(n: usize, marks: &[u64], sets: &mut [u16]) -> Written
     ensures { λ r. ⌜ outcome r (now (sets .exit)) ≡ delivered Verdict.Accepted (leastOf n (now (marks .entry))) (now (sets .entry)) ⌝ }
 {
-    let reached = structure_closure::carried(marks, n);
-    let least = structure_closure::trimmed(&reached, n);
+    let reached = structure_closure::spread(marks, n);
+    let least = structure_closure::irredundant(&reached, n);
     structure_words::list(&least, sets)
 }
 
@@ -140,5 +140,5 @@ fn has_part(set: u16, index: usize) -> bool
     if 16 <= index {
         return false;
     }
-    set as usize / numbers::power(index) % 2 == 1
+    set as usize / numbers::power_of_two(index) % 2 == 1
 }

@@ -43,7 +43,7 @@ use Rattle.report_text.specs.Reports.{firstLine, orderLine, domLine, par
 use Rattle.report_lines.specs.Lines.{headLine, figureLine}
 use Rattle.report_figures.specs.FiguresText.{cellLine, countLine, linesBy, textBy}
 use Rattle.report_figures.proofs.Blocks.{lines-same, few-parts}
-use Rattle.report_text.specs.Steps.{tableText}
+use Rattle.report_text.specs.Inside.{tableText}
 
 -- ---- the cells of a vector in front of an array
 

@@ -1,3 +1,3 @@
 pub mod Reports
 pub mod Reporting
-pub mod Steps
+pub mod Inside

@@ -12,7 +12,7 @@ ghost use Rattle.theory_sets.specs.Tables.{inTable};
 ghost use Rattle.structure.specs.Checks.{tableRefusal};
 ghost use Rattle.report_text.specs.Reports.{reportOf};
 ghost use Rattle.report_text.specs.Reporting.{reportOutcome, handedOut, reported};
-ghost use Rattle.report_text.specs.Steps.{tableText};
+ghost use Rattle.report_text.specs.Inside.{tableText};
 
 // The report of a record and the record's table, into two lent buffers. No report is longer than 4,096 bytes.
 pub fn report(bytes: &[u8], table: &mut [u8], text: &mut [u8]) -> Written

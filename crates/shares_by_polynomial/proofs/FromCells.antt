@@ -20,11 +20,11 @@ use Rattle.theory_sets.proofs.Bools.{not-not}
 use Rattle.theory_sets.proofs.Ranges.{any-none}
 use Rattle.shares_claim.specs.Polynomials.{shareFrom}
 use Rattle.shares_claim.specs.Shares.{rowLength, inCells}
-use Rattle.shares_claim.specs.Steps.{common, powerWeight, Bounded}
+use Rattle.shares_claim.specs.Inside.{common, powerWeight, Bounded}
 use Rattle.shares_claim.proofs.Magnitudes.{natAbs-product}
 use Rattle.shares_claim.proofs.Regrouped.{powerTerm, powerSum, regrouped, powerWeight-whole, share-regrouped}
 use Rattle.shares_claim.proofs.Terms.{terms-most, limit-few}
-use Rattle.shares_by_polynomial.specs.Steps.{above, below, cellWeight}
+use Rattle.shares_by_polynomial.specs.Inside.{above, below, cellWeight}
 use Rattle.shares_claim.proofs.Sums.{grid-sum, grid-sumℕ}
 use Rattle.shares_polynomial.proofs.Coefficients.{choose-few}
 

@@ -21,13 +21,13 @@ use Rattle.answer.specs.declared.Written.the-variants.{Length, Refused}
 use Rattle.answer.proofs.Deliveries.{refused-kept, refused-by, Given, given}
 use Rattle.theory_orders.specs.Counting.{count}
 use Rattle.shares_claim.specs.Shares.{rowLength, reliabilityCells, inCells, sharesFromCells, sharesByReliability}
-use Rattle.shares_claim.specs.Steps.{Bounded}
+use Rattle.shares_claim.specs.Inside.{Bounded}
 use Rattle.shares_claim.proofs.Bounds.{cells-bounded}
 use Rattle.shares_claim.proofs.Cells.{shareFrom-same}
 use Rattle.shares_claim.specs.Refusals.{sharesRefusal}
 use Rattle.shares_claim.proofs.Claim.{cells-share, accepted-group}
 use Rattle.shares_claim.proofs.Ranges.{count-most}
-use Rattle.shares_by_polynomial.specs.Steps.{InRange, shareOfCells}
+use Rattle.shares_by_polynomial.specs.Inside.{InRange, shareOfCells}
 use Rattle.shares_polynomial.proofs.Coefficients.{cells-few, cells-length}
 
 module _ (n : ℕ) (works : ℕ → Bool) (group : ℕ) (within : group < 2 ^ n) (cells rest : List ℤ) (is : cells ≡ reliabilityCells n works group ++ rest) where

@@ -9,9 +9,9 @@ ghost use lib.ListN.{length, getD, drop};
 ghost use Rattle.theory_sets.specs.Tables.{inTable};
 ghost use Rattle.answer.specs.Outcome.{outcome, delivered};
 ghost use Rattle.shares_claim.specs.Shares.{inCells, sharesFromCells, sharesByReliability};
-ghost use Rattle.shares_claim.specs.Steps.{common as commonOf, powerWeight, Bounded};
+ghost use Rattle.shares_claim.specs.Inside.{common as commonOf, powerWeight, Bounded};
 ghost use Rattle.shares_claim.specs.Refusals.{sharesRefusal};
-ghost use Rattle.shares_by_polynomial.specs.Steps.{above as aboveZero, below as belowZero, cellWeight, InRange, shareOfCells};
+ghost use Rattle.shares_by_polynomial.specs.Inside.{above as aboveZero, below as belowZero, cellWeight, InRange, shareOfCells};
 
 // lcm(1..n) for n from 0 to 16.
 const COMMON: [u64; 17] = [

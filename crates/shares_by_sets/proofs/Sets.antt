@@ -27,9 +27,9 @@ use Rattle.structure_words.specs.Words.{inWords, wordsOf}
 use Rattle.theory_figures.proofs.Ranges.{factorials-few}
 use Rattle.shares_claim.specs.Shares.{inside, shareOf, sharesBySets}
 use Rattle.shares_claim.proofs.Types.{inside-most, inside-and-outside, outside-most}
-use Rattle.shares_group.specs.Steps.{gathered}
+use Rattle.shares_group.specs.Inside.{gathered}
 use Rattle.shares_group.proofs.Gathering.{gathered-list-few, gathered-words}
-use Rattle.shares_by_sets.specs.Steps.{weight, addedBy, takenBy}
+use Rattle.shares_by_sets.specs.Inside.{weight, addedBy, takenBy}
 
 -- ---- ranges
 

@@ -12,8 +12,8 @@ ghost use Rattle.answer.specs.Outcome.{outcome, delivered};
 ghost use Rattle.structure_words.specs.Words.{inWords};
 ghost use Rattle.shares_claim.specs.Shares.{inside, sharesBySets};
 ghost use Rattle.shares_claim.specs.Refusals.{sharesRefusal};
-ghost use Rattle.shares_group.specs.Steps.{gathered};
-ghost use Rattle.shares_by_sets.specs.Steps.{weight as weightOf, addedBy, takenBy};
+ghost use Rattle.shares_group.specs.Inside.{gathered};
+ghost use Rattle.shares_by_sets.specs.Inside.{weight as weightOf, addedBy, takenBy};
 
 // The m shares of a group, set by set, into a lent buffer.
 pub fn shares_by_sets(n: usize, table: &[u8], group: usize, shares: &mut [i64]) -> Written
@@ -63,7 +63,7 @@ fn gather(
     ensures { λ _. ⌜ now (added .exit) ≡ tabulate 17 (gathered (inWords (now (words .entry))) (inside group) (addedBy n group) (2 ^ n)) ⌝ }
     ensures { λ _. ⌜ now (taken .exit) ≡ tabulate 17 (gathered (inWords (now (words .entry))) (inside group) (takenBy n group) (2 ^ n)) ⌝ }
 {
-    let end = numbers::power(n);
+    let end = numbers::power_of_two(n);
     for a in 0..end {
         add_set(n, words, group, weights, a, added, taken);
     }

@@ -10,7 +10,7 @@ use Rattle.numbers.specs.Counts.{choose}
 use Rattle.theory_sums.specs.Sums.{sumBelowℤ}
 use Rattle.theory_sums.proofs.Integers.{ring}
 use Rattle.theory_sums.proofs.IntegerSums.{sumBelowℤ-same, sumBelowℤ-first, sumBelowℤ-reversed}
-use Rattle.theory_sums.proofs.Differences.{difference, power, difference-factor}
+use Rattle.theory_sums.proofs.Differences.{difference, monomial, difference-factor}
 use Rattle.theory_sums.proofs.Binomials.{difference-choose, difference-falls}
 use Rattle.shares_claim.specs.Polynomials.{derivative, reflected, shifted, coefficient, integral}
 use Rattle.shares_claim.proofs.Integrals.{integral-falls}
@@ -51,17 +51,17 @@ module _ (m : ℕ) (some : 1 ≤ m) (h : ℕ → ℕ → ℤ) (k j : ℕ) where
 
 -- by as many steps as a set with a parts of the group lacks: a for one that lacks k - 1 of them, and minus their number for one that lacks k
 pub chosen-difference : (m k a lacks : ℕ) → a + lacks ≡ m
-    → difference lacks (chosen m k) a ≡ pos a *ℤ power (k - 1) lacks -ℤ pos lacks *ℤ power (k - 1) (lacks - 1)
+    → difference lacks (chosen m k) a ≡ pos a *ℤ monomial (k - 1) lacks -ℤ pos lacks *ℤ monomial (k - 1) (lacks - 1)
 unfolding difference
 chosen-difference m k a zero e =
-    ap (λ (u : ℤ). pos a *ℤ u) (difference-choose m (k - 1) a zero e) ∙ unchanged (pos a *ℤ power (k - 1) 0) (power (k - 1) (0 - 1))
+    ap (λ (u : ℤ). pos a *ℤ u) (difference-choose m (k - 1) a zero e) ∙ unchanged (pos a *ℤ monomial (k - 1) 0) (monomial (k - 1) (0 - 1))
   where
     unchanged : (x y : ℤ) → x ≡ x -ℤ pos 0 *ℤ y
     unchanged x y = simp ring
 chosen-difference m k a (suc lacks) e =
     difference-factor lacks (λ i. pos (choose (m - i) (k - 1))) a
     ∙ ap₂ (λ (u v : ℤ). pos a *ℤ u -ℤ pos (suc lacks) *ℤ v) (difference-choose m (k - 1) a (suc lacks) e)
-    (difference-choose m (k - 1) (suc a) lacks (omega arith) ∙ ap (power (k - 1)) (sym (sub-one (suc lacks))))
+    (difference-choose m (k - 1) (suc a) lacks (omega arith) ∙ ap (monomial (k - 1)) (sym (sub-one (suc lacks))))
 
 -- ---- the part in z
 

@@ -24,7 +24,7 @@ use Rattle.theory_figures.specs.Figures.{sign, setDomination}
 use Rattle.theory_figures.proofs.Holding.{holds-more, holds-never, holds-last}
 use Rattle.theory_figures.proofs.Supersets.{opposite, having, having-without, having-with}
 use Rattle.shares_claim.specs.Shares.{inside, outside, reliability, reliabilityCells, inCells}
-use Rattle.shares_claim.specs.Steps.{Bounded}
+use Rattle.shares_claim.specs.Inside.{Bounded}
 use Rattle.shares_claim.proofs.Cells.{in-cells}
 use Rattle.shares_claim.proofs.Magnitudes.{natAbs-product, natAbs-sum, natAbs-sign}
 use Rattle.shares_claim.proofs.Types.{having-inside, having-outside, inside-and-outside, typeCount}

@@ -16,7 +16,7 @@ use Rattle.theory_sets.proofs.Bools.{not-not}
 use Rattle.theory_sets.proofs.Ranges.{any-none}
 use Rattle.theory_figures.proofs.Binomials.{factor-same}
 use Rattle.shares_claim.specs.Polynomials.{integral, shareFrom}
-use Rattle.shares_claim.specs.Steps.{common, powerWeight}
+use Rattle.shares_claim.specs.Inside.{common, powerWeight}
 use Rattle.shares_claim.proofs.Integrals.{integral-choose}
 use Rattle.shares_claim.proofs.Algorithm.{coefficient-powers}
 use Rattle.theory_sums.specs.Sums.{sumBelowℤ}

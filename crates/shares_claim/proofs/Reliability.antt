@@ -11,7 +11,7 @@ use Rattle.numbers.specs.Counts.{choose}
 use Rattle.theory_sums.specs.Sums.{indicator, sumBelowℤ}
 use Rattle.theory_sums.proofs.Integers.{*ℤ-unit, unit-*ℤ, ring}
 use Rattle.theory_sums.proofs.IntegerSums.{sumBelowℤ-same}
-use Rattle.theory_sums.proofs.Differences.{difference, power, expansion, power-same, power-other}
+use Rattle.theory_sums.proofs.Differences.{difference, monomial, expansion, monomial-same, monomial-other}
 use Rattle.theory_sets.specs.Masks.{size}
 use Rattle.theory_figures.specs.Figures.{sign, domination}
 use Rattle.theory_sums.proofs.IntegerSums.{sumBelowℤ-only, sumBelow-pos}
@@ -46,11 +46,11 @@ reliability-value n works group within x z =
 -- ---- counts by type
 
 -- the coefficient of one power
-sum-power : (f : ℕ → ℤ) (i k : ℕ) → i < k → sumBelowℤ (λ s. power i s *ℤ f s) k ≡ f i
-sum-power f i k l =
-    sumBelowℤ-only (λ s. power i s *ℤ f s) i k l (λ s m other.
-    ap (λ (u : ℤ). u *ℤ f s) (power-other i s (λ e. other (sym e))) ∙ zero-*ℤ (f s))
-    ∙ ap (λ (u : ℤ). u *ℤ f i) (power-same i) ∙ unit-*ℤ (f i)
+sum-monomial : (f : ℕ → ℤ) (i k : ℕ) → i < k → sumBelowℤ (λ s. monomial i s *ℤ f s) k ≡ f i
+sum-monomial f i k l =
+    sumBelowℤ-only (λ s. monomial i s *ℤ f s) i k l (λ s m other.
+    ap (λ (u : ℤ). u *ℤ f s) (monomial-other i s (λ e. other (sym e))) ∙ zero-*ℤ (f s))
+    ∙ ap (λ (u : ℤ). u *ℤ f i) (monomial-same i) ∙ unit-*ℤ (f i)
 
 typeCount-sum : (n : ℕ) (works : ℕ → Bool) (group i j : ℕ)
     → pos (typeCount n works group i j) ≡ sumOfType n group (λ a. pos (indicator (works a))) i j
@@ -69,10 +69,10 @@ pub reliability-by-type : (n : ℕ) (works : ℕ → Bool) (group : ℕ) → gro
     ≡ sumBelowℤ (λ b. sign (j - b) *ℤ pos (choose (n - size group - b) (j - b)) *ℤ domination (size group) (λ a. typeCount n works group a b) i) (suc j)
 unfolding expansion
 reliability-by-type n works group within i j few rest =
-    sym (sumBelowℤ-same _ (λ z. power j z *ℤ reliability n works group i z) (suc (n - size group)) (λ z l.
-    *ℤ-comm _ (power j z) ∙ ap (λ (u : ℤ). power j z *ℤ u) (sum-power (λ x. reliability n works group x z) i (suc (size group)) (omega arith)))
-    ∙ sum-power (reliability n works group i) j (suc (n - size group)) (omega arith))
-    ∙ sum-reliability n works group within (power i) (power j)
+    sym (sumBelowℤ-same _ (λ z. monomial j z *ℤ reliability n works group i z) (suc (n - size group)) (λ z l.
+    *ℤ-comm _ (monomial j z) ∙ ap (λ (u : ℤ). monomial j z *ℤ u) (sum-monomial (λ x. reliability n works group x z) i (suc (size group)) (omega arith)))
+    ∙ sum-monomial (reliability n works group i) j (suc (n - size group)) (omega arith))
+    ∙ sum-reliability n works group within (monomial i) (monomial j)
     ∙ sumBelowℤ-same _ _ (2 ^ n) (λ a l. *ℤ-comm (pos (indicator (works a))) (inX (inside group a) *ℤ inZ (outside group a)))
     ∙ sym (sum-types n group within inX inZ (λ a. pos (indicator (works a))))
     ∙ sumBelowℤ-same _ _ (suc (n - size group)) (λ b l. ap (λ (u : ℤ). u *ℤ inZ b)
@@ -83,7 +83,7 @@ reliability-by-type n works group within i j few rest =
   where
     -- the coefficients of x^i and of z^j that a set of a type gives
     inX : ℕ → ℤ
-    inX a = difference (size group - a) (power i) a
+    inX a = difference (size group - a) (monomial i) a
 
     inZ : ℕ → ℤ
-    inZ b = difference (n - size group - b) (power j) b
+    inZ b = difference (n - size group - b) (monomial j) b

@@ -14,7 +14,7 @@ use Rattle.numbers.specs.Counts.{factorial}
 use Rattle.theory_sums.specs.Sums.{indicator}
 use Rattle.theory_sums.proofs.Integers.{*ℤ-unit, unit-*ℤ, ring}
 use Rattle.theory_sums.proofs.IntegerSums.{sumBelowℤ-same, sumBelowℤ-add, sumBelowℤ-neg}
-use Rattle.theory_sums.proofs.Differences.{difference, power, power-same, power-other}
+use Rattle.theory_sums.proofs.Differences.{difference, monomial, monomial-same, monomial-other}
 use Rattle.theory_sets.specs.Masks.{size, meet}
 use Rattle.theory_sets.specs.Structures.{Semicoherent}
 use Rattle.theory_sets.proofs.Bools.{true-or-false}
@@ -52,9 +52,9 @@ module _ (n m k a b s : ℕ) (some : 1 ≤ k) (most : k ≤ m) (within : m ≤ n
 
   -- what is left of a coefficient x of the power that is met
   met : (x y r before after : ℕ) → x ≡ y → r ≡ k - 1 → m - k + b ≡ before → n - m - b + (k - 1) ≡ after
-      → pos x *ℤ power (k - 1) r *ℤ pos left ≡ pos (y * factorial before * factorial after)
+      → pos x *ℤ monomial (k - 1) r *ℤ pos left ≡ pos (y * factorial before * factorial after)
   met x y r before after own lacks first second =
-      ap₂ (λ (u : ℤ) (v : ℕ). pos x *ℤ u *ℤ pos v) (ap (power (k - 1)) lacks ∙ power-same (k - 1))
+      ap₂ (λ (u : ℤ) (v : ℕ). pos x *ℤ u *ℤ pos v) (ap (monomial (k - 1)) lacks ∙ monomial-same (k - 1))
       (left-last ∙ ap₂ (λ (p q : ℕ). factorial p * factorial q) first second)
       ∙ ap (λ (u : ℤ). u *ℤ pos (factorial before * factorial after)) (*ℤ-unit (pos x))
       ∙ pos-*ℤ-pos x (factorial before * factorial after)
@@ -69,29 +69,29 @@ module _ (n m k a b s : ℕ) (some : 1 ≤ k) (most : k ≤ m) (within : m ≤ n
   after-taken : a ≡ m - k → n - m - b + (k - 1) ≡ n - s - 1
   after-taken own = omega arith
 
-  weight-added : pos a *ℤ power (k - 1) (m - a) *ℤ pos left ≡ pos (cond (eqb a (m - k + 1)) ((m - k + 1) * factorial (s - 1) * factorial (n - s)) 0)
+  weight-added : pos a *ℤ monomial (k - 1) (m - a) *ℤ pos left ≡ pos (cond (eqb a (m - k + 1)) ((m - k + 1) * factorial (s - 1) * factorial (n - s)) 0)
   weight-added = cases (true-or-false (eqb a (m - k + 1)))
     where
       cases : (eqb a (m - k + 1) ≡ true) ⊎ (eqb a (m - k + 1) ≡ false)
-          → pos a *ℤ power (k - 1) (m - a) *ℤ pos left ≡ pos (cond (eqb a (m - k + 1)) ((m - k + 1) * factorial (s - 1) * factorial (n - s)) 0)
+          → pos a *ℤ monomial (k - 1) (m - a) *ℤ pos left ≡ pos (cond (eqb a (m - k + 1)) ((m - k + 1) * factorial (s - 1) * factorial (n - s)) 0)
       cases (inl t) =
           let own : a ≡ m - k + 1 = eqb-true a (m - k + 1) t in
           rw t (met a (m - k + 1) (m - a) (s - 1) (n - s) own (omega arith) (omega arith) (after-added own))
       cases (inr t) =
           let other : a ≡ m - k + 1 → ⊥ = eqb-false a (m - k + 1) t in
-          rw t (ap (λ (u : ℤ). pos a *ℤ u *ℤ pos left) (power-other (k - 1) (m - a) (λ e. other (omega arith)))
+          rw t (ap (λ (u : ℤ). pos a *ℤ u *ℤ pos left) (monomial-other (k - 1) (m - a) (λ e. other (omega arith)))
           ∙ ap (λ (u : ℤ). u *ℤ pos left) (*ℤ-zero (pos a)) ∙ zero-*ℤ (pos left))
 
-  weight-taken : pos (m - a) *ℤ power (k - 1) (m - a - 1) *ℤ pos left ≡ pos (cond (eqb a (m - k)) (k * factorial s * factorial (n - s - 1)) 0)
+  weight-taken : pos (m - a) *ℤ monomial (k - 1) (m - a - 1) *ℤ pos left ≡ pos (cond (eqb a (m - k)) (k * factorial s * factorial (n - s - 1)) 0)
   weight-taken = cases (true-or-false (eqb a (m - k)))
     where
-      none : (a ≡ m - k → ⊥) → (lacks : ℕ) → lacks ≡ m - a → pos lacks *ℤ power (k - 1) (lacks - 1) ≡ pos 0
-      none other zero e = zero-*ℤ (power (k - 1) (0 - 1))
+      none : (a ≡ m - k → ⊥) → (lacks : ℕ) → lacks ≡ m - a → pos lacks *ℤ monomial (k - 1) (lacks - 1) ≡ pos 0
+      none other zero e = zero-*ℤ (monomial (k - 1) (0 - 1))
       none other (suc lacks) e =
-          ap (λ (u : ℤ). pos (suc lacks) *ℤ u) (power-other (k - 1) (suc lacks - 1) (λ p. other (omega arith))) ∙ *ℤ-zero (pos (suc lacks))
+          ap (λ (u : ℤ). pos (suc lacks) *ℤ u) (monomial-other (k - 1) (suc lacks - 1) (λ p. other (omega arith))) ∙ *ℤ-zero (pos (suc lacks))
 
       cases : (eqb a (m - k) ≡ true) ⊎ (eqb a (m - k) ≡ false)
-          → pos (m - a) *ℤ power (k - 1) (m - a - 1) *ℤ pos left ≡ pos (cond (eqb a (m - k)) (k * factorial s * factorial (n - s - 1)) 0)
+          → pos (m - a) *ℤ monomial (k - 1) (m - a - 1) *ℤ pos left ≡ pos (cond (eqb a (m - k)) (k * factorial s * factorial (n - s - 1)) 0)
       cases (inl t) =
           let own : a ≡ m - k = eqb-true a (m - k) t in
           rw t (met (m - a) k (m - a - 1) s (n - s - 1) (omega arith) (omega arith) (omega arith) (after-taken own))
@@ -105,7 +105,7 @@ module _ (n m k a b s : ℕ) (some : 1 ≤ k) (most : k ≤ m) (within : m ≤ n
   unfolding left
   weight-of-type =
       ap₂ (λ (u v : ℤ). u *ℤ v) (chosen-difference m k a (m - a) (add-sub-of-le few)) (integral-difference n m k b some most within rest)
-      ∙ apart (pos a *ℤ power (k - 1) (m - a)) (pos (m - a) *ℤ power (k - 1) (m - a - 1)) (pos left)
+      ∙ apart (pos a *ℤ monomial (k - 1) (m - a)) (pos (m - a) *ℤ monomial (k - 1) (m - a - 1)) (pos left)
       ∙ ap₂ (λ (u v : ℤ). u -ℤ v) weight-added weight-taken
     where
       apart : (x y z : ℤ) → (x -ℤ y) *ℤ z ≡ x *ℤ z -ℤ y *ℤ z

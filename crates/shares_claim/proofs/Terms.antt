@@ -19,7 +19,7 @@ use Rattle.theory_sets.specs.Masks.{any}
 use Rattle.theory_sets.proofs.Bools.{not-not}
 use Rattle.theory_sets.proofs.Ranges.{any-none, below-or-above}
 use Rattle.theory_figures.proofs.Binomials.{factor-same, factorial-suc, choose-factorials}
-use Rattle.shares_claim.specs.Steps.{common, powerWeight, Bounded}
+use Rattle.shares_claim.specs.Inside.{common, powerWeight, Bounded}
 use Rattle.shares_claim.proofs.Magnitudes.{natAbs-product, natAbs-sum}
 use Rattle.shares_claim.proofs.Regrouped.{powerWeight-whole, powerTerm, powerSum}
 

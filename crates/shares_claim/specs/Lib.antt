@@ -2,4 +2,4 @@ pub mod Polynomials
 pub mod Shares
 pub mod Refusals
 pub mod Claim
-pub mod Steps
+pub mod Inside

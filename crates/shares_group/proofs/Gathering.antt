@@ -21,7 +21,7 @@ use Rattle.structure_words.specs.Words.{inWords, wordsOf}
 use Rattle.structure_words.proofs.Words.{inWords-wordsOf}
 use Rattle.theory_sums.specs.Sums.{sumBelow}
 use Rattle.theory_sums.proofs.Sums.{sumBelow-same}
-use Rattle.shares_group.specs.Steps.{gathered}
+use Rattle.shares_group.specs.Inside.{gathered}
 
 module _ (works : ℕ → Bool) (class amount : ℕ → ℕ) where
   -- a set that is no path set adds nothing, and a path set adds its amount to its class

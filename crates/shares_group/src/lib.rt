@@ -35,7 +35,7 @@ fn group_verdict(n: usize, table: &[u8], group: usize) -> Verdict
             if group == 0 {
                 return answer::refused(answer::EMPTY_GROUP, 0);
             }
-            if numbers::power(n) <= group {
+            if numbers::power_of_two(n) <= group {
                 return answer::refused(answer::UNKNOWN_GROUP_PART, 0);
             }
             Verdict::Accepted

@@ -14,7 +14,7 @@ use lib.ListN.{length, getD, drop}
 use lib.Pow.{pow-mono}
 use borrow.Author.Tests.{eqb-true, eq-eqb}
 use Rattle.numbers.specs.Counts.{choose}
-use Rattle.numbers.specs.Tables.{tabulate}
+use Rattle.numbers.specs.Tables.{tabulate, NoneOver}
 use Rattle.numbers.proofs.Tables.{tabulate-at, tabulate-length, tabulate-same}
 use Rattle.theory_sums.specs.Sums.{sumBelowℤ}
 use Rattle.theory_sums.proofs.Sums.{sumBelow-same}
@@ -30,9 +30,9 @@ use Rattle.shares_claim.specs.Shares.{inside, outside, rowLength, reliability, 
 use Rattle.shares_claim.proofs.Types.{typeCount, inside-most, outside-most}
 use Rattle.shares_claim.proofs.Bounds.{choose-few as choose-within}
 use Rattle.shares_claim.proofs.Reliability.{reliability-by-type}
-use Rattle.shares_group.specs.Steps.{gathered}
+use Rattle.shares_group.specs.Inside.{gathered}
 use Rattle.shares_group.proofs.Gathering.{gathered-list-few, gathered-words}
-use Rattle.shares_polynomial.specs.Steps.{Few, typeOf, typeTerm, coefficientOf}
+use Rattle.shares_polynomial.specs.Inside.{typeOf, typeTerm, coefficientOf}
 use Rattle.shares_claim.proofs.Sums.{row-below, place-below, grid-sum}
 
 -- ---- counts by type
@@ -76,7 +76,7 @@ module _ (n : ℕ) (table words : List ℕ) (group : ℕ) (few : n ≤ 16) (with
       ∙ gathered-words n table words (typeOf group) (λ a. 1) few loaded (i * 17 + j)
       ∙ gathered-type n (inTable table) group few within i j (omega arith)
 
-  pub counts-few : Few counts
+  pub counts-few : NoneOver 65536 counts
   counts-few s = omega (arith, pow-mono few, gathered-list-few (inWords words) (typeOf group) (λ a. 1) 289 1 (2 ^ n) s counts is (λ a l. le-of-eq refl))
 
   coefficient-is : (i j : ℕ) → i ≤ size group → j ≤ n - size group → coefficientOf n (size group) counts i j ≡ reliability n (inTable table) group i j
@@ -119,7 +119,7 @@ cells-length n works group = tabulate-length ((size group + 1) * rowLength n (si
 pub choose-few : (n k : ℕ) → n ≤ 16 → choose n k ≤ 65536
 choose-few n k few = le-trans (choose-within n k) (pow-mono few)
 
-pub typeTerm-few : (n m : ℕ) (counts : List ℕ) (i j b a : ℕ) → n ≤ 16 → m ≤ n → Few counts → typeTerm n m counts i j b a ≤ 2 ^ 48
+pub typeTerm-few : (n m : ℕ) (counts : List ℕ) (i j b a : ℕ) → n ≤ 16 → m ≤ n → NoneOver 65536 counts → typeTerm n m counts i j b a ≤ 2 ^ 48
 unfolding typeTerm
 typeTerm-few n m counts i j b a most within few =
     mul-le-mul (mul-le-mul (choose-few (m - a) (i - a) (omega arith)) (choose-few (n - m - b) (j - b) (omega arith))) (few (a * 17 + b))

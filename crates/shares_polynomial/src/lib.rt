@@ -4,15 +4,15 @@ ghost use mathlib.Core.Path.{_≡_};
 ghost use mathlib.Core.List.{_++_};
 ghost use Prim.Native.Nat.{_+_, _-_, _*_, _/_, _%_, _^_, _≤_, _<_};
 ghost use lib.ListN.{length, drop};
-ghost use Rattle.numbers.specs.Tables.{tabulate};
+ghost use Rattle.numbers.specs.Tables.{tabulate, NoneOver};
 ghost use Rattle.theory_sets.specs.Masks.{size as sizeOf};
 ghost use Rattle.theory_sets.specs.Tables.{inTable};
 ghost use Rattle.answer.specs.Outcome.{outcome, delivered};
 ghost use Rattle.structure_words.specs.Words.{inWords};
 ghost use Rattle.shares_claim.specs.Shares.{rowLength, reliabilityCells};
 ghost use Rattle.shares_claim.specs.Refusals.{sharesRefusal};
-ghost use Rattle.shares_group.specs.Steps.{gathered};
-ghost use Rattle.shares_polynomial.specs.Steps.{Few, typeOf, typeTerm, coefficientOf};
+ghost use Rattle.shares_group.specs.Inside.{gathered};
+ghost use Rattle.shares_polynomial.specs.Inside.{typeOf, typeTerm, coefficientOf};
 
 // The (m+1)(n-m+1) coefficients of h(x,z), where x stands for the parts in the group, into a lent buffer: that of x^i z^j in cell
 // i × (n-m+1) + j.
@@ -64,7 +64,7 @@ fn count_types(n: usize, words: &[u64], group: usize) -> [u64; 289]
     ensures { λ r. ⌜ r ≡ tabulate 289 (gathered (inWords (now (words .entry))) (typeOf group) (λ a. 1) (2 ^ n)) ⌝ }
 {
     let mut counts = [0u64; 289];
-    let end = numbers::power(n);
+    let end = numbers::power_of_two(n);
     for a in 0..end {
         add_type(words, group, a, &mut counts);
     }
@@ -90,7 +90,7 @@ fn add_type(words: &[u64], group: usize, a: usize, counts: &mut [u64])
 fn write_coefficients(n: usize, m: usize, counts: &[u64], cells: &mut [i64])
     requires { ⌜ n ≤ 16 ⌝ }
     requires { ⌜ m ≤ n ⌝ }
-    requires { ⌜ Few (now counts) ⌝ }
+    requires { ⌜ NoneOver 65536 (now counts) ⌝ }
     requires { ⌜ (m + 1) * rowLength n m ≤ length (now cells) ⌝ }
     ensures { λ _. ⌜ now (cells .exit) ≡ tabulate ((m + 1) * rowLength n m) (λ c. coefficientOf n m (now (counts .entry)) (c / rowLength n m) (c % rowLength n m)) ++ drop ((m + 1) * rowLength n m) (now (cells .entry)) ⌝ }
 {
@@ -107,7 +107,7 @@ fn coefficient(n: usize, m: usize, counts: &[u64], i: usize, j: usize) -> i64
     requires { ⌜ m ≤ n ⌝ }
     requires { ⌜ i ≤ m ⌝ }
     requires { ⌜ j ≤ n - m ⌝ }
-    requires { ⌜ Few (now counts) ⌝ }
+    requires { ⌜ NoneOver 65536 (now counts) ⌝ }
     ensures { λ r. ⌜ r ≡ coefficientOf n m (now (counts .entry)) i j ⌝ }
 {
     let mut added: u64 = 0;
@@ -134,7 +134,7 @@ fn type_term(n: usize, m: usize, counts: &[u64], i: usize, j: usize, b: usize, a
     requires { ⌜ j ≤ n - m ⌝ }
     requires { ⌜ a ≤ i ⌝ }
     requires { ⌜ b ≤ j ⌝ }
-    requires { ⌜ Few (now counts) ⌝ }
+    requires { ⌜ NoneOver 65536 (now counts) ⌝ }
     ensures { λ r. ⌜ r ≡ typeTerm n m (now (counts .entry)) i j b a ⌝ }
 {
     numbers::binomial(m - a, i - a) as u64

@@ -7,7 +7,7 @@ ghost use mathlib.Core.Path.{_≡_};
 ghost use Prim.Native.Nat.{_≤_};
 ghost use lib.ListN.{length};
 ghost use Rattle.answer.specs.Outcome.{outcome, delivered};
-ghost use Rattle.vector.specs.Held.{entriesOf, heldRefusal};
+ghost use Rattle.vector.specs.InStruct.{entriesOf, structRefusal};
 ghost use Rattle.vector_kind.specs.Kinds.{kindOf, kindRefusal};
 ghost use Rattle.vector_conversion.specs.Vectors.{vectorRefusal};
 ghost use Rattle.sheet.specs.Sheets.{coded, sheetBytes};
@@ -42,7 +42,7 @@ pub fn write_sheet_numbered(kind: u8, n: usize, entries: &[i64], buffer: &mut [u
 
 // The sheet of a vector in a struct, into a lent buffer.
 pub fn sheet_of_vector(vector: Vector, buffer: &mut [u8]) -> Written
-    ensures { λ r. ⌜ outcome r (now (buffer .exit)) ≡ delivered (heldRefusal vector) (sheetBytes (vector .kind) (vector .n) (entriesOf vector)) (now (buffer .entry)) ⌝ }
+    ensures { λ r. ⌜ outcome r (now (buffer .exit)) ≡ delivered (structRefusal vector) (sheetBytes (vector .kind) (vector .n) (entriesOf vector)) (now (buffer .entry)) ⌝ }
 {
     let verdict = vector.judge();
     match verdict {

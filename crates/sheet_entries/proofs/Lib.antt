@@ -1,1 +1,1 @@
-mod Receiving
+mod Delivering

@@ -10,25 +10,25 @@ use Rattle.answer.specs.declared.Refusal.{Refusal}
 use Rattle.answer.specs.declared.Written.the-variants as written
 use Rattle.vector_kind.specs.declared.Kind.the-variants.{PathCounts}
 use Rattle.sheet.specs.Sheets.{Sheet, Given, Refused}
-use Rattle.sheet_entries.specs.declared.Received.{Received}
+use Rattle.sheet_entries.specs.declared.EntriesRead.{EntriesRead}
 
 -- what reading into a lent buffer leaves behind: its answer, and the buffer afterwards
-pub record ReceivedOutcome : Type 0 where
-  pub answer : Received
+pub record EntriesOutcome : Type 0 where
+  pub answer : EntriesRead
   pub cells : List ℤ
 
-abbrev pub receivedOutcome : Received → List ℤ → ReceivedOutcome
-receivedOutcome answer cells = record { answer = answer; cells = cells }
+abbrev pub entriesOutcome : EntriesRead → List ℤ → EntriesOutcome
+entriesOutcome answer cells = record { answer = answer; cells = cells }
 
 -- a refused sheet has path counts as its kind and n = 0, and leaves the buffer as it was
-abbrev pub notReceived : Refusal → List ℤ → ReceivedOutcome
-notReceived r cells = receivedOutcome (record { kind = PathCounts; n = 0; answer = written.Refused r }) cells
+abbrev pub entriesRefused : Refusal → List ℤ → EntriesOutcome
+entriesRefused r cells = entriesOutcome (record { kind = PathCounts; n = 0; answer = written.Refused r }) cells
 
 -- A sheet's entries for a lent buffer. Long enough: the entries in front, the rest as it was, and their number as the length. Short: 11 with
 -- the length needed.
-abbrev pub received : Sheet → List ℤ → ReceivedOutcome
-received (Refused r) cells = notReceived r cells
-received (Given kind n entries) cells =
+abbrev pub entriesDelivered : Sheet → List ℤ → EntriesOutcome
+entriesDelivered (Refused r) cells = entriesRefused r cells
+entriesDelivered (Given kind n entries) cells =
     cond (leb (length entries) (length cells))
-    (receivedOutcome (record { kind = kind; n = n; answer = written.Length (length entries) }) (entries ++ drop (length entries) cells))
-    (notReceived (at shortBuffer (length entries)) cells)
+    (entriesOutcome (record { kind = kind; n = n; answer = written.Length (length entries) }) (entries ++ drop (length entries) cells))
+    (entriesRefused (at shortBuffer (length entries)) cells)

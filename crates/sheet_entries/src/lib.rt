@@ -8,33 +8,33 @@ ghost use Prim.Native.Nat.{_≤_};
 ghost use lib.ListN.{length, drop};
 ghost use Rattle.answer.specs.Outcome.{at};
 ghost use Rattle.sheet.specs.Sheets.{sheetOf};
-ghost use Rattle.sheet_entries.specs.Answers.{receivedOutcome, received};
+ghost use Rattle.sheet_entries.specs.Answers.{entriesOutcome, entriesDelivered};
 
 // What reading a sheet into a lent buffer answers: its kind, n and the number of its entries; of a refused sheet path counts and 0.
-pub struct Received {
+pub struct EntriesRead {
     pub kind: Kind,
     pub n: usize,
     pub answer: Written,
 }
 
 // The entries of a sheet, into a lent buffer.
-pub fn read_sheet(bytes: &[u8], cells: &mut [i64]) -> Received
-    ensures { λ r. ⌜ receivedOutcome r (now (cells .exit)) ≡ received (sheetOf (now (bytes .entry))) (now (cells .entry)) ⌝ }
+pub fn read_sheet(bytes: &[u8], cells: &mut [i64]) -> EntriesRead
+    ensures { λ r. ⌜ entriesOutcome r (now (cells .exit)) ≡ entriesDelivered (sheetOf (now (bytes .entry))) (now (cells .entry)) ⌝ }
 {
     let read = sheet_reading::vector_of_sheet(bytes);
     let verdict = read.verdict;
     match verdict {
-        Verdict::Refused(refusal) => not_received(refusal.number, refusal.place),
+        Verdict::Refused(refusal) => entries_refused(refusal.number, refusal.place),
         Verdict::Accepted => {
             let vector = read.vector;
             let length = vector.length;
             if cells.len() < length {
-                return not_received(answer::SHORT_BUFFER, length);
+                return entries_refused(answer::SHORT_BUFFER, length);
             }
             let entries = vector.entries;
             copy(&entries[..length], cells);
             let kind = vector.kind;
-            Received {
+            EntriesRead {
                 kind,
                 n: vector.n,
                 answer: Written::Length(length),
@@ -44,10 +44,10 @@ pub fn read_sheet(bytes: &[u8], cells: &mut [i64]) -> Received
 }
 
 // A sheet that is not received.
-fn not_received(number: u8, place: usize) -> Received
+fn entries_refused(number: u8, place: usize) -> EntriesRead
     ensures { λ r. ⌜ r ≡ record { kind = Kind.PathCounts; n = 0; answer = Written.Refused (at number place) } ⌝ }
 {
-    Received {
+    EntriesRead {
         kind: Kind::PathCounts,
         n: 0,
         answer: answer::unwritten(number, place),

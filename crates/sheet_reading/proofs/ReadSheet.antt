@@ -29,7 +29,7 @@ use Rattle.vector_conversion.proofs.Acceptance.{AcceptedVector, accepted-vector
 use Rattle.vector_kind.proofs.KindNumbers.{kind-back, kind-is-one}
 use Rattle.sheet.proofs.Codes.{kind-few}
 use Rattle.sheet_reading.proofs.Bounds.{Fitting, accepted-fitting}
-use Rattle.sheet_reading.specs.Steps.{ended, entered, numbered, kinded}
+use Rattle.sheet_reading.specs.Inside.{ended, entered, numbered, kinded}
 use Rattle.sheet.specs.Sheets.{coded, decoded, entryBytes, sheetBytes, Sheet, Given, refuse, afterNumber, afterEntries, judged, sheetOf}
 
 -- ---- the steps of a sheet's reading

@@ -6,7 +6,7 @@ use lib.IntN.{pos}
 use lib.ListN.{length, replicate, length-append}
 use Rattle.answer.specs.declared.Refusal.{Refusal}
 use Rattle.answer.specs.declared.Verdict.the-variants as verdict
-use Rattle.vector.specs.Held.{mostEntries, entryCells, entriesOf}
+use Rattle.vector.specs.InStruct.{mostEntries, entryCells, entriesOf}
 use Rattle.sheet_reading.specs.Answers.{sheetRead}
 use Rattle.sheet.specs.Sheets.{Sheet, Given, Refused}
 use Rattle.sheet_reading.specs.declared.SheetRead.{SheetRead}

@@ -12,7 +12,7 @@ use Rattle.answer.specs.declared.Verdict.{Verdict}
 use Rattle.answer.specs.declared.Verdict.the-variants.{Accepted}
 use Rattle.codec.proofs.WriteAfterRead.{Bytes}
 use Rattle.structure.specs.Checks.{partsRefusal}
-use Rattle.vector.specs.Held.{vectorHolding, entriesOf, heldRefusal}
+use Rattle.vector.specs.InStruct.{vectorHolding, entriesOf, structRefusal}
 use Rattle.vector_kind.specs.Kinds.{lengthOf}
 use Rattle.vector_conversion.specs.Vectors.{countsRefusal, vectorRefusal}
 use Rattle.vector_kind.specs.declared.Kind.{Kind}
@@ -29,15 +29,15 @@ pub written-read : (kind : Kind) (n : ℕ) (entries : List ℤ) → vectorRefusa
 written-read kind n entries accepted = ap sheetRead (sheet-read kind n entries accepted)
 
 -- a struct whose length is that of its entries is judged as they are
-held-entries : (vector : Vector) → length (entriesOf vector) ≡ vector .length → heldRefusal vector ≡ vectorRefusal (vector .kind) (vector .n) (entriesOf vector)
-unfolding heldRefusal vectorRefusal
+held-entries : (vector : Vector) → length (entriesOf vector) ≡ vector .length → structRefusal vector ≡ vectorRefusal (vector .kind) (vector .n) (entriesOf vector)
+unfolding structRefusal vectorRefusal
 held-entries vector counted =
     ap (λ (k : ℕ). partsRefusal (vector .n) (refuse (not (eqb k (lengthOf (vector .kind) (vector .n)))) wrongVectorLength 0 (countsRefusal (vector .kind) (vector .n) (entriesOf vector))))
     (sym counted)
 
 -- and what is read is written back as the very bytes that it was read from
 pub read-written : (bytes buffer : List ℕ) → Bytes bytes → sheetRead (sheetOf bytes) .verdict ≡ Accepted
-    → delivered (heldRefusal (sheetRead (sheetOf bytes) .vector))
+    → delivered (structRefusal (sheetRead (sheetOf bytes) .vector))
     (sheetBytes (sheetRead (sheetOf bytes) .vector .kind) (sheetRead (sheetOf bytes) .vector .n) (entriesOf (sheetRead (sheetOf bytes) .vector))) buffer
     ≡ delivered Accepted bytes buffer
 read-written bytes buffer narrow accepted =

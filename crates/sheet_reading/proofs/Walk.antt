@@ -22,12 +22,12 @@ use Rattle.codec.specs.Reading.{numberAt}
 use Rattle.codec.specs.declared.Field.the-variants as field
 use Rattle.codec.specs.declared.Reading.{Reading}
 use Rattle.codec.specs.declared.Reading.the-variants as reading
-use Rattle.vector.specs.Held.{mostEntries, entryCells}
+use Rattle.vector.specs.InStruct.{mostEntries, entryCells}
 use Rattle.vector_kind.specs.Kinds.{lengthOf}
 use Rattle.vector_conversion.specs.Vectors.{countsRefusal, vectorRefusal}
 use Rattle.vector_kind.specs.declared.Kind.{Kind}
 use Rattle.sheet.specs.Sheets.{decoded, Sheet, Given, Refused, refuse, afterNumber, afterEntries, judged}
-use Rattle.sheet_reading.specs.Steps.{ended}
+use Rattle.sheet_reading.specs.Inside.{ended}
 
 pub record EntriesWalk (bytes : List ℕ) (kind : Kind) (count start : ℕ) (later : List ℤ → ℕ → Sheet) (cells : List ℤ) (next index : ℕ) : Type 0 where
   pub earlier : List ℤ

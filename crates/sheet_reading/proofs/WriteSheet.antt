@@ -24,7 +24,7 @@ use Rattle.vector_conversion.specs.Vectors.{countsRefusal, vectorRefusal}
 use Rattle.vector_kind.specs.declared.Kind.{Kind}
 use Rattle.sheet.specs.Sheets.{coded, decoded, entryBytes, sheetBytes, Sheet, Given, Refused, refuse, afterNumber, afterEntries, judged, sheetOf}
 use Rattle.sheet.proofs.Codes.{number-back, coded-decoded}
-use Rattle.sheet_reading.specs.Steps.{ended, numbered, kinded}
+use Rattle.sheet_reading.specs.Inside.{ended, numbered, kinded}
 use Rattle.sheet_reading.proofs.ReadSheet.{sheet-steps}
 
 -- ---- what a given sheet has passed

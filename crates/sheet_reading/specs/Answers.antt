@@ -1,6 +1,6 @@
 -- What reading a sheet answers (01, "Records on disk"): a vector in a struct.
 use Rattle.answer.specs.declared.Verdict.the-variants as verdict
-use Rattle.vector.specs.Held.{vectorHolding, noVector}
+use Rattle.vector.specs.InStruct.{vectorHolding, noVector}
 use Rattle.sheet.specs.Sheets.{Sheet, Given, Refused}
 use Rattle.sheet_reading.specs.declared.SheetRead.{SheetRead}
 

@@ -12,11 +12,11 @@ ghost use Rattle.answer.specs.Outcome.{at, refuse, andThen};
 ghost use Rattle.answer.specs.Refusals.{bytesLeft};
 ghost use Rattle.codec.specs.Fields.{top};
 ghost use Rattle.codec.specs.Reading.{numberAt};
-ghost use Rattle.vector.specs.Held.{entryCells, entriesOf};
+ghost use Rattle.vector.specs.InStruct.{entryCells, entriesOf};
 ghost use Rattle.vector_conversion.specs.Vectors.{vectorRefusal, countsRefusal};
 ghost use Rattle.sheet.specs.Sheets.{decoded, Refused, sheetOf, afterNumber};
 ghost use Rattle.sheet_reading.specs.Answers.{sheetRead};
-ghost use Rattle.sheet_reading.specs.Steps.{ended, entered, numbered};
+ghost use Rattle.sheet_reading.specs.Inside.{ended, entered, numbered};
 
 // What reading a sheet finds: its vector, or why there is none, and then a vector of no entries.
 pub struct SheetRead {

@@ -26,7 +26,7 @@ use Rattle.theory_sets.specs.Tables.{packed, inTable, tableOf, tableLength}
 use Rattle.theory_sets.proofs.Bools.{and-left, and-right, and-both, clash}
 use Rattle.theory_sets.proofs.Lists.{Covers, listed-same, listed-semicoherent, minimal-listed, listed-minimal}
 use Rattle.theory_sets.proofs.Ranges.{any-false, any-none, any-same, those-elim, those-intro, below-or-above}
-use Rattle.theory_sets.proofs.Structures.{upward-steps, steps-upward, unbroken-steps, steps-unbroken, minimal-works, minimal-below, semicoherent-same, minimalSets-same}
+use Rattle.theory_sets.proofs.Structures.{upward-by-parts, by-parts-upward, unbroken-by-parts, by-parts-unbroken, minimal-works, minimal-below, semicoherent-same, minimalSets-same}
 use Rattle.theory_sets.proofs.Tables.{packed-unique, inTable-at, inTable-beyond, tableOf-length, tableOf-at, tableOf-works, tableLength-small, tableLength-large}
 use Rattle.numbers.proofs.Tables.{tabulate-unique}
 use Rattle.structure.specs.Checks.{entriesRefusal, listRefusal, unused, tableRefusal}
@@ -65,7 +65,7 @@ accepted-table n table h =
       long = eqb-true (length table) (tableLength n) (not-false (eqb (length table) (tableLength n)) (c6 .0));
       clear = c7 .0;
       semicoherent = record {
-        upward = steps-upward n (inTable table) (unbroken-steps n (inTable table) (c10 .0));
+        upward = by-parts-upward n (inTable table) (unbroken-by-parts n (inTable table) (c10 .0));
         empty = c8 .0;
         full = not-false (inTable table (2 ^ n - 1)) (c9 .0);
       };
@@ -81,7 +81,7 @@ table-accepted n table t =
     ∙ refuse-passed _ emptySetWorks 0 _ (sc .empty)
     ∙ refuse-passed _ fullSetFails 0 _ (ap not (sc .full))
     ∙ refuse-passed _ brokenSet (least (broken n (inTable table)) (2 ^ n)) Accepted
-    (steps-unbroken n (inTable table) (upward-steps n (inTable table) (sc .upward)))
+    (by-parts-unbroken n (inTable table) (upward-by-parts n (inTable table) (sc .upward)))
 
 -- the unused bits are those of the first byte
 pub unused-first : (n : ℕ) (table : List ℕ) → unused n table ≡ any (λ a. leb (2 ^ n) a && has (getD table 0 0) a) 8

@@ -21,10 +21,10 @@ use Rattle.theory_sets.proofs.Masks.{add-below}
 use Rattle.theory_sets.proofs.Ranges.{any-same, those-same, those-skip, those-empty, least-some, below-or-above}
 use Rattle.theory_sets.proofs.Tables.{packed-same, tableLength-small, tableLength-large}
 use Rattle.structure_words.specs.Words.{inWords, wordsOf, among}
-use Rattle.structure_closure.specs.Closure.{without, spread, trimmed}
+use Rattle.structure_closure.specs.Closure.{without, spread, irredundant}
 use Rattle.structure_words.proofs.Words.{inWords-wordsOf}
 use Rattle.structure_closure.proofs.ListedSets.{spread-listed, spread-beyond}
-use Rattle.structure_closure.proofs.MinimalSets.{trimmed-minimal}
+use Rattle.structure_closure.proofs.MinimalSets.{irredundant-minimal}
 use Rattle.structure.proofs.Acceptance.{AcceptedTable, AcceptedList, table-beyond}
 
 -- ---- set functions that agree on the masks of 16 parts
@@ -33,9 +33,9 @@ module _ (f g : ℕ → Bool) (same : (a : ℕ) → a < 65536 → f a ≡ g a) w
   without-same : (part a : ℕ) → a < 65536 → without part f a ≡ without part g a
   without-same part a h = ap (λ (p : Bool). has a part && p) (same (a - 2 ^ part) (lt-of-le-of-lt (sub-le a (2 ^ part)) h))
 
-  pub trimmed-same : (n a : ℕ) → a < 65536 → trimmed n f a ≡ trimmed n g a
-  unfolding trimmed
-  trimmed-same n a h =
+  pub irredundant-same : (n a : ℕ) → a < 65536 → irredundant n f a ≡ irredundant n g a
+  unfolding irredundant
+  irredundant-same n a h =
       ap₂ (λ (p q : Bool). p && not q) (same a h)
       (any-same (λ part. without part f a) (λ part. without part g a) n (λ part l. without-same part a h))
 
@@ -106,20 +106,20 @@ module _ (n : ℕ) (table : List ℕ) (few : n ≤ 16) (beyond : (a : ℕ) → 2
           absurd (omega (arith, e ∙ first-walk ∙ first .0, first .1))
       cases (inr none) = none
 
-trimmed-beyond : (n : ℕ) (works : ℕ → Bool) (a : ℕ) → works a ≡ false → trimmed n works a ≡ false
-unfolding trimmed
-trimmed-beyond n works a h = rw h
+irredundant-beyond : (n : ℕ) (works : ℕ → Bool) (a : ℕ) → works a ≡ false → irredundant n works a ≡ false
+unfolding irredundant
+irredundant-beyond n works a h = rw h
 
 pub minimal-walk : (n : ℕ) (table : List ℕ) → AcceptedTable n table
-    → those (inWords (wordsOf (trimmed (min n 16) (inWords (wordsOf (inTable table)))))) 65536 ≡ minimalSets n (inTable table)
+    → those (inWords (wordsOf (irredundant (min n 16) (inWords (wordsOf (inTable table)))))) 65536 ≡ minimalSets n (inTable table)
 minimal-walk n table t =
     let works = inTable table in
     let few = t .few in
-    ap (λ (k : ℕ). those (inWords (wordsOf (trimmed k (inWords (wordsOf works))))) 65536) (min-eq-left few)
-    ∙ those-same (inWords (wordsOf (trimmed n (inWords (wordsOf works))))) (trimmed n works) 65536 (λ a h.
-    inWords-wordsOf (trimmed n (inWords (wordsOf works))) a h ∙ trimmed-same (inWords (wordsOf works)) works (inWords-wordsOf works) n a h)
-    ∙ those-near n (trimmed n works) few (λ a h. trimmed-beyond n works a (table-beyond n table (t .long) (t .clear) a h))
-    ∙ those-same (trimmed n works) (minimal n works) (2 ^ n) (trimmed-minimal n works (t .semicoherent))
+    ap (λ (k : ℕ). those (inWords (wordsOf (irredundant k (inWords (wordsOf works))))) 65536) (min-eq-left few)
+    ∙ those-same (inWords (wordsOf (irredundant n (inWords (wordsOf works))))) (irredundant n works) 65536 (λ a h.
+    inWords-wordsOf (irredundant n (inWords (wordsOf works))) a h ∙ irredundant-same (inWords (wordsOf works)) works (inWords-wordsOf works) n a h)
+    ∙ those-near n (irredundant n works) few (λ a h. irredundant-beyond n works a (table-beyond n table (t .long) (t .clear) a h))
+    ∙ those-same (irredundant n works) (minimal n works) (2 ^ n) (irredundant-minimal n works (t .semicoherent))
 
 -- ---- the bytes of a list's table
 

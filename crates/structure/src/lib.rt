@@ -48,7 +48,11 @@ pub fn table_length(n: usize) -> usize
     if 16 < n {
         return 0;
     }
-    if n < 3 { 1 } else { numbers::power(n - 3) }
+    if n < 3 {
+        1
+    } else {
+        numbers::power_of_two(n - 3)
+    }
 }
 
 // The verdict on a table's bits.
@@ -61,7 +65,7 @@ fn structure_verdict(n: usize, table: &[u8]) -> Verdict
     if structure_words::works(&loaded, 0) {
         return answer::refused(answer::EMPTY_SET_WORKS, 0);
     }
-    if !structure_words::works(&loaded, numbers::power(n) - 1) {
+    if !structure_words::works(&loaded, numbers::power_of_two(n) - 1) {
         return answer::refused(answer::FULL_SET_FAILS, 0);
     }
     let place = structure_closure::first_broken(&loaded, n);
@@ -78,7 +82,7 @@ fn entries_verdict(n: usize, list: &[u16]) -> Verdict
 {
     for i in 0..list.len() {
         let mask = list[i] as usize;
-        if numbers::power(n) <= mask {
+        if numbers::power_of_two(n) <= mask {
             return answer::refused(answer::UNKNOWN_PART, i);
         }
         if mask == 0 {

@@ -14,21 +14,21 @@ use Rattle.theory_sets.proofs.Bools.{and-left, and-right, and-both, clash, same
 use Rattle.theory_sets.proofs.Masks.{has-le, holds-sub, holds-without, lacking}
 use Rattle.theory_sets.proofs.Ranges.{any-intro, any-false}
 use Rattle.theory_sets.proofs.Structures.{minimal-works, minimal-least, minimal-intro}
-use Rattle.structure_closure.specs.Closure.{spare, trimmed}
+use Rattle.structure_closure.specs.Closure.{spare, irredundant}
 
 module _ (n : ℕ) (works : ℕ → Bool) where
-  trimmed-works : (a : ℕ) → trimmed n works a ≡ true → works a ≡ true
-  unfolding trimmed
-  trimmed-works a h = and-left (works a) (not (spare n works a)) h
+  irredundant-works : (a : ℕ) → irredundant n works a ≡ true → works a ≡ true
+  unfolding irredundant
+  irredundant-works a h = and-left (works a) (not (spare n works a)) h
 
-  pub trimmed-minimal : Semicoherent n works → (a : ℕ) → a < 2 ^ n → trimmed n works a ≡ minimal n works a
-  unfolding trimmed
-  trimmed-minimal sc a ha = same-test (trimmed n works a) (minimal n works a) there back
+  pub irredundant-minimal : Semicoherent n works → (a : ℕ) → a < 2 ^ n → irredundant n works a ≡ minimal n works a
+  unfolding irredundant
+  irredundant-minimal sc a ha = same-test (irredundant n works a) (minimal n works a) there back
     where
-      there : trimmed n works a ≡ true → minimal n works a ≡ true
+      there : irredundant n works a ≡ true → minimal n works a ≡ true
       there t =
           let none : spare n works a ≡ false = not-true (spare n works a) (and-right (works a) (not (spare n works a)) t) in
-          minimal-intro n works a (trimmed-works a t) (λ b hb w within. equal none b hb w within)
+          minimal-intro n works a (irredundant-works a t) (λ b hb w within. equal none b hb w within)
         where
           equal : spare n works a ≡ false → (b : ℕ) → b < 2 ^ n → works b ≡ true → holds a b ≡ true → a ≡ b
           equal none b hb w within = cases (ℕ-discrete a b)
@@ -42,7 +42,7 @@ module _ (n : ℕ) (works : ℕ → Bool) where
                   let still : works (a - 2 ^ i) ≡ true = sc .upward b (a - 2 ^ i) hb less (holds-without a b i within (part .2) (part .3)) w in
                   clash (any-intro (λ i. has a i && works (a - 2 ^ i)) n i (part .1) (and-both (part .2) still)) none
 
-      back : minimal n works a ≡ true → trimmed n works a ≡ true
+      back : minimal n works a ≡ true → irredundant n works a ≡ true
       back m =
           and-both (minimal-works n works a m) (ap not (any-false (λ i. has a i && works (a - 2 ^ i)) n (λ i hi t.
           let part : has a i ≡ true = and-left (has a i) (works (a - 2 ^ i)) t in

@@ -19,7 +19,7 @@ use Rattle.theory_sets.proofs.Ranges.{below-or-above}
 use Rattle.theory_sets.proofs.Tables.{has-packed, packed-below}
 use Rattle.structure_words.specs.Words.{inWords, wordOf}
 use Rattle.structure_closure.specs.Closure.{without}
-use Rattle.structure_closure.specs.Steps.{with}
+use Rattle.structure_closure.specs.Inside.{with}
 use Rattle.structure_words.proofs.Bits.{has-shl, has-shl-below, has-complement}
 use Rattle.structure_words.proofs.Words.{inWords-at, wordOf-unique, wordOf-not, wordOf-same}
 

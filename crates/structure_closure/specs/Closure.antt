@@ -17,5 +17,5 @@ spread zero works a = works a
 spread (suc n) works a = spread n works a || without n (spread n works) a
 
 -- a path set that is none without any single one of its first n parts
-unfoldable pub trimmed : ℕ → (ℕ → Bool) → ℕ → Bool
-trimmed n works a = works a && not (spare n works a)
+unfoldable pub irredundant : ℕ → (ℕ → Bool) → ℕ → Bool
+irredundant n works a = works a && not (spare n works a)

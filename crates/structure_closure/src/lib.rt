@@ -7,28 +7,28 @@ ghost use Rattle.theory_sets.specs.Masks.{has, least};
 ghost use Rattle.theory_sets.specs.Structures.{broken};
 ghost use Rattle.theory_sets.specs.Tables.{packed};
 ghost use Rattle.structure_words.specs.Words.{inWords, wordOf, wordsOf};
-ghost use Rattle.structure_closure.specs.Closure.{without as withoutPart, spare, spread, trimmed as trimmedSet};
-ghost use Rattle.structure_closure.specs.Steps.{with as withPart, lost as lostSet};
+ghost use Rattle.structure_closure.specs.Closure.{without as withoutPart, spare as spareSet, spread as spreadSet, irredundant as irredundantSet};
+ghost use Rattle.structure_closure.specs.Inside.{with as withPart, failingAbove as failingAboveSet};
 
 // The sets that work without some of the first parts, at most 16 of these.
-pub fn carried(words: &[u64], parts: usize) -> [u64; 1024]
-    ensures { λ r. ⌜ r ≡ wordsOf (spread (min parts 16) (inWords (now (words .entry)))) ⌝ }
+pub fn spread(words: &[u64], parts: usize) -> [u64; 1024]
+    ensures { λ r. ⌜ r ≡ wordsOf (spreadSet (min parts 16) (inWords (now (words .entry)))) ⌝ }
 {
     let mut next = copied(words);
     let end = at_most_16(parts);
     for part in 0..end {
-        next = carried_over(&next, part);
+        next = spread_over(&next, part);
     }
     next
 }
 
 // The path sets that are none without any single one of the first parts, at most 16 of these.
-pub fn trimmed(words: &[u64], parts: usize) -> [u64; 1024]
-    ensures { λ r. ⌜ r ≡ wordsOf (trimmedSet (min parts 16) (inWords (now (words .entry)))) ⌝ }
+pub fn irredundant(words: &[u64], parts: usize) -> [u64; 1024]
+    ensures { λ r. ⌜ r ≡ wordsOf (irredundantSet (min parts 16) (inWords (now (words .entry)))) ⌝ }
 {
     let mut next = [0u64; 1024];
     for at in 0..1024 {
-        next[at] = numbers::cell(words, at) & !spared(words, at, parts);
+        next[at] = numbers::cell(words, at) & !spare(words, at, parts);
     }
     next
 }
@@ -38,7 +38,7 @@ pub fn first_broken(words: &[u64], parts: usize) -> usize
     ensures { λ r. ⌜ r ≡ least (broken (min parts 16) (inWords (now (words .entry)))) 65536 ⌝ }
 {
     for at in 0..1024 {
-        let bad = numbers::cell(words, at) & lost(words, at, parts);
+        let bad = numbers::cell(words, at) & failing_above(words, at, parts);
         if bad != 0 {
             return 64 * at + structure_words::lowest(bad);
         }
@@ -67,11 +67,11 @@ fn without(words: &[u64], at: usize, part: usize) -> u64
     ensures { λ r. ⌜ r ≡ wordOf (withoutPart part (inWords (now (words .entry)))) at ⌝ }
 {
     if part < 6 {
-        return (numbers::cell(words, at) & lacking(part)) << numbers::power(part);
+        return (numbers::cell(words, at) & lacking(part)) << numbers::power_of_two(part);
     }
     let high = part - 6;
     if (at >> high) % 2 == 1 {
-        numbers::cell(words, at - numbers::power(high))
+        numbers::cell(words, at - numbers::power_of_two(high))
     } else {
         0
     }
@@ -84,18 +84,18 @@ fn with(words: &[u64], at: usize, part: usize) -> u64
     ensures { λ r. ⌜ r ≡ wordOf (withPart part (inWords (now (words .entry)))) at ⌝ }
 {
     if part < 6 {
-        return (numbers::cell(words, at) >> numbers::power(part)) | !lacking(part);
+        return (numbers::cell(words, at) >> numbers::power_of_two(part)) | !lacking(part);
     }
     let high = part - 6;
     if (at >> high) % 2 == 1 {
         0xFFFF_FFFF_FFFF_FFFF
     } else {
-        numbers::cell(words, at + numbers::power(high))
+        numbers::cell(words, at + numbers::power_of_two(high))
     }
 }
 
 // Word `at` of the sets that work, or have the part and work without it.
-fn carried_over(words: &[u64], part: usize) -> [u64; 1024]
+fn spread_over(words: &[u64], part: usize) -> [u64; 1024]
     requires { ⌜ part < 16 ⌝ }
     ensures { λ r. ⌜ r ≡ wordsOf (λ a. inWords (now (words .entry)) a || withoutPart part (inWords (now (words .entry))) a) ⌝ }
 {
@@ -118,8 +118,8 @@ fn copied(words: &[u64]) -> [u64; 1024]
 }
 
 // Word `at` of the sets that work without some single one of the first parts that they have.
-fn spared(words: &[u64], at: usize, parts: usize) -> u64
-    ensures { λ r. ⌜ r ≡ wordOf (spare (min parts 16) (inWords (now (words .entry)))) at ⌝ }
+fn spare(words: &[u64], at: usize, parts: usize) -> u64
+    ensures { λ r. ⌜ r ≡ wordOf (spareSet (min parts 16) (inWords (now (words .entry)))) at ⌝ }
 {
     let mut some: u64 = 0;
     let end = at_most_16(parts);
@@ -130,9 +130,9 @@ fn spared(words: &[u64], at: usize, parts: usize) -> u64
 }
 
 // Word `at` of the sets that some single one of the first parts leads to a set that does not work.
-fn lost(words: &[u64], at: usize, parts: usize) -> u64
+fn failing_above(words: &[u64], at: usize, parts: usize) -> u64
     requires { ⌜ at < 1024 ⌝ }
-    ensures { λ r. ⌜ r ≡ wordOf (lostSet (min parts 16) (inWords (now (words .entry)))) at ⌝ }
+    ensures { λ r. ⌜ r ≡ wordOf (failingAboveSet (min parts 16) (inWords (now (words .entry)))) at ⌝ }
 {
     let mut some: u64 = 0;
     let end = at_most_16(parts);

@@ -20,7 +20,7 @@ pub fn table_of_list(n: usize, list: &[u16], table: &mut [u8]) -> Written
                 return answer::short(needed);
             }
             let listed = structure_words::marked(list);
-            let reached = structure_closure::carried(&listed, n);
+            let reached = structure_closure::spread(&listed, n);
             structure_words::store(&reached, &mut table[..needed]);
             Written::Length(needed)
         }
@@ -36,7 +36,7 @@ pub fn minimal_sets(n: usize, table: &[u8], sets: &mut [u16]) -> Written
         Verdict::Refused(refusal) => Written::Refused(refusal),
         Verdict::Accepted => {
             let loaded = structure_words::load(table);
-            let minimal = structure_closure::trimmed(&loaded, n);
+            let minimal = structure_closure::irredundant(&loaded, n);
             structure_words::list(&minimal, sets)
         }
     }

@@ -13,8 +13,8 @@ use Rattle.theory_sums.specs.Sums.{indicator, sumBelow, sumBelowℤ}
 use Rattle.theory_sums.proofs.Sums.{sumBelow-same, sumBelow-zero}
 use Rattle.theory_sums.proofs.Integers.{*ℤ-unit, unit-*ℤ, ring}
 use Rattle.theory_sums.proofs.IntegerSums.{sumBelowℤ-same, sumBelowℤ-mul, sumBelowℤ-exchange}
-use Rattle.theory_sums.proofs.Differences.{difference, power, expansion, power-same, power-other, sum-expansion}
-use Rattle.theory_sums.proofs.Binomials.{difference-below, difference-power, difference-choose}
+use Rattle.theory_sums.proofs.Differences.{difference, monomial, expansion, monomial-same, monomial-other, sum-expansion}
+use Rattle.theory_sums.proofs.Binomials.{difference-below, difference-monomial, difference-choose}
 use Rattle.theory_sets.specs.Masks.{has, size, holds}
 use Rattle.theory_orders.specs.Formulas.{pathCount}
 use Rattle.theory_orders.proofs.Orders.{eqb-comm}
@@ -32,11 +32,11 @@ pub expansion-terms : (n : ℕ) (u : ℕ → ℤ) (k : ℕ) → k ≤ n
     → sumBelowℤ (λ a. sign (k - a) *ℤ pos (choose (n - a) (k - a)) *ℤ u a) (suc k) ≡ expansion n u k
 unfolding expansion
 expansion-terms n u k h =
-    sumBelowℤ-same _ (λ a. u a *ℤ difference (n - a) (power k) a) (suc k) (λ a l.
+    sumBelowℤ-same _ (λ a. u a *ℤ difference (n - a) (monomial k) a) (suc k) (λ a l.
     let there : a + (k - a) ≡ k = add-sub-of-le (le-of-suc-le-suc l) in
     *ℤ-comm (sign (k - a) *ℤ pos (choose (n - a) (k - a))) (u a)
-    ∙ ap (λ (x : ℤ). u a *ℤ x) (sym (difference-power (n - a) a (k - a)) ∙ ap (λ (x : ℕ). difference (n - a) (power x) a) there))
-    ∙ sumBelowℤ-beyond (λ a. u a *ℤ difference (n - a) (power k) a) (suc k) (suc n) (omega arith) (λ a l m.
+    ∙ ap (λ (x : ℤ). u a *ℤ x) (sym (difference-monomial (n - a) a (k - a)) ∙ ap (λ (x : ℕ). difference (n - a) (monomial x) a) there))
+    ∙ sumBelowℤ-beyond (λ a. u a *ℤ difference (n - a) (monomial k) a) (suc k) (suc n) (omega arith) (λ a l m.
     ap (λ (x : ℤ). u a *ℤ x) (difference-below (n - a) k a l) ∙ *ℤ-zero (u a))
 
 module _ (n : ℕ) (φ : ℕ → ℕ) where
@@ -54,11 +54,11 @@ module _ (n : ℕ) (φ : ℕ → ℕ) where
       ap (λ (x : ℕ). pos x *ℤ expansion n (λ a. pos (φ a)) j) (choose-above (n - j) (n - k) (omega arith))
       ∙ zero-*ℤ (expansion n (λ a. pos (φ a)) j))
       ∙ sum-expansion n (λ i. pos (choose (n - i) (n - k))) (λ a. pos (φ a))
-      ∙ sumBelowℤ-same _ (λ a. pos (φ a) *ℤ power (n - k) (n - a)) (suc n) (λ a l.
+      ∙ sumBelowℤ-same _ (λ a. pos (φ a) *ℤ monomial (n - k) (n - a)) (suc n) (λ a l.
       ap (λ (u : ℤ). pos (φ a) *ℤ u) (difference-choose n (n - k) a (n - a) (add-sub-of-le (le-of-suc-le-suc l))))
-      ∙ sumBelowℤ-only (λ a. pos (φ a) *ℤ power (n - k) (n - a)) k (suc n) (omega arith) (λ a l other.
-      ap (λ (u : ℤ). pos (φ a) *ℤ u) (power-other (n - k) (n - a) (λ e. other (omega arith))) ∙ *ℤ-zero (pos (φ a)))
-      ∙ ap (λ (u : ℤ). pos (φ k) *ℤ u) (power-same (n - k)) ∙ *ℤ-unit (pos (φ k))
+      ∙ sumBelowℤ-only (λ a. pos (φ a) *ℤ monomial (n - k) (n - a)) k (suc n) (omega arith) (λ a l other.
+      ap (λ (u : ℤ). pos (φ a) *ℤ u) (monomial-other (n - k) (n - a) (λ e. other (omega arith))) ∙ *ℤ-zero (pos (φ a)))
+      ∙ ap (λ (u : ℤ). pos (φ k) *ℤ u) (monomial-same (n - k)) ∙ *ℤ-unit (pos (φ k))
 
   -- whatever the path counts come back from is the domination
   pub domination-only : (d : ℕ → ℤ) → ((k : ℕ) → k ≤ n → sumBelowℤ (λ j. pos (choose (n - j) (k - j)) *ℤ d j) (suc k) ≡ pos (φ k))
@@ -138,12 +138,12 @@ sum-dominations n works weight =
 -- d(k) is the sum of d(A) over the sets A of size k
 pub domination-of-sets : (n : ℕ) (works : ℕ → Bool) (k : ℕ) → k ≤ n
     → domination n (pathCount n works) k ≡ sumBelowℤ (λ a. cond (eqb (size a) k) (setDomination n works a) (pos 0)) (2 ^ n)
-unfolding expansion power
+unfolding expansion monomial
 domination-of-sets n works k h =
     domination-coefficient n (pathCount n works) k h
-    ∙ sym (sum-by-sizeℤ n works (λ s. difference (n - s) (power k) s))
-    ∙ sumBelowℤ-same _ _ (2 ^ n) (λ b l. ap (λ (u : ℤ). pos (indicator (works b)) *ℤ u) (sym (sum-above-size n (power k) b l)))
-    ∙ sym (sum-dominations n works (λ a. power k (size a)))
+    ∙ sym (sum-by-sizeℤ n works (λ s. difference (n - s) (monomial k) s))
+    ∙ sumBelowℤ-same _ _ (2 ^ n) (λ b l. ap (λ (u : ℤ). pos (indicator (works b)) *ℤ u) (sym (sum-above-size n (monomial k) b l)))
+    ∙ sym (sum-dominations n works (λ a. monomial k (size a)))
     ∙ sumBelowℤ-same _ _ (2 ^ n) (λ a l.
     chosen (eqb k (size a)) (setDomination n works a)
     ∙ ap (λ (t : Bool). cond t (setDomination n works a) (pos 0)) (eqb-comm k (size a)))

@@ -14,7 +14,7 @@ use borrow.Author.Tests.{eqb-true, eqb-false}
 use Rattle.theory_sums.specs.Sums.{indicator, sumBelowℤ}
 use Rattle.theory_sums.proofs.Integers.{*ℤ-unit, *ℤ-negℤ, ring}
 use Rattle.theory_sums.proofs.IntegerSums.{sumBelowℤ-same, sumBelowℤ-zero, sumBelowℤ-neg, sumBelowℤ-mul, sumBelowℤ-exchange}
-use Rattle.theory_sums.proofs.Differences.{power, power-same, power-other}
+use Rattle.theory_sums.proofs.Differences.{monomial, monomial-same, monomial-other}
 use Rattle.theory_sets.specs.Masks.{size, holds}
 use Rattle.theory_sets.proofs.Bools.{and-right, true-or-false}
 use Rattle.theory_sets.proofs.Ranges.{below-or-above}
@@ -58,18 +58,18 @@ module _ (n a b c : ℕ) (ha : a < 2 ^ n) (hb : b < 2 ^ n) (hc : c < 2 ^ n) wher
       cases (inr h) = rw h
 
 -- the last part changes nothing in whether two sets are one
-power-last : (n a c : ℕ) → power (a + 2 ^ n) (c + 2 ^ n) ≡ power a c
-power-last n a c = cases (true-or-false (eqb a c))
+monomial-last : (n a c : ℕ) → monomial (a + 2 ^ n) (c + 2 ^ n) ≡ monomial a c
+monomial-last n a c = cases (true-or-false (eqb a c))
   where
-    cases : (eqb a c ≡ true) ⊎ (eqb a c ≡ false) → power (a + 2 ^ n) (c + 2 ^ n) ≡ power a c
+    cases : (eqb a c ≡ true) ⊎ (eqb a c ≡ false) → monomial (a + 2 ^ n) (c + 2 ^ n) ≡ monomial a c
     cases (inl t) =
         let e : a ≡ c = eqb-true a c t in
-        ap (λ (x : ℕ). power (x + 2 ^ n) (c + 2 ^ n)) e ∙ power-same (c + 2 ^ n) ∙ sym (ap (λ (x : ℕ). power x c) e ∙ power-same c)
+        ap (λ (x : ℕ). monomial (x + 2 ^ n) (c + 2 ^ n)) e ∙ monomial-same (c + 2 ^ n) ∙ sym (ap (λ (x : ℕ). monomial x c) e ∙ monomial-same c)
     cases (inr t) =
-        power-other (a + 2 ^ n) (c + 2 ^ n) (λ e. eqb-false a c t (omega arith)) ∙ sym (power-other a c (eqb-false a c t))
+        monomial-other (a + 2 ^ n) (c + 2 ^ n) (λ e. eqb-false a c t (omega arith)) ∙ sym (monomial-other a c (eqb-false a c t))
 
-sum-between : (n a c : ℕ) → a < 2 ^ n → c < 2 ^ n → sumBelowℤ (between a c) (2 ^ n) ≡ power a c
-unfolding sumBelowℤ between power holds ones onesIn pow one
+sum-between : (n a c : ℕ) → a < 2 ^ n → c < 2 ^ n → sumBelowℤ (between a c) (2 ^ n) ≡ monomial a c
+unfolding sumBelowℤ between monomial holds ones onesIn pow one
 sum-between zero a c ha hc =
     let none-a : a ≡ 0 = lt-one ha in
     let none-c : c ≡ 0 = lt-one hc in
@@ -81,17 +81,17 @@ sum-between (suc n) a c ha hc =
     none f h = sumBelowℤ-same f (λ b. pos 0) (2 ^ n) h ∙ sumBelowℤ-zero (2 ^ n)
 
     cases : (a < 2 ^ n) ⊎ (2 ^ n ≤ a) → (c < 2 ^ n) ⊎ (2 ^ n ≤ c)
-        → ((x y : ℕ) → x < 2 ^ n → y < 2 ^ n → sumBelowℤ (between x y) (2 ^ n) ≡ power x y)
-        → sumBelowℤ (between a c) (2 ^ n) +ℤ sumBelowℤ (λ b. between a c (b + 2 ^ n)) (2 ^ n) ≡ power a c
+        → ((x y : ℕ) → x < 2 ^ n → y < 2 ^ n → sumBelowℤ (between x y) (2 ^ n) ≡ monomial x y)
+        → sumBelowℤ (between a c) (2 ^ n) +ℤ sumBelowℤ (λ b. between a c (b + 2 ^ n)) (2 ^ n) ≡ monomial a c
     cases (inl la) (inl lc) ih =
-        ap₂ (λ (u v : ℤ). u +ℤ v) (ih a c la lc) (none _ (λ b l. beyond n a b c la l)) ∙ +ℤ-idr (power a c)
+        ap₂ (λ (u v : ℤ). u +ℤ v) (ih a c la lc) (none _ (λ b l. beyond n a b c la l)) ∙ +ℤ-idr (monomial a c)
     cases (inl la) (inr lc) ih =
         let y : ℕ = c - 2 ^ n in
         let low : y < 2 ^ n = omega (arith, two-pow-succ n) in
         let whole : c ≡ y + 2 ^ n = sym (sub-add-cancel lc) in
         ap₂ (λ (u v : ℤ). u +ℤ v)
         (none _ (λ b l. ap (λ (x : ℕ). between a x b) whole ∙ lacking n a b y l low)) (none _ (λ b l. beyond n a b c la l))
-        ∙ sym (power-other a c (λ e. omega arith))
+        ∙ sym (monomial-other a c (λ e. omega arith))
     cases (inr la) (inl lc) ih =
         let x : ℕ = a - 2 ^ n in
         let low : x < 2 ^ n = omega (arith, two-pow-succ n) in
@@ -100,7 +100,7 @@ sum-between (suc n) a c ha hc =
         (sumBelowℤ-same _ (between x c) (2 ^ n) (λ b l. ap (λ (z : ℕ). between z c b) whole ∙ below n x b c low l lc))
         (sumBelowℤ-same _ (λ b. negℤ (between x c b)) (2 ^ n) (λ b l. ap (λ (z : ℕ). between z c (b + 2 ^ n)) whole ∙ turned n x b c low l lc)
         ∙ sumBelowℤ-neg (between x c) (2 ^ n))
-        ∙ +ℤ-invr (sumBelowℤ (between x c) (2 ^ n)) ∙ sym (power-other a c (λ e. omega arith))
+        ∙ +ℤ-invr (sumBelowℤ (between x c) (2 ^ n)) ∙ sym (monomial-other a c (λ e. omega arith))
     cases (inr la) (inr lc) ih =
         let x : ℕ = a - 2 ^ n in
         let y : ℕ = c - 2 ^ n in
@@ -112,7 +112,7 @@ sum-between (suc n) a c ha hc =
         (none _ (λ b l. ap (λ (z : ℕ). between a z b) all ∙ lacking n a b y l small))
         (sumBelowℤ-same _ (between x y) (2 ^ n) (λ b l. ap₂ (λ (z w : ℕ). between z w (b + 2 ^ n)) whole all ∙ with-last n x b y low l small)
         ∙ ih x y low small)
-        ∙ +ℤ-idl (power x y) ∙ sym (ap₂ power whole all ∙ power-last n x y)
+        ∙ +ℤ-idl (monomial x y) ∙ sym (ap₂ monomial whole all ∙ monomial-last n x y)
 
 -- ---- the structure comes back
 
@@ -124,11 +124,11 @@ setDomination-back n works a h =
     inside (holds a b) (λ c. pos (indicator (holds b c && works c)) *ℤ sign (size b - size c))
     ∙ sumBelowℤ-same _ _ (2 ^ n) (λ c m. term (holds a b) (holds b c) (works c) (sign (size b - size c))))
     ∙ sumBelowℤ-exchange (λ b c. pos (indicator (works c)) *ℤ between a c b) (2 ^ n) (2 ^ n)
-    ∙ sumBelowℤ-same _ (λ c. pos (indicator (works c)) *ℤ power a c) (2 ^ n) (λ c m.
+    ∙ sumBelowℤ-same _ (λ c. pos (indicator (works c)) *ℤ monomial a c) (2 ^ n) (λ c m.
     sumBelowℤ-mul (pos (indicator (works c))) (between a c) (2 ^ n) ∙ ap (λ (u : ℤ). pos (indicator (works c)) *ℤ u) (sum-between n a c h m))
-    ∙ sumBelowℤ-only (λ c. pos (indicator (works c)) *ℤ power a c) a (2 ^ n) h (λ c m other.
-    ap (λ (u : ℤ). pos (indicator (works c)) *ℤ u) (power-other a c (λ e. other (sym e))) ∙ *ℤ-zero (pos (indicator (works c))))
-    ∙ ap (λ (u : ℤ). pos (indicator (works a)) *ℤ u) (power-same a) ∙ *ℤ-unit (pos (indicator (works a)))
+    ∙ sumBelowℤ-only (λ c. pos (indicator (works c)) *ℤ monomial a c) a (2 ^ n) h (λ c m other.
+    ap (λ (u : ℤ). pos (indicator (works c)) *ℤ u) (monomial-other a c (λ e. other (sym e))) ∙ *ℤ-zero (pos (indicator (works c))))
+    ∙ ap (λ (u : ℤ). pos (indicator (works a)) *ℤ u) (monomial-same a) ∙ *ℤ-unit (pos (indicator (works a)))
   where
     inside : (t : Bool) (f : ℕ → ℤ) → cond t (sumBelowℤ f (2 ^ n)) (pos 0) ≡ sumBelowℤ (λ c. cond t (f c) (pos 0)) (2 ^ n)
     inside true f = refl

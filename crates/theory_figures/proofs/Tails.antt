@@ -127,10 +127,6 @@ module _ (n : ℕ) (works : ℕ → Bool) (coherent : Semicoherent n works) wher
       ap (signature n (pathCount n works)) (sym (add-one k)) ∙ signature-is-count (k + 1) (omega arith) (omega arith))
       ∙ sym (sumBelow-pos (λ k. count n works (2 ^ n - 1) (k + 1)) n) ∙ ap pos (counts-total n works coherent)
 
-  -- the tail falls
-  pub tail-falls : (k : ℕ) → k < n → tail n (pathCount n works) (suc k) ≤ tail n (pathCount n works) k
-  tail-falls k l = omega (arith, tail-step k l)
-
   pub pathCount-empty : pathCount n works 0 ≡ 0
   unfolding pathCount
   pathCount-empty =

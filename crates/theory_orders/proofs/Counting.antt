@@ -16,7 +16,7 @@ use Rattle.theory_sets.specs.Masks.{has, size, meet}
 use Rattle.theory_sets.specs.Structures.{Semicoherent}
 use Rattle.theory_sets.proofs.Bools.{true-or-false, same-test}
 use Rattle.theory_sets.proofs.Masks.{has-add}
-use Rattle.theory_sets.proofs.Structures.{upward-steps}
+use Rattle.theory_sets.proofs.Structures.{upward-by-parts}
 use Rattle.theory_orders.specs.Orders.{orders, mask}
 use Rattle.theory_orders.specs.Counting.{Entry, entries, stops, inGroup, stopsAsKth, count}
 use Rattle.theory_orders.specs.Formulas.{added, taken, byParts}
@@ -140,7 +140,7 @@ module _ (n : ℕ) (works : ℕ → Bool) (coherent : Semicoherent n works) (gro
       ∙ sumBelow-same _ _ n (λ i l. sym (sumBelow-add _ _ (2 ^ n)) ∙ sumBelow-same _ _ (2 ^ n) (λ a h.
       rw (outside-is n group a within h)
       (stop-is-difference (factorial (size a) * factorial (n - size a - 1)) (has group i) (has a i) (eqb (size group - size (meet a group)) k)
-      (works a) (works (a + 2 ^ i)) (upward-steps n works (coherent .upward) a i h l))))
+      (works a) (works (a + 2 ^ i)) (upward-by-parts n works (coherent .upward) a i h l))))
 
   module _ (most : k ≤ size group) where
     without-is-taken : sumBelow (λ i. sumBelow (without-part i) (2 ^ n)) n ≡ taken n works group k

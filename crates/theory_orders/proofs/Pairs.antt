@@ -16,7 +16,7 @@ use Rattle.theory_sums.proofs.Sums.{sumBelow-same, sumBelow-le, sumBelow-mul, s
 use Rattle.theory_sets.specs.Masks.{has, size}
 use Rattle.theory_sets.specs.Structures.{Semicoherent}
 use Rattle.theory_sets.proofs.Bools.{and-left, and-right, true-or-false}
-use Rattle.theory_sets.proofs.Structures.{upward-steps}
+use Rattle.theory_sets.proofs.Structures.{upward-by-parts}
 use Rattle.theory_orders.specs.Formulas.{pathCount}
 use Rattle.theory_orders.proofs.Sizes.{size-bits, size-rest, size-add, part-more}
 
@@ -43,7 +43,7 @@ path-more n works coherent j i l a h = cases (true-or-false (has a i)) (true-or-
     cases (inl b) p = rw b (omega arith)
     cases (inr b) (inr p) = rw p (omega arith)
     cases (inr b) (inl p) =
-        let runs : works (a + 2 ^ i) ≡ true = upward-steps n works (coherent .upward) a i h l b (and-left (works a) (eqb (size a) j) p) in
+        let runs : works (a + 2 ^ i) ≡ true = upward-by-parts n works (coherent .upward) a i h l b (and-left (works a) (eqb (size a) j) p) in
         let larger : size (a + 2 ^ i) ≡ j + 1 = omega (arith, size-add a i b, of-size works j a p) in
         rw (b, p, runs, eq-eqb (size (a + 2 ^ i)) (j + 1) larger) (le-refl 1)
 

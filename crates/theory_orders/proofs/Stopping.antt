@@ -8,7 +8,7 @@ use native.Mathlib.Nat.{add-zero}
 use Rattle.theory_sums.specs.Sums.{indicator, sum, howMany}
 use Rattle.theory_sums.proofs.Sums.{sum-map}
 use Rattle.theory_sets.specs.Structures.{Semicoherent}
-use Rattle.theory_sets.proofs.Structures.{upward-steps}
+use Rattle.theory_sets.proofs.Structures.{upward-by-parts}
 use Rattle.theory_orders.specs.Orders.{IsOrder, mask}
 use Rattle.theory_orders.specs.Counting.{behind, entries, stops}
 use Rattle.theory_orders.proofs.Positions.{Within, order-within, within-rest, mask-step, mask-below, mask-order}
@@ -24,7 +24,7 @@ module _ (n : ℕ) (works : ℕ → Bool) (coherent : Semicoherent n works) wher
   works-before i rest h w =
       let step = mask-step n i rest h in
       ap works (step .4)
-      ∙ upward-steps n works (coherent .upward) (mask rest) (step .0) (mask-below n rest (within-rest n i rest h)) (step .1) (step .3) w
+      ∙ upward-by-parts n works (coherent .upward) (mask rest) (step .0) (mask-below n rest (within-rest n i rest h)) (step .1) (step .3) w
 
   stops-left : (list : List ℕ) → Within n list → howMany (stops works) (entries list) ≡ indicator (works (mask list))
   unfolding entries stops mask sum

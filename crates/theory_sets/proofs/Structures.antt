@@ -20,17 +20,17 @@ use Rattle.theory_sets.proofs.Ranges.{any-elim, any-none, any-false, an
 -- ---- monotony by single parts
 
 -- a path set stays one with any single part more
-abbrev pub Steps : ℕ → (ℕ → Bool) → Type 0
-Steps n works = (a i : ℕ) → a < 2 ^ n → i < n → has a i ≡ false → works a ≡ true → works (a + 2 ^ i) ≡ true
+abbrev pub UpwardByParts : ℕ → (ℕ → Bool) → Type 0
+UpwardByParts n works = (a i : ℕ) → a < 2 ^ n → i < n → has a i ≡ false → works a ≡ true → works (a + 2 ^ i) ≡ true
 
 abbrev pub Upward : ℕ → (ℕ → Bool) → Type 0
 Upward n works = (a b : ℕ) → a < 2 ^ n → b < 2 ^ n → holds b a ≡ true → works a ≡ true → works b ≡ true
 
 module _ (n : ℕ) (works : ℕ → Bool) where
-  pub upward-steps : Upward n works → Steps n works
-  upward-steps up a i ha hi lacks = up a (a + 2 ^ i) ha (add-below n a i ha hi lacks) (holds-add a i lacks)
+  pub upward-by-parts : Upward n works → UpwardByParts n works
+  upward-by-parts up a i ha hi lacks = up a (a + 2 ^ i) ha (add-below n a i ha hi lacks) (holds-add a i lacks)
 
-  module _ (step : Steps n works) (b : ℕ) (hb : b < 2 ^ n) where
+  module _ (step : UpwardByParts n works) (b : ℕ) (hb : b < 2 ^ n) where
     -- a set that b holds and that has b's parts from k on is led to b by the parts below k
     climb : (k : ℕ) → k ≤ n → (a : ℕ) → holds b a ≡ true → a / 2 ^ k ≡ b / 2 ^ k → works a ≡ true → works b ≡ true
     climb zero hk a within same w = subst (λ (x : ℕ). works x ≡ true) (sym (div-one a) ∙ same ∙ div-one b) w
@@ -51,20 +51,20 @@ module _ (n : ℕ) (works : ℕ → Bool) where
         cases (inr hb0) (inl ha1) on = clash (holds-part b a within k ha1) hb0
         cases (inr hb0) (inr ha0) on = on a within (omega (arith, halves, quotient-even a k ha0, quotient-even b k hb0)) w
 
-  pub steps-upward : Steps n works → Upward n works
-  steps-upward step a b ha hb within = climb step b hb n (le-refl n) a within (div-eq-of-lt ha ∙ sym (div-eq-of-lt hb))
+  pub by-parts-upward : UpwardByParts n works → Upward n works
+  by-parts-upward step a b ha hb within = climb step b hb n (le-refl n) a within (div-eq-of-lt ha ∙ sym (div-eq-of-lt hb))
 
   -- check 10 finds nothing exactly where every step holds
-  pub unbroken-steps : any (broken n works) (2 ^ n) ≡ false → Steps n works
+  pub unbroken-by-parts : any (broken n works) (2 ^ n) ≡ false → UpwardByParts n works
   unfolding broken
-  unbroken-steps none a i ha hi lacks w =
+  unbroken-by-parts none a i ha hi lacks w =
       let lost : ℕ → Bool = λ i. not (has a i) && not (works (a + 2 ^ i)) in
       let whole : any lost n ≡ false = rw w at (any-none (broken n works) (2 ^ n) a none ha) in
       not-false (works (a + 2 ^ i)) (rw lacks at (any-none lost n i whole hi))
 
-  pub steps-unbroken : Steps n works → any (broken n works) (2 ^ n) ≡ false
+  pub by-parts-unbroken : UpwardByParts n works → any (broken n works) (2 ^ n) ≡ false
   unfolding broken
-  steps-unbroken step =
+  by-parts-unbroken step =
       any-false (broken n works) (2 ^ n) (λ a ha h.
       let w : works a ≡ true = and-left (works a) _ h in
       let found = any-elim (λ i. not (has a i) && not (works (a + 2 ^ i))) n (and-right (works a) _ h) in

@@ -9,7 +9,7 @@ use native.Mathlib.Omega.{arith}
 use lib.Dec.{eqb·zero-suc, eqb·suc-zero, eqb·suc-suc}
 use lib.IntN.{ℤ, pos, negsuc, negℤ, _+ℤ_, _-ℤ_, _*ℤ_, one, pow, +ℤ-negℤ-cancel, *ℤ-zero}
 use Rattle.numbers.specs.Counts.{choose}
-use Rattle.theory_sums.proofs.Differences.{difference, power, power-same, power-other, difference-same, difference-zero, difference-difference}
+use Rattle.theory_sums.proofs.Differences.{difference, monomial, monomial-same, monomial-other, difference-same, difference-zero, difference-difference}
 use Rattle.theory_sums.proofs.Integers.{*ℤ-unit, *ℤ-negℤ, ring}
 
 -- the difference of one order more is that of the first differences
@@ -20,20 +20,20 @@ first n f a = difference-difference n 1 f a ∙ ap (λ (x : ℕ). difference x f
 -- ---- the coefficients of x^a (1-x)^n
 
 -- there is none below x^a
-pub difference-below : (n i a : ℕ) → i < a → difference n (power i) a ≡ pos 0
+pub difference-below : (n i a : ℕ) → i < a → difference n (monomial i) a ≡ pos 0
 unfolding difference
-difference-below zero i a h = power-other i a (λ e. omega arith)
+difference-below zero i a h = monomial-other i a (λ e. omega arith)
 difference-below (suc n) i a h = ap₂ (λ (u v : ℤ). u -ℤ v) (difference-below n i a h) (difference-below n i (suc a) (omega arith))
 
-pub difference-power : (n a k : ℕ) → difference n (power (a + k)) a ≡ pow (negsuc 0) k *ℤ pos (choose n k)
+pub difference-monomial : (n a k : ℕ) → difference n (monomial (a + k)) a ≡ pow (negsuc 0) k *ℤ pos (choose n k)
 unfolding difference choose pow one
-difference-power zero a zero = ap (λ (x : ℕ). power x a) (add-zero a) ∙ power-same a
-difference-power zero a (suc k) = power-other (a + suc k) a (λ e. omega arith) ∙ sym (*ℤ-zero (pow (negsuc 0) k *ℤ negsuc 0))
-difference-power (suc n) a zero =
-    ap₂ (λ (u v : ℤ). u -ℤ v) (difference-power n a zero) (difference-below n (a + 0) (suc a) (omega arith))
-difference-power (suc n) a (suc k) =
-    ap₂ (λ (u v : ℤ). u -ℤ v) (difference-power n a (suc k))
-    (ap (λ (x : ℕ). difference n (power x) (suc a)) (add-suc a k ∙ sym (suc-add a k)) ∙ difference-power n (suc a) k)
+difference-monomial zero a zero = ap (λ (x : ℕ). monomial x a) (add-zero a) ∙ monomial-same a
+difference-monomial zero a (suc k) = monomial-other (a + suc k) a (λ e. omega arith) ∙ sym (*ℤ-zero (pow (negsuc 0) k *ℤ negsuc 0))
+difference-monomial (suc n) a zero =
+    ap₂ (λ (u v : ℤ). u -ℤ v) (difference-monomial n a zero) (difference-below n (a + 0) (suc a) (omega arith))
+difference-monomial (suc n) a (suc k) =
+    ap₂ (λ (u v : ℤ). u -ℤ v) (difference-monomial n a (suc k))
+    (ap (λ (x : ℕ). difference n (monomial x) (suc a)) (add-suc a k ∙ sym (suc-add a k)) ∙ difference-monomial n (suc a) k)
     ∙ pascal (pow (negsuc 0) k) (pos (choose n k)) (pos (choose n (suc k)))
   where
     minus : (x : ℤ) → x *ℤ negsuc 0 ≡ negℤ x
@@ -49,11 +49,11 @@ difference-power (suc n) a (suc k) =
 -- ---- a binomial by its row
 
 -- of a machine of m parts: the number of ways to choose q of the parts left after i, and of that the difference down to no part left
-pub difference-choose : (m q a n : ℕ) → a + n ≡ m → difference n (λ i. pos (choose (m - i) q)) a ≡ power q n
-unfolding difference choose power
+pub difference-choose : (m q a n : ℕ) → a + n ≡ m → difference n (λ i. pos (choose (m - i) q)) a ≡ monomial q n
+unfolding difference choose monomial
 difference-choose m q a zero h = ap (λ (x : ℕ). pos (choose x q)) (omega arith) ∙ none q
   where
-    none : (k : ℕ) → pos (choose 0 k) ≡ power k 0
+    none : (k : ℕ) → pos (choose 0 k) ≡ monomial k 0
     none zero = refl
     none (suc k) = ap (λ (b : Bool). cond b (pos 1) (pos 0)) (sym (eqb·suc-zero k))
 difference-choose m zero a (suc n) h =

@@ -22,12 +22,12 @@ difference zero f a = f a
 difference (suc n) f a = difference n f a -ℤ difference n f (suc a)
 
 -- the coefficient of x^i in x^a
-unfoldable pub power : ℕ → ℕ → ℤ
-power i a = cond (eqb i a) (pos 1) (pos 0)
+unfoldable pub monomial : ℕ → ℕ → ℤ
+monomial i a = cond (eqb i a) (pos 1) (pos 0)
 
 -- the coefficient of x^i in the sum over a from 0 to m of u a × x^a (1-x)^(m-a)
 unfoldable pub expansion : ℕ → (ℕ → ℤ) → ℕ → ℤ
-expansion m u i = sumBelowℤ (λ a. u a *ℤ difference (m - a) (power i) a) (suc m)
+expansion m u i = sumBelowℤ (λ a. u a *ℤ difference (m - a) (monomial i) a) (suc m)
 
 -- ---- differences
 
@@ -99,42 +99,42 @@ difference-factor (suc n) f a =
 
 -- ---- polynomials
 
-pub power-same : (a : ℕ) → power a a ≡ pos 1
-unfolding power
-power-same a = ap (λ (b : Bool). cond b (pos 1) (pos 0)) (eq-eqb a a refl)
+pub monomial-same : (a : ℕ) → monomial a a ≡ pos 1
+unfolding monomial
+monomial-same a = ap (λ (b : Bool). cond b (pos 1) (pos 0)) (eq-eqb a a refl)
 
-pub power-other : (i a : ℕ) → (i ≡ a → ⊥) → power i a ≡ pos 0
-unfolding power
-power-other i a h = rw (ne-eqb i a h)
+pub monomial-other : (i a : ℕ) → (i ≡ a → ⊥) → monomial i a ≡ pos 0
+unfolding monomial
+monomial-other i a h = rw (ne-eqb i a h)
 
 -- a sum of values at powers, by the coefficients of a single power
-sum-power : (f : ℕ → ℤ) (a k : ℕ) → a < k → sumBelowℤ (λ i. f i *ℤ power i a) k ≡ f a
-unfolding sumBelowℤ power
-sum-power f a zero h = absurd (not-suc-le-zero h)
-sum-power f a (suc k) h = cases (eq-or-lt-of-le (le-of-suc-le-suc h)) (sum-power f a k)
+sum-monomial : (f : ℕ → ℤ) (a k : ℕ) → a < k → sumBelowℤ (λ i. f i *ℤ monomial i a) k ≡ f a
+unfolding sumBelowℤ monomial
+sum-monomial f a zero h = absurd (not-suc-le-zero h)
+sum-monomial f a (suc k) h = cases (eq-or-lt-of-le (le-of-suc-le-suc h)) (sum-monomial f a k)
   where
-    other : (i : ℕ) → (i ≡ a → ⊥) → f i *ℤ power i a ≡ pos 0
-    other i h = ap (λ (u : ℤ). f i *ℤ u) (power-other i a h) ∙ *ℤ-zero (f i)
+    other : (i : ℕ) → (i ≡ a → ⊥) → f i *ℤ monomial i a ≡ pos 0
+    other i h = ap (λ (u : ℤ). f i *ℤ u) (monomial-other i a h) ∙ *ℤ-zero (f i)
 
-    cases : (a ≡ k) ⊎ (a < k) → (a < k → sumBelowℤ (λ i. f i *ℤ power i a) k ≡ f a)
-        → sumBelowℤ (λ i. f i *ℤ power i a) k +ℤ f k *ℤ power k a ≡ f a
+    cases : (a ≡ k) ⊎ (a < k) → (a < k → sumBelowℤ (λ i. f i *ℤ monomial i a) k ≡ f a)
+        → sumBelowℤ (λ i. f i *ℤ monomial i a) k +ℤ f k *ℤ monomial k a ≡ f a
     cases (inl e) ih =
         ap₂ (λ (u v : ℤ). u +ℤ v)
         (sumBelowℤ-same _ (λ i. pos 0) k (λ i l. other i (λ p. omega arith)) ∙ sumBelowℤ-zero k)
-        (ap (λ (x : ℕ). f k *ℤ power k x) e ∙ ap (λ (u : ℤ). f k *ℤ u) (power-same k) ∙ *ℤ-unit (f k))
+        (ap (λ (x : ℕ). f k *ℤ monomial k x) e ∙ ap (λ (u : ℤ). f k *ℤ u) (monomial-same k) ∙ *ℤ-unit (f k))
         ∙ +ℤ-idl (f k) ∙ ap f (sym e)
     cases (inr l) ih = ap₂ (λ (u v : ℤ). u +ℤ v) (ih l) (other k (λ p. omega arith)) ∙ +ℤ-idr (f a)
 
 -- whatever gives f i at x^i gives the difference at x^a (1-x)^n
-pub sum-difference : (n : ℕ) (f : ℕ → ℤ) (a k : ℕ) → a + n < k → sumBelowℤ (λ i. f i *ℤ difference n (power i) a) k ≡ difference n f a
+pub sum-difference : (n : ℕ) (f : ℕ → ℤ) (a k : ℕ) → a + n < k → sumBelowℤ (λ i. f i *ℤ difference n (monomial i) a) k ≡ difference n f a
 unfolding difference
-sum-difference zero f a k h = sum-power f a k (omega arith)
+sum-difference zero f a k h = sum-monomial f a k (omega arith)
 sum-difference (suc n) f a k h =
-    sumBelowℤ-same _ (λ i. f i *ℤ difference n (power i) a +ℤ negℤ (f i *ℤ difference n (power i) (suc a))) k (λ i l.
-    out (f i) (difference n (power i) a) (difference n (power i) (suc a)))
-    ∙ sumBelowℤ-add (λ i. f i *ℤ difference n (power i) a) (λ i. negℤ (f i *ℤ difference n (power i) (suc a))) k
+    sumBelowℤ-same _ (λ i. f i *ℤ difference n (monomial i) a +ℤ negℤ (f i *ℤ difference n (monomial i) (suc a))) k (λ i l.
+    out (f i) (difference n (monomial i) a) (difference n (monomial i) (suc a)))
+    ∙ sumBelowℤ-add (λ i. f i *ℤ difference n (monomial i) a) (λ i. negℤ (f i *ℤ difference n (monomial i) (suc a))) k
     ∙ ap₂ (λ (u v : ℤ). u +ℤ v) (sum-difference n f a k (omega arith))
-    (sumBelowℤ-neg (λ i. f i *ℤ difference n (power i) (suc a)) k ∙ ap negℤ (sum-difference n f (suc a) k (omega arith)))
+    (sumBelowℤ-neg (λ i. f i *ℤ difference n (monomial i) (suc a)) k ∙ ap negℤ (sum-difference n f (suc a) k (omega arith)))
   where
     out : (c x y : ℤ) → c *ℤ (x -ℤ y) ≡ c *ℤ x +ℤ negℤ (c *ℤ y)
     out c x y = simp ring
@@ -143,10 +143,10 @@ pub sum-expansion : (m : ℕ) (f u : ℕ → ℤ)
     → sumBelowℤ (λ i. f i *ℤ expansion m u i) (suc m) ≡ sumBelowℤ (λ a. u a *ℤ difference (m - a) f a) (suc m)
 unfolding expansion
 sum-expansion m f u =
-    sumBelowℤ-same _ (λ i. sumBelowℤ (λ a. u a *ℤ (f i *ℤ difference (m - a) (power i) a)) (suc m)) (suc m) (λ i l.
-    sym (sumBelowℤ-mul (f i) (λ a. u a *ℤ difference (m - a) (power i) a) (suc m))
-    ∙ sumBelowℤ-same _ _ (suc m) (λ a h. *ℤ-left-comm (f i) (u a) (difference (m - a) (power i) a)))
-    ∙ sumBelowℤ-exchange (λ i a. u a *ℤ (f i *ℤ difference (m - a) (power i) a)) (suc m) (suc m)
+    sumBelowℤ-same _ (λ i. sumBelowℤ (λ a. u a *ℤ (f i *ℤ difference (m - a) (monomial i) a)) (suc m)) (suc m) (λ i l.
+    sym (sumBelowℤ-mul (f i) (λ a. u a *ℤ difference (m - a) (monomial i) a) (suc m))
+    ∙ sumBelowℤ-same _ _ (suc m) (λ a h. *ℤ-left-comm (f i) (u a) (difference (m - a) (monomial i) a)))
+    ∙ sumBelowℤ-exchange (λ i a. u a *ℤ (f i *ℤ difference (m - a) (monomial i) a)) (suc m) (suc m)
     ∙ sumBelowℤ-same _ _ (suc m) (λ a h.
-    sumBelowℤ-mul (u a) (λ i. f i *ℤ difference (m - a) (power i) a) (suc m)
+    sumBelowℤ-mul (u a) (λ i. f i *ℤ difference (m - a) (monomial i) a) (suc m)
     ∙ ap (λ (x : ℤ). u a *ℤ x) (sum-difference (m - a) f a (suc m) (omega arith)))

@@ -1,2 +1,2 @@
-pub mod Held
-pub mod Steps
+pub mod InStruct
+pub mod Inside

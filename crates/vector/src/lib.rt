@@ -6,8 +6,8 @@ ghost use mathlib.Core.Path.{_≡_};
 ghost use Rattle.answer.specs.Outcome.{outcome, delivered};
 ghost use Rattle.vector_kind.specs.Kinds.{kindOf, kindRefusal};
 ghost use Rattle.vector_conversion.specs.Vectors.{vectorRefusal, converted};
-ghost use Rattle.vector.specs.Held.{heldRefusal, heldConverted};
-ghost use Rattle.vector.specs.Steps.{lentCells};
+ghost use Rattle.vector.specs.InStruct.{structRefusal, structConverted};
+ghost use Rattle.vector.specs.Inside.{lentCells};
 
 // A vector of a machine of n parts: its entries are the first `length` cells. In every vector that the library makes the spare cells behind
 // them hold 0; in one that is built by hand they may hold anything, and nothing looks at them.
@@ -27,7 +27,7 @@ pub struct Converted {
 impl Vector {
     // Whether the vector is accepted.
     pub fn judge(self) -> Verdict
-        ensures { λ r. ⌜ r ≡ heldRefusal self ⌝ }
+        ensures { λ r. ⌜ r ≡ structRefusal self ⌝ }
     {
         let kind = self.kind;
         let entries = self.entries;
@@ -37,7 +37,7 @@ impl Vector {
 
     // The vector as one of another kind.
     pub fn convert(self, target: Kind) -> Converted
-        ensures { λ r. ⌜ r ≡ heldConverted self target ⌝ }
+        ensures { λ r. ⌜ r ≡ structConverted self target ⌝ }
     {
         let kind = self.kind;
         let entries = self.entries;

@@ -103,8 +103,8 @@ choose-pos n j h = cases (choose n j) (choose-factorials n (n - j) j (sub-add-ca
     cases (suc c) e = omega arith
 
 -- the tail falls as the proportions rise
-pub tail-falls : (n : ℕ) (φ : ℕ → ℕ) → AcceptedCounts n φ → (k : ℕ) → k < n → tail n φ (suc k) ≤ tail n φ k
-tail-falls n φ a k h =
+pub accepted-tail-falls : (n : ℕ) (φ : ℕ → ℕ) → AcceptedCounts n φ → (k : ℕ) → k < n → tail n φ (suc k) ≤ tail n φ k
+accepted-tail-falls n φ a k h =
     factor-le (tail n φ (suc k)) (tail n φ k) (choose n (suc k) * choose n k) (mul-pos (choose-pos n (suc k) h) (choose-pos n k (omega arith)))
     (le-trans (le-of-eq (sym (mul-assoc (tail n φ (suc k)) (choose n (suc k)) (choose n k)) ∙ ap (λ (x : ℕ). x * choose n k) (tail-proportion n φ (suc k) h)))
     (le-trans (across (factorial n) (φ j) (choose n k) (φ (n - k)) (choose n (suc k)) rising)
@@ -133,7 +133,7 @@ signature-positive n entries accepted k h =
     let φ = countsOf Signature n entries in
     ap (λ (xs : List ℤ). entryAt xs k) (sym (conversion-same Signature n entries accepted))
     ∙ tabulate-at n (figure Signature n φ) k (pos 0) h ∙ signature-step n φ k
-    ∙ difference-positive (tail n φ k) (tail n φ (suc k)) (tail-falls n φ (accepted-vector Signature n entries accepted .counts) k h)
+    ∙ difference-positive (tail n φ k) (tail n φ (suc k)) (accepted-tail-falls n φ (accepted-vector Signature n entries accepted .counts) k h)
 
 -- ---- the figures of a semicoherent structure
 

@@ -21,7 +21,7 @@ use Rattle.theory_sets.proofs.Ranges.{below-or-above}
 use Rattle.theory_figures.specs.Figures.{sign, domination}
 use Rattle.theory_figures.proofs.Dominations.{pathCount-back}
 use Rattle.vector_conversion.specs.Vectors.{entryAt, scaledCount, unitOf, countsOf, leastCount, mostCount, isCount, wrongCount}
-use Rattle.vector_conversion.specs.Steps.{pick, countIn, countAt, cellsOf, Found}
+use Rattle.vector_conversion.specs.Inside.{pick, countIn, countAt, cellsOf, Found}
 use Rattle.vector_conversion.specs.declared.Count.the-variants.{Of, Wrong}
 use Rattle.vector_kind.specs.declared.Kind.{Kind}
 use Rattle.vector_kind.specs.declared.Kind.the-variants.{PathCounts, Tail, Signature, Domination}

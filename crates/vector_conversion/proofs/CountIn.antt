@@ -7,7 +7,7 @@ use native.Mathlib.Omega.{arith}
 use lib.IntN.{pos, negsuc, _-ℤ_, +ℤ-idr}
 use borrow.Author.Tests.{lt-ltb, eq-eqb, ne-eqb, le-leb, lt-leb}
 use Rattle.vector_conversion.specs.Vectors.{leastCount, mostCount}
-use Rattle.vector_conversion.specs.Steps.{countIn}
+use Rattle.vector_conversion.specs.Inside.{countIn}
 use Rattle.vector_conversion.specs.declared.Count.the-variants.{Of, Wrong}
 use Rattle.vector_conversion.proofs.Conversions.{difference-positive}
 

@@ -16,9 +16,9 @@ use Rattle.theory_sets.proofs.Ranges.{any-none, below-or-above}
 use Rattle.theory_figures.proofs.Ranges.{factorials-few}
 
 -- 16!
-pub ways-few : (n j : ℕ) → n ≤ 16 → j ≤ n → factorial j * factorial (n - j) ≤ 20922789888000
+pub tail-unit-few : (n j : ℕ) → n ≤ 16 → j ≤ n → factorial j * factorial (n - j) ≤ 20922789888000
 unfolding factorial
-ways-few n j h l = factorials-few j (n - j) 16 (omega arith)
+tail-unit-few n j h l = factorials-few j (n - j) 16 (omega arith)
 
 -- ---- binomials
 

@@ -19,7 +19,7 @@ use Rattle.theory_sets.proofs.Bools.{and-left, and-right, and-both, clash, fals
 use Rattle.theory_sets.proofs.Ranges.{any-intro, any-false, least-found}
 use Rattle.vector_kind.specs.Kinds.{lengthOf}
 use Rattle.vector_conversion.specs.Vectors.{countsOf, wrongCount, falls, countsRefusal, vectorRefusal}
-use Rattle.vector_conversion.specs.Steps.{cellsOf, FoundAll, FirstFall}
+use Rattle.vector_conversion.specs.Inside.{cellsOf, FoundAll, FirstFall}
 use Rattle.vector_kind.specs.declared.Kind.{Kind}
 
 module _ (kind : Kind) (n : ℕ) (entries : List ℤ) where

@@ -1,2 +1,2 @@
 pub mod Vectors
-pub mod Steps
+pub mod Inside

@@ -7,12 +7,13 @@ ghost use mathlib.Core.List.{_++_};
 ghost use Prim.Native.Nat.{_+_, _-_, _*_, _^_, _≤_, _<_};
 ghost use lib.IntN.{pos, _+ℤ_, _-ℤ_};
 ghost use lib.ListN.{length, drop};
+ghost use Rattle.numbers.specs.Tables.{NoneOver};
 ghost use Rattle.numbers.specs.Counts.{factorial};
 ghost use Rattle.answer.specs.Outcome.{at, outcome, delivered};
 ghost use Rattle.vector_kind.specs.Kinds.{lengthOf};
 ghost use Rattle.theory_figures.specs.Figures.{tail as tailOf, domination as dominationOf};
 ghost use Rattle.vector_conversion.specs.Vectors.{leastCount, mostCount, vectorRefusal, figure as figureOf, vectorOf, converted};
-ghost use Rattle.vector_conversion.specs.Steps.{countIn, countAt, cellsOf, Few, Found, FoundAll, FirstFall, ExaminedAs, TermsOf};
+ghost use Rattle.vector_conversion.specs.Inside.{countIn, countAt, cellsOf, Found, FoundAll, FirstFall, ExaminedAs, TermsOf};
 
 // Whether a vector is accepted.
 pub fn judge(kind: Kind, n: usize, entries: &[i64]) -> Verdict
@@ -103,7 +104,7 @@ fn examine(kind: Kind, n: usize, entries: &[i64]) -> Examined
 
 // A vector that is refused at place 0, with no count read.
 fn unread(number: u8) -> Examined
-    ensures { λ r. ⌜ (Few (r .counts)) × (r .verdict ≡ Verdict.Refused (at number 0)) ⌝ }
+    ensures { λ r. ⌜ (NoneOver 12870 (r .counts)) × (r .verdict ≡ Verdict.Refused (at number 0)) ⌝ }
 {
     Examined {
         counts: [0u64; 17],
@@ -145,7 +146,7 @@ fn count_at(kind: Kind, n: usize, entries: &[i64], counts: &[u64; 17], j: usize)
 {
     match kind {
         Kind::PathCounts => count_of(0, entries[j], 0, 1, n, j),
-        Kind::Tail => count_of(0, entries[n - j], 0, ways(n, j), n, j),
+        Kind::Tail => count_of(0, entries[n - j], 0, tail_unit(n, j), n, j),
         Kind::Signature => signature_count(n, entries, counts, j),
         Kind::Domination => domination_count(n, entries, counts, j),
     }
@@ -159,11 +160,11 @@ fn signature_count(n: usize, entries: &[i64], counts: &[u64; 17], j: usize) -> C
     requires { ⌜ Found Kind.Signature n (now entries) (now counts) j ⌝ }
     ensures { λ r. ⌜ r ≡ countAt Kind.Signature n (now (entries .entry)) j ⌝ }
 {
-    let unit = ways(n, j);
+    let unit = tail_unit(n, j);
     if j == 0 {
         return count_of(0, 0, 0, unit, n, 0);
     }
-    let before = counts[j - 1] * ways(n, j - 1);
+    let before = counts[j - 1] * tail_unit(n, j - 1);
     count_of(before, entries[n - j], 0, unit, n, j)
 }
 
@@ -239,7 +240,7 @@ fn most(n: usize, j: usize) -> u64
 }
 
 // j! × (n-j)!
-fn ways(n: usize, j: usize) -> u64
+fn tail_unit(n: usize, j: usize) -> u64
     requires { ⌜ n ≤ 16 ⌝ }
     requires { ⌜ j ≤ n ⌝ }
     ensures { λ r. ⌜ r ≡ factorial j * factorial (n - j) ⌝ }
@@ -251,7 +252,7 @@ fn ways(n: usize, j: usize) -> u64
 fn signed_terms(n: usize, counts: &[u64; 17], k: usize) -> Terms
     requires { ⌜ n ≤ 16 ⌝ }
     requires { ⌜ k ≤ n ⌝ }
-    requires { ⌜ Few (now counts) ⌝ }
+    requires { ⌜ NoneOver 12870 (now counts) ⌝ }
     ensures { λ r. ⌜ TermsOf n (cellsOf (now (counts .entry))) k (r .added) (r .taken) ⌝ }
 {
     let mut added: u64 = 0;
@@ -270,7 +271,7 @@ fn signed_terms(n: usize, counts: &[u64; 17], k: usize) -> Terms
 // The first size from which the proportion falls, or n.
 fn first_fall(n: usize, counts: &[u64; 17]) -> usize
     requires { ⌜ n ≤ 16 ⌝ }
-    requires { ⌜ Few (now counts) ⌝ }
+    requires { ⌜ NoneOver 12870 (now counts) ⌝ }
     ensures { λ r. ⌜ FirstFall n (now (counts .entry)) r ⌝ }
 {
     for j in 0..n {
@@ -287,7 +288,7 @@ fn first_fall(n: usize, counts: &[u64; 17]) -> usize
 fn write(kind: Kind, n: usize, counts: &[u64; 17], cells: &mut [i64])
     requires { ⌜ n ≤ 16 ⌝ }
     requires { ⌜ lengthOf kind n ≤ length (now cells) ⌝ }
-    requires { ⌜ Few (now counts) ⌝ }
+    requires { ⌜ NoneOver 12870 (now counts) ⌝ }
     ensures { λ _. ⌜ now (cells .exit) ≡ vectorOf kind n (cellsOf (now (counts .entry))) ++ drop (lengthOf kind n) (now (cells .entry)) ⌝ }
 {
     let end = kind.entries(n);
@@ -300,7 +301,7 @@ fn write(kind: Kind, n: usize, counts: &[u64; 17], cells: &mut [i64])
 fn figure(kind: Kind, n: usize, counts: &[u64; 17], k: usize) -> i64
     requires { ⌜ n ≤ 16 ⌝ }
     requires { ⌜ k < lengthOf kind n ⌝ }
-    requires { ⌜ Few (now counts) ⌝ }
+    requires { ⌜ NoneOver 12870 (now counts) ⌝ }
     ensures { λ r. ⌜ r ≡ figureOf kind n (cellsOf (now (counts .entry))) k ⌝ }
 {
     match kind {
@@ -315,17 +316,17 @@ fn figure(kind: Kind, n: usize, counts: &[u64; 17], k: usize) -> i64
 fn tail(n: usize, counts: &[u64; 17], k: usize) -> u64
     requires { ⌜ n ≤ 16 ⌝ }
     requires { ⌜ k ≤ n ⌝ }
-    requires { ⌜ Few (now counts) ⌝ }
+    requires { ⌜ NoneOver 12870 (now counts) ⌝ }
     ensures { λ r. ⌜ r ≡ tailOf n (cellsOf (now (counts .entry))) k ⌝ }
 {
-    counts[n - k] * ways(n, n - k)
+    counts[n - k] * tail_unit(n, n - k)
 }
 
 // d(k) by the path counts: the terms of either sign are added up, and subtracted once.
 fn domination(n: usize, counts: &[u64; 17], k: usize) -> i64
     requires { ⌜ n ≤ 16 ⌝ }
     requires { ⌜ k ≤ n ⌝ }
-    requires { ⌜ Few (now counts) ⌝ }
+    requires { ⌜ NoneOver 12870 (now counts) ⌝ }
     ensures { λ r. ⌜ r ≡ dominationOf n (cellsOf (now (counts .entry))) k ⌝ }
 {
     let terms = signed_terms(n, counts, k);

@@ -8,7 +8,7 @@ use Rattle.answer.specs.declared.Verdict.{Verdict}
 use Rattle.answer.specs.declared.Verdict.the-variants.{Accepted}
 use Rattle.theory_sets.specs.Tables.{inTable}
 use Rattle.figures.specs.All.{buffersOf, allOutcome, deliveredAll, allFigures}
-use Rattle.figures.specs.Steps.{figuresRefusal}
+use Rattle.figures.specs.Inside.{figuresRefusal}
 use Rattle.figures.proofs.figures.Statement.{statement}
 use Rattle.figures.proofs.figures.Tie as tie
 

@@ -11,8 +11,8 @@ use denote.Ref.{now}
 use lib.ListN.{getD}
 use borrow.Author.Needs.{needs}
 use Rattle.theory_sums.specs.Sums.{sumBelow}
-use Rattle.figures.specs.Steps.{ways, addedSets, takenSets}
-use Rattle.figures.proofs.Machines.{ways-few}
+use Rattle.figures.specs.Inside.{partWeight, addedSets, takenSets}
+use Rattle.figures.proofs.Machines.{partWeight-few}
 use Rattle.figures.proofs.part_importance.Statement.{statement}
 use Rattle.figures.proofs.part_importance.Tie as tie
 
@@ -33,8 +33,8 @@ loop-holds : tie.Need-loop-holds Inv-loop μ-loop
 unfolding addedSets takenSets sumBelow
 loop-holds c = record { within = omega arith; few-added = omega arith; few-taken = omega arith; is-added = refl; is-taken = refl }
 
-ways-requires : tie.Need-ways-requires Inv-loop μ-loop
-ways-requires c κs = (c .before .before .before .before .pre .most, c .loop-test .taken)
+part-weight-requires : tie.Need-part-weight-requires Inv-loop μ-loop
+part-weight-requires c κs = (c .before .before .before .before .pre .most, c .loop-test .taken)
 
 add-cell : tie.Need-add-cell Inv-loop μ-loop
 add-cell c = omega (arith, c .before .before .before .before .before .pre .most)
@@ -43,14 +43,14 @@ cell-requires : tie.Need-cell-requires Inv-loop μ-loop
 cell-requires c κs = search needs
 
 -- the weight of a set
-weight : (c : tie.After-ways Inv-loop μ-loop) → c .ways .result ≤ 1307674368000
+weight : (c : tie.After-part-weight Inv-loop μ-loop) → c .part-weight .result ≤ 1307674368000
 weight c =
     let head = c .before .before in
     let start = head .before .before .before in
-    le-trans (le-of-eq (c .ways .ensures)) (ways-few (start .args .n) (head .loop .s) (start .pre .most) (c .before .loop-test .taken))
+    le-trans (le-of-eq (c .part-weight .ensures)) (partWeight-few (start .args .n) (head .loop .s) (start .pre .most) (c .before .loop-test .taken))
 
 -- what a size adds, and what it takes
-added-few : (c : tie.After-cell Inv-loop μ-loop) → c .cell .result * c .before .ways .result ≤ 65536 * 1307674368000
+added-few : (c : tie.After-cell Inv-loop μ-loop) → c .cell .result * c .before .part-weight .result ≤ 65536 * 1307674368000
 added-few c =
     let head = c .before .before .before in
     let start = head .before .before .before in
@@ -63,7 +63,7 @@ fewer c =
     let start = head .before .before .before in
     le-trans (le-of-eq (c .cell3 .ensures)) (le-trans (start .pre .fewer (head .loop .s)) (le-of-eq (sym (c .before .cell2 .ensures))))
 
-taken-few : (c : tie.After-cell3 Inv-loop μ-loop) → (c .before .cell2 .result - c .cell3 .result) * c .before .before .before .ways .result ≤ 65536 * 1307674368000
+taken-few : (c : tie.After-cell3 Inv-loop μ-loop) → (c .before .cell2 .result - c .cell3 .result) * c .before .before .before .part-weight .result ≤ 65536 * 1307674368000
 taken-few c =
     let head = c .before .before .before .before .before in
     let start = head .before .before .before in
@@ -110,7 +110,7 @@ loop-again c =
     let n = start .args .n in
     let s = head .loop .s in
     let carried = head .loop .inv in
-    let weighed = c .before .before .before .ways in
+    let weighed = c .before .before .before .part-weight in
     record {
       within = omega arith;
       few-added = omega (arith, added-few (c .before .before), carried .few-added);
@@ -155,7 +155,7 @@ part-importance-spec =
     Inv-loop
     μ-loop
     loop-holds
-    ways-requires
+    part-weight-requires
     add-cell
     cell-requires
     mul-added

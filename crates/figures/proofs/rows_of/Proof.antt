@@ -12,14 +12,14 @@ use Rattle.figures.proofs.rows_of.Tie as tie
 load-requires : tie.Need-load-requires
 load-requires c κs = search needs
 
-slice-aggregate-tally : tie.Need-slice-aggregate-tally
-slice-aggregate-tally c = search needs
+slice-aggregate-counts-by-part : tie.Need-slice-aggregate-counts-by-part
+slice-aggregate-counts-by-part c = search needs
 
-tally-requires : tie.Need-tally-requires
-tally-requires c κs = search needs
+counts-by-part-requires : tie.Need-counts-by-part-requires
+counts-by-part-requires c κs = search needs
 
 returns : tie.Need-returns
-returns c = c .tally .ensures ∙ ap (λ (words : List ℕ). rowsOf (inWords words)) (c .before .before .load .ensures)
+returns c = c .counts-by-part .ensures ∙ ap (λ (words : List ℕ). rowsOf (inWords words)) (c .before .before .load .ensures)
 
 pub rows-of-spec : {M : Type 1} → statement M
-rows-of-spec = tie.close (tie.spec load-requires slice-aggregate-tally tally-requires returns)
+rows-of-spec = tie.close (tie.spec load-requires slice-aggregate-counts-by-part counts-by-part-requires returns)

@@ -12,7 +12,7 @@ use mir.Facts.{toZ-pos}
 use mir.Syntax.{w64}
 use borrow.Author.Needs.{needs}
 use Rattle.numbers.proofs.Tables.{filled, filled-none, filled-again, filled-end}
-use Rattle.figures.specs.Steps.{countsOf}
+use Rattle.figures.specs.Inside.{countsOf}
 use Rattle.figures.proofs.signed.Statement.{statement}
 use Rattle.figures.proofs.signed.Tie as tie
 

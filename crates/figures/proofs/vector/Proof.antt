@@ -21,7 +21,7 @@ use Rattle.structure.proofs.Acceptance.{AcceptedTable, accepted-table}
 use Rattle.vector_kind.specs.declared.Kind.the-variants.{PathCounts}
 use Rattle.vector_conversion.specs.Vectors.{vectorRefusal, converted, figuresOf}
 use Rattle.theory_figures.specs.Figures.{pathCounts}
-use Rattle.figures.specs.Steps.{countsOf, sizedIn}
+use Rattle.figures.specs.Inside.{countsOf, sizedIn}
 use Rattle.figures.proofs.Machines.{table-entries}
 use Rattle.figures.proofs.Claims.{vectors-accepted, vectors-converted}
 use Rattle.figures.proofs.vector.Statement.{statement}

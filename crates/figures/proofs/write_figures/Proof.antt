@@ -22,7 +22,7 @@ use Rattle.vector_conversion.specs.Vectors.{vectorRefusal, converted, figuresOf
 use Rattle.theory_figures.specs.Figures.{pathCounts}
 use Rattle.figures_counts.specs.Rows.{row}
 use Rattle.figures.specs.All.{roomRefusal}
-use Rattle.figures.specs.Steps.{countsOf}
+use Rattle.figures.specs.Inside.{countsOf}
 use Rattle.figures.proofs.Machines.{table-few, table-entries, all-row, table-rows, table-importances}
 use Rattle.figures.proofs.Rooms.{Room, room-accepted, all-written}
 use Rattle.figures.proofs.Claims.{vectors-accepted, vectors-converted}

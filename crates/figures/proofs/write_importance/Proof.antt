@@ -9,7 +9,7 @@ use denote.Ref.{now}
 use lib.ListN.{length, take, drop}
 use Rattle.numbers.proofs.Tables.{filled, filled-none, filled-again, filled-length}
 use Rattle.figures_counts.specs.Rows.{row}
-use Rattle.figures.specs.Steps.{importanceBy, addedSets, takenSets, Parted}
+use Rattle.figures.specs.Inside.{importanceBy, addedSets, takenSets, Parted}
 use Rattle.figures.proofs.write_importance.Statement.{statement}
 use Rattle.figures.proofs.write_importance.Tie as tie
 

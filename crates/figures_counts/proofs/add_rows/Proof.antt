@@ -13,7 +13,7 @@ use Rattle.numbers.proofs.Tables.{filled, filled-none, filled-all, filled-lengt
 use Rattle.theory_sets.specs.Masks.{size, meet}
 use Rattle.structure_words.specs.Words.{wordOf}
 use Rattle.figures_counts.specs.Rows.{hasPart}
-use Rattle.figures_counts.specs.Steps.{inWord}
+use Rattle.figures_counts.specs.Inside.{inWord}
 use Rattle.numbers.proofs.Tables.{tabulate-same}
 use Rattle.figures_counts.proofs.Rows.{row-length, row-few, row-old, row-back}
 use Rattle.figures_counts.proofs.add_rows.Statement.{statement}

@@ -8,7 +8,7 @@ use native.Mathlib.Omega.{arith}
 use denote.Ref.{now}
 use borrow.Author.Needs.{needs}
 use Rattle.structure_words.specs.Words.{inWords}
-use Rattle.record.specs.Steps.{nestedAt}
+use Rattle.record.specs.Inside.{nestedAt}
 use Rattle.record.proofs.Marking.{nested-ended, nested-here, nested-past, nested-none}
 use Rattle.record.proofs.first_nested.Statement.{statement}
 use Rattle.record.proofs.first_nested.Tie as tie

@@ -7,7 +7,7 @@ use native.Mathlib.Omega.{arith}
 use denote.Ref.{now}
 use borrow.Author.Needs.{needs}
 use Rattle.answer.specs.declared.Verdict.the-variants.{Accepted}
-use Rattle.record_head.specs.Steps.{asRead}
+use Rattle.record_head.specs.Inside.{asRead}
 use Rattle.record.proofs.Marking.{MarkWalk, mark-walk-none, mark-walk-below, mark-walk-more, mark-walk-refused, mark-walk-end, marked-of}
 use Rattle.record.proofs.mark_sets.Statement.{statement}
 use Rattle.record.proofs.mark_sets.Tie as tie

@@ -9,8 +9,8 @@ use Rattle.answer.specs.Refusals.{unknownPart, emptySet, wrongSet}
 use Rattle.answer.specs.Outcome.{at}
 use Rattle.answer.proofs.Outcomes.{refuse-held, refuse-passed}
 use Rattle.numbers.proofs.Counts.{upTo16-given}
-use Rattle.record_head.specs.Steps.{asRead}
-use Rattle.record.specs.Steps.{risingRefusal}
+use Rattle.record_head.specs.Inside.{asRead}
+use Rattle.record.specs.Inside.{risingRefusal}
 use Rattle.record_head.proofs.Found.{field-ended, field-passed, field-held}
 use Rattle.record.proofs.read_set.Statement.{statement}
 use Rattle.record.proofs.read_set.Tie as tie
@@ -24,12 +24,12 @@ enum-known-number c = search needs
 enum-known-number-2 : tie.Need-enum-known-number-2
 enum-known-number-2 c = search needs
 
-power-requires : tie.Need-power-requires
-power-requires c κs = search needs
+power-of-two-requires : tie.Need-power-of-two-requires
+power-of-two-requires c κs = search needs
 
 -- the power of 2 that a set of n parts stays below
-whole : (c : tie.After-power) → c .power .result ≡ 2 ^ (c .before .before .before .before .before .before .args .n)
-whole c = let start = c .before .before .before .before .before .before in c .power .ensures ∙ upTo16-given (start .args .n) (2 ^ (start .args .n)) (start .pre)
+whole : (c : tie.After-power-of-two) → c .power-of-two .result ≡ 2 ^ (c .before .before .before .before .before .before .args .n)
+whole c = let start = c .before .before .before .before .before .before in c .power-of-two .ensures ∙ upTo16-given (start .args .n) (2 ^ (start .args .n)) (start .pre)
 
 refused-requires : tie.Need-refused-requires
 refused-requires c κs = search needs
@@ -98,7 +98,7 @@ read-set-spec =
     read-number-requires
     enum-known-number
     enum-known-number-2
-    power-requires
+    power-of-two-requires
     refused-requires
     returns
     refused-requires-2

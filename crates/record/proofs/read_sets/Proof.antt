@@ -7,11 +7,11 @@ use denote.Ref.{now}
 use borrow.Author.Needs.{needs}
 use Rattle.answer.specs.declared.Verdict.{Verdict}
 use Rattle.structure_words.specs.Words.{inWords, wordsOf}
-use Rattle.structure_closure.specs.Closure.{spread, trimmed}
+use Rattle.structure_closure.specs.Closure.{spread, irredundant}
 use Rattle.record.specs.declared.Ending.the-variants as ending
 use Rattle.record.specs.declared.Marked.{Marked}
 use Rattle.record.specs.Records.{setsAt}
-use Rattle.record.specs.Steps.{endingOf, Pass, risingAt, nestedAt, decided}
+use Rattle.record.specs.Inside.{endingOf, Pass, risingAt, nestedAt, decided}
 use Rattle.record.proofs.Answers.{decided-nested, decided-refused, decided-given}
 use Rattle.record.proofs.Passes.{passes-decide}
 use Rattle.record.proofs.read_sets.Statement.{statement}
@@ -20,17 +20,17 @@ use Rattle.record.proofs.read_sets.Tie as tie
 mark-sets-requires : tie.Need-mark-sets-requires
 mark-sets-requires c κs = search needs
 
-slice-aggregate-carried : tie.Need-slice-aggregate-carried
-slice-aggregate-carried c = search needs
+slice-aggregate-spread : tie.Need-slice-aggregate-spread
+slice-aggregate-spread c = search needs
 
-carried-requires : tie.Need-carried-requires
-carried-requires c κs = search needs
+spread-requires : tie.Need-spread-requires
+spread-requires c κs = search needs
 
-slice-aggregate-trimmed : tie.Need-slice-aggregate-trimmed
-slice-aggregate-trimmed c = search needs
+slice-aggregate-irredundant : tie.Need-slice-aggregate-irredundant
+slice-aggregate-irredundant c = search needs
 
-trimmed-requires : tie.Need-trimmed-requires
-trimmed-requires c κs = search needs
+irredundant-requires : tie.Need-irredundant-requires
+irredundant-requires c κs = search needs
 
 slice-aggregate-first-nested : tie.Need-slice-aggregate-first-nested
 slice-aggregate-first-nested c = search needs
@@ -50,8 +50,8 @@ passes c =
     let k = min (a .n) 16 in
     let p : Pass = risingAt (now (a .bytes)) (a .n) (a .count) [] (a .start) in
     let marked = marks .mark-sets .ensures in
-    let reached = c .before .before .before .before .carried .ensures ∙ ap (λ (m : Marked). wordsOf (spread k (inWords (m .words)))) marked in
-    let minimal = c .before .before .trimmed .ensures ∙ ap (λ (w : List ℕ). wordsOf (trimmed k (inWords w))) reached in
+    let reached = c .before .before .before .before .spread .ensures ∙ ap (λ (m : Marked). wordsOf (spread k (inWords (m .words)))) marked in
+    let minimal = c .before .before .irredundant .ensures ∙ ap (λ (w : List ℕ). wordsOf (irredundant k (inWords w))) reached in
     passes-decide (now (a .bytes)) (a .n) (a .count) (a .start) (marks .before .before .pre)
     ∙ ap (λ (v : Verdict). decided v p)
     (sym (c .first-nested .ensures ∙ ap₂ (λ (w : List ℕ) (r : ℕ). nestedAt (now (a .bytes)) (inWords w) r (a .start)) minimal (ap (λ (m : Marked). m .read) marked)))
@@ -91,10 +91,10 @@ read-sets-spec =
     tie.close
     (tie.spec
     mark-sets-requires
-    slice-aggregate-carried
-    carried-requires
-    slice-aggregate-trimmed
-    trimmed-requires
+    slice-aggregate-spread
+    spread-requires
+    slice-aggregate-irredundant
+    irredundant-requires
     slice-aggregate-first-nested
     first-nested-requires
     enum-known-nested

@@ -70,11 +70,11 @@ returns c =
 mark-sets-requires : tie.Need-mark-sets-requires
 mark-sets-requires c κs = read (c .before .before .before) .accepted .few
 
-slice-aggregate-carried : tie.Need-slice-aggregate-carried
-slice-aggregate-carried c = search needs
+slice-aggregate-spread : tie.Need-slice-aggregate-spread
+slice-aggregate-spread c = search needs
 
-carried-requires : tie.Need-carried-requires
-carried-requires c κs = search needs
+spread-requires : tie.Need-spread-requires
+spread-requires c κs = search needs
 
 slice-aggregate-store : tie.Need-slice-aggregate-store
 slice-aggregate-store c = search needs
@@ -117,7 +117,7 @@ returns-3 c =
     let long : needed ≡ tableLength n = counted (fits .before) in
     let whole : needed ≡ length result = long ∙ ap tableLength (r .count) ∙ sym (tableOf-length (d .parts .count) (listed (d .sets))) in
     let marked = ap (λ (m : Marked). m .words) (marks .mark-sets .ensures) ∙ ap (λ (l : List ℕ). wordsOf (among l)) (r .marks) in
-    let reached = stored .before .before .before .carried .ensures ∙ ap (λ (ws : List ℕ). wordsOf (spread (min n 16) (inWords ws))) marked in
+    let reached = stored .before .before .before .spread .ensures ∙ ap (λ (ws : List ℕ). wordsOf (spread (min n 16) (inWords ws))) marked in
     let bytes =
     stored .store .ensures
     ∙ ap₂ (λ (k : ℕ) (ws : List ℕ). tabulate k (λ b. packed 8 (λ i. inWords ws (8 * b + i)))) (length-take-le needed table (fits .if1 .left) ∙ long) reached
@@ -135,8 +135,8 @@ table-of-record-spec =
     short-requires
     returns
     mark-sets-requires
-    slice-aggregate-carried
-    carried-requires
+    slice-aggregate-spread
+    spread-requires
     slice-aggregate-store
     slice-relend-prefix-store
     slice-aggregate-store-2

@@ -6,7 +6,7 @@ use denote.Ref.{now}
 use lib.ListN.{length}
 use Rattle.answer.specs.declared.Verdict.the-variants.{Accepted}
 use Rattle.record_parts.specs.declared.Changed.{Changed}
-use Rattle.record_parts.specs.Changes.{added}
+use Rattle.record_parts.specs.Changes.{partAdded}
 use Rattle.record_lines.specs.Changes.{addPart, changeRefusal}
 use Rattle.record_changes.proofs.Answers.{DesignOpened, opened-design, opened-refused, sets-front, sets-counted, sets-few, sets-room, change-refused, change-rules, change-made, add-refused, add-made}
 use borrow.Author.Needs.{needs}
@@ -20,8 +20,8 @@ read c =
     opened-design (now (w .before .before .before .args .bytes)) (w .open-record .result) (w .open-record .ensures) (λ i. omega (arith, w .before .before .shared-slice-known .given i)) (c .enum-told .given .1)
 
 -- the part list's answer is that of the design's
-list-changed : (c : tie.After-add) → c .add .result ≡ added (read (c .before .before) .d .parts)
-list-changed c = c .add .ensures ∙ ap added (read (c .before .before) .list)
+list-changed : (c : tie.After-add) → c .add .result ≡ partAdded (read (c .before .before) .d .parts)
+list-changed c = c .add .ensures ∙ ap partAdded (read (c .before .before) .list)
 
 made : (c : tie.After-enum-told2) → changeRefusal addPart (read (c .before .before .before .before) .d) ≡ Accepted
 made c =

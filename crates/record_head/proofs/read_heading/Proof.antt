@@ -4,7 +4,7 @@ use mathlib.Core.Path.{_≡_, sym, ap, _∙_}
 use denote.Ref.{now}
 use borrow.Author.Needs.{needs}
 use Rattle.record_head.specs.Headings.{found, partsAt, headingOf}
-use Rattle.record_head.specs.Steps.{asRead}
+use Rattle.record_head.specs.Inside.{asRead}
 use Rattle.record_head.proofs.Answers.{parts-given, parts-refused, head-no-parts, head-no-count, head-given}
 use Rattle.record_head.proofs.read_heading.Statement.{statement}
 use Rattle.record_head.proofs.read_heading.Tie as tie

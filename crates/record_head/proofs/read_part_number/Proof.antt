@@ -6,7 +6,7 @@ use borrow.Author.Needs.{needs}
 use Rattle.answer.specs.Refusals.{wrongPartNumber}
 use Rattle.answer.specs.Outcome.{at}
 use Rattle.answer.proofs.Outcomes.{refuse-held, refuse-passed}
-use Rattle.record_head.specs.Steps.{asRead}
+use Rattle.record_head.specs.Inside.{asRead}
 use Rattle.record_head.specs.Headings.{partNumberRefusal}
 use Rattle.record_head.proofs.Found.{field-ended, field-passed, field-held}
 use Rattle.record_head.proofs.read_part_number.Statement.{statement}

@@ -12,7 +12,7 @@ use lib.ListN.{length}
 use Rattle.answer.specs.declared.Verdict.the-variants.{Accepted}
 use Rattle.record_parts.specs.PartLists.{listOf}
 use Rattle.record_head.specs.Headings.{Read, found, then}
-use Rattle.record_head.specs.Steps.{asRead, partsOf}
+use Rattle.record_head.specs.Inside.{asRead, partsOf}
 use Rattle.record_head.proofs.PartWalk.{NumbersWalk, numbers-walk-none, numbers-walk-more, numbers-walk-refused, numbers-walk-end}
 use Rattle.record_head.proofs.read_part_numbers.Statement.{statement}
 use Rattle.record_head.proofs.read_part_numbers.Tie as tie

@@ -4,7 +4,7 @@ use mathlib.Core.Path.{_≡_, refl, sym, ap, _∙_}
 use denote.Ref.{now}
 use borrow.Author.Needs.{needs}
 use Rattle.record_head.specs.Headings.{found, fieldAt, partCountRefusal, markRefusal}
-use Rattle.record_head.specs.Steps.{asRead, partsOf}
+use Rattle.record_head.specs.Inside.{asRead, partsOf}
 use Rattle.record_head.proofs.Found.{field-ended, field-passed}
 use Rattle.record_head.proofs.PartNumbers.{count-few, parts-no-count, parts-no-mark, parts-numbers}
 use Rattle.record_head.proofs.read_parts.Statement.{statement}

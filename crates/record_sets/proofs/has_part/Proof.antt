@@ -19,14 +19,14 @@ returns c =
     let small : a .set < 2 ^ 16 = omega arith in
     sym (has-above (a .set) 16 (a .index) small (c .if1 .taken))
 
-power-requires : tie.Need-power-requires
-power-requires c κs = search needs
+power-of-two-requires : tie.Need-power-of-two-requires
+power-of-two-requires c κs = search needs
 
 -- the unit of the index
-whole : (c : tie.After-power) → c .power .result ≡ 2 ^ (c .before .before .args .index)
+whole : (c : tie.After-power-of-two) → c .power-of-two .result ≡ 2 ^ (c .before .before .args .index)
 whole c =
     let index = c .before .before .args .index in
-    c .power .ensures ∙ upTo16-given index (2 ^ index) (omega (arith, c .before .if1 .left))
+    c .power-of-two .ensures ∙ upTo16-given index (2 ^ index) (omega (arith, c .before .if1 .left))
 
 div-result : tie.Need-div-result
 div-result c = omega (arith, whole c, pow-pos (c .before .before .args .index))
@@ -36,4 +36,4 @@ unfolding has
 returns-2 c = ap (λ (unit : ℕ). eqb (c .before .before .args .set / unit % 2) 1) (whole c)
 
 pub has-part-spec : {M : Type 1} → statement M
-has-part-spec = tie.close (tie.spec returns power-requires div-result returns-2)
+has-part-spec = tie.close (tie.spec returns power-of-two-requires div-result returns-2)

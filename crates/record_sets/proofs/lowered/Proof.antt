@@ -13,18 +13,18 @@ use Rattle.record_sets.proofs.lowered.Statement.{statement}
 use Rattle.record_sets.proofs.lowered.Tie as tie
 
 -- the unit of the index
-whole : (c : tie.After-power) → c .power .result ≡ 2 ^ (c .before .before .args .index)
+whole : (c : tie.After-power-of-two) → c .power-of-two .result ≡ 2 ^ (c .before .before .args .index)
 whole c =
     let index = c .before .before .args .index in
-    c .power .ensures ∙ upTo16-given index (2 ^ index) (omega (arith, c .before .if1 .left))
+    c .power-of-two .ensures ∙ upTo16-given index (2 ^ index) (omega (arith, c .before .if1 .left))
 
 -- the two parts
-parts : (c : tie.After-power) → (lowered (c .before .before .args .index) (c .before .before .args .set)
-    ≡ c .before .before .args .set / (2 * c .power .result) * c .power .result + c .before .before .args .set % c .power .result)
-    × (c .before .before .args .set / (2 * c .power .result) * c .power .result + c .before .before .args .set % c .power .result ≤ c .before .before .args .set)
-parts c = lowered-parts (c .before .before .args .index) (c .before .before .args .set) (c .power .result) (whole c)
+parts : (c : tie.After-power-of-two) → (lowered (c .before .before .args .index) (c .before .before .args .set)
+    ≡ c .before .before .args .set / (2 * c .power-of-two .result) * c .power-of-two .result + c .before .before .args .set % c .power-of-two .result)
+    × (c .before .before .args .set / (2 * c .power-of-two .result) * c .power-of-two .result + c .before .before .args .set % c .power-of-two .result ≤ c .before .before .args .set)
+parts c = lowered-parts (c .before .before .args .index) (c .before .before .args .set) (c .power-of-two .result) (whole c)
 
-unit : (c : tie.After-power) → (0 < c .power .result) × (c .power .result < 65536)
+unit : (c : tie.After-power-of-two) → (0 < c .power-of-two .result) × (c .power-of-two .result < 65536)
 unit c =
     let e = whole c in
     let index = c .before .before .args .index in
@@ -37,8 +37,8 @@ returns c =
     let small : a .set < 2 ^ 16 = omega arith in
     sym (lowered-beyond (a .index) (a .set) (lt-of-lt-of-le small (pow-mono (c .if1 .taken))))
 
-power-requires : tie.Need-power-requires
-power-requires c κs = search needs
+power-of-two-requires : tie.Need-power-of-two-requires
+power-of-two-requires c κs = search needs
 
 mul-result : tie.Need-mul-result
 mul-result c = omega (arith, unit c)
@@ -66,7 +66,7 @@ lowered-spec =
     tie.close
     (tie.spec
     returns
-    power-requires
+    power-of-two-requires
     mul-result
     div-result
     mul-result-2

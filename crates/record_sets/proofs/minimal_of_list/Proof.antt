@@ -10,7 +10,7 @@ use Rattle.answer.specs.declared.Verdict.the-variants.{Accepted}
 use Rattle.answer.proofs.Deliveries.{refused-kept}
 use Rattle.theory_sets.specs.Structures.{listed, minimalSets}
 use Rattle.structure.specs.Checks.{listRefusal}
-use Rattle.record_sets.specs.Steps.{leastOf}
+use Rattle.record_sets.specs.Inside.{leastOf}
 use Rattle.record_sets.proofs.ListSets.{sets-walk, list-some}
 use borrow.Author.Needs.{needs}
 use Rattle.record_sets.proofs.minimal_of_list.Statement.{statement}

@@ -7,20 +7,20 @@ use denote.Ref.{now}
 use Rattle.answer.specs.Outcome.{delivered}
 use Rattle.answer.specs.declared.Verdict.the-variants.{Accepted}
 use Rattle.theory_sets.specs.Masks.{those}
-use Rattle.structure_closure.specs.Closure.{trimmed}
+use Rattle.structure_closure.specs.Closure.{irredundant}
 use Rattle.structure_words.specs.Words.{inWords, wordsOf}
 use borrow.Author.Needs.{needs}
 use Rattle.record_sets.proofs.minimal_of_marks.Statement.{statement}
 use Rattle.record_sets.proofs.minimal_of_marks.Tie as tie
 
-carried-requires : tie.Need-carried-requires
-carried-requires c κs = search needs
+spread-requires : tie.Need-spread-requires
+spread-requires c κs = search needs
 
-slice-aggregate-trimmed : tie.Need-slice-aggregate-trimmed
-slice-aggregate-trimmed c = search needs
+slice-aggregate-irredundant : tie.Need-slice-aggregate-irredundant
+slice-aggregate-irredundant c = search needs
 
-trimmed-requires : tie.Need-trimmed-requires
-trimmed-requires c κs = search needs
+irredundant-requires : tie.Need-irredundant-requires
+irredundant-requires c κs = search needs
 
 slice-aggregate-list : tie.Need-slice-aggregate-list
 slice-aggregate-list c = search needs
@@ -39,15 +39,15 @@ returns c =
     let a = reached .before .before .before .args in
     listed .list .ensures
     ∙ ap (λ (ws : List ℕ). delivered Accepted (those (inWords ws) 65536) (now (a .sets)))
-    (least .trimmed .ensures ∙ ap (λ (ws : List ℕ). wordsOf (trimmed (min (a .n) 16) (inWords ws))) (reached .carried .ensures))
+    (least .irredundant .ensures ∙ ap (λ (ws : List ℕ). wordsOf (irredundant (min (a .n) 16) (inWords ws))) (reached .spread .ensures))
 
 pub minimal-of-marks-spec : {M : Type 1} → statement M
 minimal-of-marks-spec =
     tie.close
     (tie.spec
-    carried-requires
-    slice-aggregate-trimmed
-    trimmed-requires
+    spread-requires
+    slice-aggregate-irredundant
+    irredundant-requires
     slice-aggregate-list
     list-requires
     same-length

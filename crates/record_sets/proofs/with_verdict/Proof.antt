@@ -31,14 +31,14 @@ enum-told c = search needs
 accepted : (c : tie.After-enum-told) → listRefusal (c .before .before .before .before .args .n) (now (c .before .before .before .before .args .list)) ≡ Accepted
 accepted c = sym (c .before .before .list-verdict .ensures) ∙ c .enum-told .given .1
 
-power-requires : tie.Need-power-requires
-power-requires c κs = search needs
+power-of-two-requires : tie.Need-power-of-two-requires
+power-of-two-requires c κs = search needs
 
 -- the power of 2 that a set of n parts stays below
-whole : (c : tie.After-power) → c .power .result ≡ 2 ^ (c .before .before .before .before .before .args .n)
+whole : (c : tie.After-power-of-two) → c .power-of-two .result ≡ 2 ^ (c .before .before .before .before .before .args .n)
 whole c =
     let a = c .before .before .before .before .before .args in
-    c .power .ensures ∙ upTo16-given (a .n) (2 ^ (a .n)) (accepted-list (a .n) (now (a .list)) (accepted (c .before)) .few)
+    c .power-of-two .ensures ∙ upTo16-given (a .n) (2 ^ (a .n)) (accepted-list (a .n) (now (a .list)) (accepted (c .before)) .few)
 
 known : (c : tie.Else1) → c .before .before .before .before .before .before .args .set < 2 ^ (c .before .before .before .before .before .before .args .n)
 known c = subst (λ (k : ℕ). c .before .before .before .before .before .before .args .set < k) (whole (c .before)) (c .if1 .left)
@@ -78,7 +78,7 @@ with-verdict-spec =
     enum-known-verdict
     returns
     enum-told
-    power-requires
+    power-of-two-requires
     refused-requires
     returns-2
     refused-requires-2

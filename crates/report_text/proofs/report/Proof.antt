@@ -17,7 +17,7 @@ use Rattle.record.specs.Records.{Design}
 use Rattle.record.proofs.MinimalSets.{design-table}
 use Rattle.report_text.specs.Reports.{reportOf}
 use Rattle.report_text.specs.Reporting.{handedOut, reportedRead, reported}
-use Rattle.report_text.specs.Steps.{tableText}
+use Rattle.report_text.specs.Inside.{tableText}
 use Rattle.answer.proofs.Forms.{Wrote, wrote-first, wrote-same, wrote-front, wrote-inside}
 use Rattle.report_text.proofs.Figures.{design-text}
 use Rattle.report_text.proofs.Built.{designTable, Built, built-given, built-refused, design-in}

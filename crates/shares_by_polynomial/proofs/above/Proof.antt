@@ -6,7 +6,7 @@ use mir.Facts.{toZ-ofZ}
 use mir.Syntax.{w64}
 use borrow.Author.Needs.{needs}
 use Rattle.integers.proofs.Signs.{less-found, whole-found}
-use Rattle.shares_by_polynomial.specs.Steps.{above}
+use Rattle.shares_by_polynomial.specs.Inside.{above}
 use Rattle.shares_by_polynomial.proofs.above.Statement.{statement}
 use Rattle.shares_by_polynomial.proofs.above.Tie as tie
 

@@ -6,7 +6,7 @@ use mir.Facts.{toZ-ofZ}
 use mir.Syntax.{w64}
 use borrow.Author.Needs.{needs}
 use Rattle.integers.proofs.Signs.{less-found, whole-found}
-use Rattle.shares_by_polynomial.specs.Steps.{below}
+use Rattle.shares_by_polynomial.specs.Inside.{below}
 use Rattle.shares_by_polynomial.proofs.below.Statement.{statement}
 use Rattle.shares_by_polynomial.proofs.below.Tie as tie
 

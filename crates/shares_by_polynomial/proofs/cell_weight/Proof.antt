@@ -7,7 +7,7 @@ use native.Mathlib.Omega.{arith}
 use borrow.Author.Needs.{needs}
 use Rattle.numbers.specs.Counts.{choose}
 use Rattle.numbers.proofs.Counts.{upTo16-given}
-use Rattle.shares_by_polynomial.specs.Steps.{cellWeight}
+use Rattle.shares_by_polynomial.specs.Inside.{cellWeight}
 use Rattle.shares_by_polynomial.proofs.FromCells.{factors-few, cellWeight-few}
 use Rattle.shares_by_polynomial.proofs.cell_weight.Statement.{statement}
 use Rattle.shares_by_polynomial.proofs.cell_weight.Tie as tie

@@ -4,7 +4,7 @@ use native.Mathlib.Omega.{arith}
 use borrow.Author.Needs.{needs}
 use Rattle.numbers.specs.Tables.{tabulate}
 use Rattle.numbers.proofs.Tables.{tabulate-at}
-use Rattle.shares_claim.specs.Steps.{common}
+use Rattle.shares_claim.specs.Inside.{common}
 use Rattle.shares_by_polynomial.proofs.common.Statement.{statement}
 use Rattle.shares_by_polynomial.proofs.common.Tie as tie
 

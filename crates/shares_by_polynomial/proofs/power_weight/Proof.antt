@@ -6,7 +6,7 @@ use native.Mathlib.Omega.{arith}
 use borrow.Author.Needs.{needs}
 use Rattle.numbers.specs.Counts.{choose}
 use Rattle.numbers.proofs.Counts.{upTo16-given}
-use Rattle.shares_claim.specs.Steps.{powerWeight}
+use Rattle.shares_claim.specs.Inside.{powerWeight}
 use Rattle.shares_by_polynomial.proofs.FromCells.{divisor-some, divisor-few}
 use Rattle.shares_by_polynomial.proofs.power_weight.Statement.{statement}
 use Rattle.shares_by_polynomial.proofs.power_weight.Tie as tie

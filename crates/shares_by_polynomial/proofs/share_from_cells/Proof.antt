@@ -18,9 +18,9 @@ use Rattle.numbers.proofs.Counts.{upTo16-given}
 use Rattle.integers.proofs.Differences.{difference-small}
 use Rattle.theory_sums.specs.Sums.{sumBelow, sumBelowℤ}
 use Rattle.shares_claim.specs.Shares.{rowLength, inCells}
-use Rattle.shares_claim.specs.Steps.{common}
+use Rattle.shares_claim.specs.Inside.{common}
 use Rattle.theory_sums.proofs.Sums.{sumBelow-prefix}
-use Rattle.shares_by_polynomial.specs.Steps.{above, below, cellWeight, shareOfCells}
+use Rattle.shares_by_polynomial.specs.Inside.{above, below, cellWeight, shareOfCells}
 use Rattle.shares_claim.proofs.Sums.{carried-none, carried-more, row-below, place-below}
 use Rattle.shares_by_polynomial.proofs.FromCells.{common-some, factorial-small, cellTerm, cellSize, cells-most, taken-fewer, share-number, next-row, cell-apart, cell-size}
 use Rattle.shares_by_polynomial.proofs.share_from_cells.Statement.{statement}

@@ -11,7 +11,7 @@ use Rattle.theory_sets.proofs.Bools.{not-not}
 use Rattle.structure_words.specs.Words.{inWords}
 use Rattle.shares_claim.specs.Shares.{inside}
 use Rattle.shares_group.proofs.Gathering.{gathered-skip, gathered-add}
-use Rattle.shares_by_sets.specs.Steps.{addedBy, takenBy}
+use Rattle.shares_by_sets.specs.Inside.{addedBy, takenBy}
 use Rattle.shares_by_sets.proofs.Sets.{inside-few, addedBy-few, takenBy-few}
 use Rattle.shares_by_sets.proofs.add_set.Statement.{statement}
 use Rattle.shares_by_sets.proofs.add_set.Tie as tie

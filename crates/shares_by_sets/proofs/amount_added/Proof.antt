@@ -7,7 +7,7 @@ use denote.Ref.{now}
 use lib.Count.{ones-le}
 use lib.ListN.{getD}
 use borrow.Author.Needs.{needs}
-use Rattle.shares_by_sets.specs.Steps.{addedBy}
+use Rattle.shares_by_sets.specs.Inside.{addedBy}
 use Rattle.shares_by_sets.proofs.Sets.{addedBy-few, listed-weight}
 use Rattle.shares_by_sets.proofs.amount_added.Statement.{statement}
 use Rattle.shares_by_sets.proofs.amount_added.Tie as tie

@@ -8,7 +8,7 @@ use lib.Count.{ones-le}
 use lib.ListN.{getD}
 use borrow.Author.Needs.{needs}
 use Rattle.shares_claim.proofs.Types.{inside-most}
-use Rattle.shares_by_sets.specs.Steps.{takenBy}
+use Rattle.shares_by_sets.specs.Inside.{takenBy}
 use Rattle.shares_by_sets.proofs.Sets.{takenBy-few, listed-weight}
 use Rattle.shares_by_sets.proofs.amount_taken.Statement.{statement}
 use Rattle.shares_by_sets.proofs.amount_taken.Tie as tie

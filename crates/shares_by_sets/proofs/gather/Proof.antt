@@ -14,9 +14,9 @@ use Rattle.numbers.proofs.Counts.{upTo16-given}
 use Rattle.numbers.proofs.Tables.{tabulate-length}
 use Rattle.structure_words.specs.Words.{inWords}
 use Rattle.shares_claim.specs.Shares.{inside}
-use Rattle.shares_group.specs.Steps.{gathered}
+use Rattle.shares_group.specs.Inside.{gathered}
 use Rattle.shares_group.proofs.Gathering.{gathered-none}
-use Rattle.shares_by_sets.specs.Steps.{addedBy, takenBy}
+use Rattle.shares_by_sets.specs.Inside.{addedBy, takenBy}
 use Rattle.shares_by_sets.proofs.gather.Statement.{statement}
 use Rattle.shares_by_sets.proofs.gather.Tie as tie
 
@@ -31,14 +31,14 @@ Inv-loop n words group weights added₀ taken₀ end a₀ added taken a =
 abbrev μ-loop : tie.MeasureT-loop
 μ-loop n words group weights added₀ taken₀ end a₀ added taken a = end - a
 
-power-requires : tie.Need-power-requires Inv-loop μ-loop
-power-requires c κs = search needs
+power-of-two-requires : tie.Need-power-of-two-requires Inv-loop μ-loop
+power-of-two-requires c κs = search needs
 
 loop-holds : tie.Need-loop-holds Inv-loop μ-loop
 loop-holds c =
     let start = c .before .before .before .before in
     let a = start .args in (
-      c .power .ensures ∙ upTo16-given (a .n) (2 ^ (a .n)) (start .pre .0),
+      c .power-of-two .ensures ∙ upTo16-given (a .n) (2 ^ (a .n)) (start .pre .0),
       (
         omega arith,
         (
@@ -104,7 +104,7 @@ gather-spec =
     (tie.spec
     Inv-loop
     μ-loop
-    power-requires
+    power-of-two-requires
     loop-holds
     add-set-requires
     add-a

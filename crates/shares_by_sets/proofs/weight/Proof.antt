@@ -6,7 +6,7 @@ use native.Mathlib.Omega.{arith}
 use borrow.Author.Needs.{needs}
 use Rattle.numbers.specs.Counts.{factorial}
 use Rattle.numbers.proofs.Counts.{upTo16-given}
-use Rattle.shares_by_sets.specs.Steps.{weight}
+use Rattle.shares_by_sets.specs.Inside.{weight}
 use Rattle.shares_by_sets.proofs.Sets.{weight-few, weight-none, weight-above, weight-size}
 use Rattle.shares_by_sets.proofs.weight.Statement.{statement}
 use Rattle.shares_by_sets.proofs.weight.Tie as tie

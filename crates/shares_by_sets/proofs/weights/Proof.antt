@@ -4,7 +4,7 @@ use mathlib.Core.Path.{_≡_, refl}
 use Prim.Native.Nat.{_-_, _≤_}
 use native.Mathlib.Omega.{arith}
 use Rattle.numbers.proofs.Tables.{filled, filled-none, filled-again, filled-end}
-use Rattle.shares_by_sets.specs.Steps.{weight}
+use Rattle.shares_by_sets.specs.Inside.{weight}
 use borrow.Author.Needs.{needs}
 use Rattle.shares_by_sets.proofs.weights.Statement.{statement}
 use Rattle.shares_by_sets.proofs.weights.Tie as tie

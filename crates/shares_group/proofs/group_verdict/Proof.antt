@@ -34,14 +34,14 @@ returns c =
     let a = told .before .before .before .before .args in
     c .refused .ensures ∙ sym (group-empty (a .n) (now (a .table)) (a .group) (verdict told) (c .before .if1 .taken))
 
-power-requires : tie.Need-power-requires
-power-requires c κs = search needs
+power-of-two-requires : tie.Need-power-of-two-requires
+power-of-two-requires c κs = search needs
 
 -- 2^n, as the call gives it
-powered-is : (c : tie.After-power) → c .power .result ≡ 2 ^ (c .before .before .before .before .before .before .args .n)
+powered-is : (c : tie.After-power-of-two) → c .power-of-two .result ≡ 2 ^ (c .before .before .before .before .before .before .args .n)
 powered-is c =
     let a = c .before .before .before .before .before .before .args in
-    c .power .ensures ∙ upTo16-given (a .n) (2 ^ (a .n)) (accepted-table (a .n) (now (a .table)) (verdict (c .before .before)) .few)
+    c .power-of-two .ensures ∙ upTo16-given (a .n) (2 ^ (a .n)) (accepted-table (a .n) (now (a .table)) (verdict (c .before .before)) .few)
 
 refused-requires-2 : tie.Need-refused-requires-2
 refused-requires-2 c κs = search needs
@@ -79,7 +79,7 @@ group-verdict-spec =
     enum-told
     refused-requires
     returns
-    power-requires
+    power-of-two-requires
     refused-requires-2
     returns-2
     returns-3

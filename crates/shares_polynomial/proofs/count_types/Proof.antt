@@ -13,8 +13,8 @@ use Rattle.numbers.specs.Tables.{tabulate}
 use Rattle.numbers.proofs.Counts.{upTo16-given}
 use Rattle.numbers.proofs.Tables.{tabulate-length}
 use Rattle.structure_words.specs.Words.{inWords}
-use Rattle.shares_group.specs.Steps.{gathered}
-use Rattle.shares_polynomial.specs.Steps.{typeOf}
+use Rattle.shares_group.specs.Inside.{gathered}
+use Rattle.shares_polynomial.specs.Inside.{typeOf}
 use Rattle.shares_polynomial.proofs.count_types.Statement.{statement}
 use Rattle.shares_polynomial.proofs.count_types.Tie as tie
 
@@ -25,14 +25,14 @@ Inv-loop n words group counts₀ end a₀ counts a =
 abbrev μ-loop : tie.MeasureT-loop
 μ-loop n words group counts₀ end a₀ counts a = end - a
 
-power-requires : tie.Need-power-requires Inv-loop μ-loop
-power-requires c κs = search needs
+power-of-two-requires : tie.Need-power-of-two-requires Inv-loop μ-loop
+power-of-two-requires c κs = search needs
 
 loop-holds : tie.Need-loop-holds Inv-loop μ-loop
 unfolding tabulate gathered sumBelow
 loop-holds c =
     let start = c .before .before in
-    (c .power .ensures ∙ upTo16-given (start .args .n) (2 ^ (start .args .n)) (start .pre .0), (omega arith, refl))
+    (c .power-of-two .ensures ∙ upTo16-given (start .args .n) (2 ^ (start .args .n)) (start .pre .0), (omega arith, refl))
 
 long : (c : tie.At-loop Inv-loop μ-loop) → length (c .loop .counts) ≡ 289
 long c = ap length (c .loop .inv .1 .1) ∙ tabulate-length 289 _
@@ -76,7 +76,7 @@ count-types-spec =
     (tie.spec
     Inv-loop
     μ-loop
-    power-requires
+    power-of-two-requires
     loop-holds
     slice-aggregate-add-type
     add-type-requires

@@ -7,7 +7,7 @@ use native.Mathlib.Omega.{arith}
 use borrow.Author.Needs.{needs}
 use Rattle.numbers.specs.Counts.{choose}
 use Rattle.numbers.proofs.Counts.{upTo16-given}
-use Rattle.shares_polynomial.specs.Steps.{typeTerm}
+use Rattle.shares_polynomial.specs.Inside.{typeTerm}
 use Rattle.shares_polynomial.proofs.Coefficients.{choose-few}
 use Rattle.shares_polynomial.proofs.type_term.Statement.{statement}
 use Rattle.shares_polynomial.proofs.type_term.Tie as tie

@@ -9,8 +9,8 @@ use lib.Seq.{length-take-le}
 use Rattle.answer.specs.Outcome.{delivered}
 use Rattle.answer.specs.declared.Verdict.{Verdict}
 use Rattle.answer.specs.declared.Verdict.the-variants.{Accepted}
-use Rattle.vector.specs.Held.{mostEntries, entriesOf, heldRefusal}
-use Rattle.vector.proofs.Held.{cells-all, accepted-few, held-same}
+use Rattle.vector.specs.InStruct.{mostEntries, entriesOf, structRefusal}
+use Rattle.vector.proofs.InStruct.{cells-all, accepted-few, held-same}
 use Rattle.sheet.specs.Sheets.{sheetBytes}
 use borrow.Author.Needs.{needs}
 use Rattle.sheet.proofs.sheet_of_vector.Statement.{statement}
@@ -20,7 +20,7 @@ use Rattle.sheet.proofs.sheet_of_vector.Tie as tie
 all : (c : tie.Start) → length (c .args .vector .entries) ≡ mostEntries
 all c = cells-all (c .args .vector) _ (c .good .0)
 
-accepted : (c : tie.After-enum-told) → heldRefusal (c .before .before .before .before .args .vector) ≡ Accepted
+accepted : (c : tie.After-enum-told) → structRefusal (c .before .before .before .before .args .vector) ≡ Accepted
 accepted c = sym (c .before .before .judge .ensures) ∙ c .enum-told .given .1
 
 inside : (c : tie.After-enum-told) → c .before .before .before .before .args .vector .length ≤ length (c .before .before .before .before .args .vector .entries)

@@ -9,12 +9,12 @@ use lib.IntN.{ℤ}
 use Rattle.answer.specs.Outcome.{at}
 use Rattle.answer.specs.Refusals.{shortBuffer}
 use Rattle.answer.specs.declared.Written.the-variants.{Length}
-use Rattle.vector.specs.Held.{entriesOf}
-use Rattle.sheet_entries.specs.Answers.{receivedOutcome, notReceived, received}
+use Rattle.vector.specs.InStruct.{entriesOf}
+use Rattle.sheet_entries.specs.Answers.{entriesOutcome, entriesRefused, entriesDelivered}
 use Rattle.sheet.specs.Sheets.{Sheet, sheetOf}
-use Rattle.sheet_entries.specs.declared.Received.{Received}
+use Rattle.sheet_entries.specs.declared.EntriesRead.{EntriesRead}
 use Rattle.sheet_reading.proofs.Reading.{GivenAs, sheet-given, sheet-refused}
-use Rattle.sheet_entries.proofs.Receiving.{received-short, received-long}
+use Rattle.sheet_entries.proofs.Delivering.{entriesDelivered-short, entriesDelivered-long}
 use borrow.Author.Needs.{needs}
 use Rattle.sheet_entries.proofs.read_sheet.Statement.{statement}
 use Rattle.sheet_entries.proofs.read_sheet.Tie as tie
@@ -29,14 +29,14 @@ vector-of-sheet-requires c κs = search needs
 enum-known-verdict : tie.Need-enum-known-verdict
 enum-known-verdict c = search needs
 
-not-received-requires : tie.Need-not-received-requires
-not-received-requires c κs = search needs
+entries-refused-requires : tie.Need-entries-refused-requires
+entries-refused-requires c κs = search needs
 
 enum-told : tie.Need-enum-told
 enum-told c = search needs
 
-not-received-requires-2 : tie.Need-not-received-requires-2
-not-received-requires-2 c κs = search needs
+entries-refused-requires-2 : tie.Need-entries-refused-requires-2
+entries-refused-requires-2 c κs = search needs
 
 returns : tie.Need-returns
 returns c =
@@ -45,10 +45,10 @@ returns c =
     let vector = told .before .before .vector-of-sheet .result .vector in
     let cells = now (a .cells) in
     let sheet = accepted told in
-    ap (λ (r : Received). receivedOutcome r cells) (c .not-received2 .ensures)
-    ∙ ap (λ (k : ℕ). notReceived (at shortBuffer k) cells) (sym (sheet .counted))
-    ∙ received-short (vector .kind) (vector .n) (entriesOf vector) cells (omega (arith, sheet .counted, c .before .if1 .taken))
-    ∙ sym (ap (λ (s : Sheet). received s cells) (sheet .given))
+    ap (λ (r : EntriesRead). entriesOutcome r cells) (c .entries-refused2 .ensures)
+    ∙ ap (λ (k : ℕ). entriesRefused (at shortBuffer k) cells) (sym (sheet .counted))
+    ∙ entriesDelivered-short (vector .kind) (vector .n) (entriesOf vector) cells (omega (arith, sheet .counted, c .before .if1 .taken))
+    ∙ sym (ap (λ (s : Sheet). entriesDelivered s cells) (sheet .given))
 
 array-share-prefix-entries : tie.Need-array-share-prefix-entries
 array-share-prefix-entries c = accepted (c .before .before .before) .inside
@@ -65,8 +65,8 @@ returns-2 c =
     let read = told .before .before in
     let a = read .before .before .args in
     let cells = now (a .cells) in
-    ap (λ (r : Received). receivedOutcome r cells) (c .not-received .ensures)
-    ∙ sym (ap (λ (s : Sheet). received s cells) (sheet-refused (sheetOf (now (a .bytes))) (read .vector-of-sheet .result) _ (read .vector-of-sheet .ensures) (told .verdict .given .1)))
+    ap (λ (r : EntriesRead). entriesOutcome r cells) (c .entries-refused .ensures)
+    ∙ sym (ap (λ (s : Sheet). entriesDelivered s cells) (sheet-refused (sheetOf (now (a .bytes))) (read .vector-of-sheet .result) _ (read .vector-of-sheet .ensures) (told .verdict .given .1)))
 
 same-length : tie.Need-same-length
 same-length c = search needs
@@ -78,9 +78,9 @@ returns-3 c =
     let vector = told .before .before .vector-of-sheet .result .vector in
     let cells = now (a .cells) in
     let sheet = accepted told in
-    ap₂ (λ (k : ℕ) (l : List ℤ). receivedOutcome (record { kind = vector .kind; n = vector .n; answer = Length k }) l) (sym (sheet .counted)) (c .before .copy .ensures)
-    ∙ received-long (vector .kind) (vector .n) (entriesOf vector) cells (omega (arith, sheet .counted, c .before .before .before .before .before .if1 .left))
-    ∙ sym (ap (λ (s : Sheet). received s cells) (sheet .given))
+    ap₂ (λ (k : ℕ) (l : List ℤ). entriesOutcome (record { kind = vector .kind; n = vector .n; answer = Length k }) l) (sym (sheet .counted)) (c .before .copy .ensures)
+    ∙ entriesDelivered-long (vector .kind) (vector .n) (entriesOf vector) cells (omega (arith, sheet .counted, c .before .before .before .before .before .if1 .left))
+    ∙ sym (ap (λ (s : Sheet). entriesDelivered s cells) (sheet .given))
 
 pub read-sheet-spec : {M : Type 1} → statement M
 read-sheet-spec =
@@ -88,9 +88,9 @@ read-sheet-spec =
     (tie.spec
     vector-of-sheet-requires
     enum-known-verdict
-    not-received-requires
+    entries-refused-requires
     enum-told
-    not-received-requires-2
+    entries-refused-requires-2
     returns
     array-share-prefix-entries
     slice-aggregate-copy

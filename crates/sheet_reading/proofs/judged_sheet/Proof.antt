@@ -12,7 +12,7 @@ use Rattle.answer.specs.Outcome.{refuse, andThen}
 use Rattle.answer.specs.Refusals.{bytesLeft}
 use Rattle.answer.specs.declared.Verdict.{Verdict}
 use Rattle.answer.specs.declared.Verdict.the-variants.{Accepted}
-use Rattle.vector.specs.Held.{mostEntries, entriesOf}
+use Rattle.vector.specs.InStruct.{mostEntries, entriesOf}
 use Rattle.vector_conversion.specs.Vectors.{countsRefusal}
 use Rattle.sheet_reading.specs.Answers.{sheetRead}
 use Rattle.sheet.specs.Sheets.{Given, judged}

@@ -13,12 +13,12 @@ use mir.Syntax.{w64}
 use borrow.Author.Tests.{le-ltb}
 use Rattle.codec.specs.declared.Field.the-variants as field
 use Rattle.codec.proofs.WriteAfterRead.{read-form}
-use Rattle.vector.specs.Held.{entryCells}
+use Rattle.vector.specs.InStruct.{entryCells}
 use Rattle.vector_conversion.specs.Vectors.{countsRefusal, vectorRefusal}
 use Rattle.sheet_reading.specs.Answers.{sheetRead}
 use borrow.Author.Needs.{needs}
 use Rattle.vector_kind.specs.Kinds.{lengthOf}
-use Rattle.sheet_reading.specs.Steps.{ended}
+use Rattle.sheet_reading.specs.Inside.{ended}
 use Rattle.sheet.proofs.Codes.{length-few}
 use Rattle.sheet_reading.proofs.Walk.{EntriesWalk, walk-none, walk-more, walk-refused, walk-end, entries-held, vector-counts}
 use Rattle.sheet_reading.proofs.read_entries.Statement.{statement}

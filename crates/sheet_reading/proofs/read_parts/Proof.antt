@@ -15,7 +15,7 @@ use Rattle.codec.specs.declared.Reading.{Reading}
 use Rattle.vector_kind.specs.declared.Kind.{Kind}
 use Rattle.sheet_reading.specs.Answers.{sheetRead}
 use Rattle.sheet.specs.Sheets.{Refused, refuse, afterNumber}
-use Rattle.sheet_reading.specs.Steps.{entered, numbered}
+use Rattle.sheet_reading.specs.Inside.{entered, numbered}
 use borrow.Author.Needs.{needs}
 use Rattle.sheet_reading.proofs.read_parts.Statement.{statement}
 use Rattle.sheet_reading.proofs.read_parts.Tie as tie

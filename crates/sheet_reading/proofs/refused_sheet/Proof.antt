@@ -2,7 +2,7 @@
 -- Assumes nothing.
 use mathlib.Core.Path.{ap}
 use Rattle.answer.specs.declared.Verdict.{Verdict}
-use Rattle.vector.specs.Held.{noVector}
+use Rattle.vector.specs.InStruct.{noVector}
 use Rattle.sheet_reading.specs.declared.SheetRead.{SheetRead}
 use borrow.Author.Needs.{needs}
 use Rattle.sheet_reading.proofs.refused_sheet.Statement.{statement}

@@ -16,7 +16,7 @@ use Rattle.vector_kind.specs.Kinds.{isKind, kindOf}
 use Rattle.vector_kind.specs.declared.Kind.{Kind}
 use Rattle.sheet_reading.specs.Answers.{sheetRead}
 use Rattle.sheet.specs.Sheets.{Refused, refuse, afterNumber, sheetOf}
-use Rattle.sheet_reading.specs.Steps.{numbered, kinded}
+use Rattle.sheet_reading.specs.Inside.{numbered, kinded}
 use Rattle.sheet_reading.proofs.ReadSheet.{sheet-steps}
 use borrow.Author.Needs.{needs}
 use Rattle.sheet_reading.proofs.vector_of_sheet.Statement.{statement}

@@ -33,13 +33,13 @@ shared-slice-read-mask c = omega arith
 cast-mask : tie.Need-cast-mask Inv-loop μ-loop
 cast-mask c = omega (arith, c .shared-slice-known2 .given (c .before .before .loop .i))
 
-power-requires : tie.Need-power-requires Inv-loop μ-loop
-power-requires c κs = search needs
+power-of-two-requires : tie.Need-power-of-two-requires Inv-loop μ-loop
+power-of-two-requires c κs = search needs
 
-power-is : (c : tie.After-power Inv-loop μ-loop) → c .power .result ≡ 2 ^ (c .before .before .before .before .before .args .n)
+power-is : (c : tie.After-power-of-two Inv-loop μ-loop) → c .power-of-two .result ≡ 2 ^ (c .before .before .before .before .before .args .n)
 power-is c =
     let start = c .before .before .before .before .before in
-    c .power .ensures ∙ upTo16-given (start .args .n) _ (start .pre)
+    c .power-of-two .ensures ∙ upTo16-given (start .args .n) _ (start .pre)
 
 refused-requires : tie.Need-refused-requires Inv-loop μ-loop
 refused-requires c κs = search needs
@@ -103,7 +103,7 @@ entries-verdict-spec =
     mul-mask
     shared-slice-read-mask
     cast-mask
-    power-requires
+    power-of-two-requires
     refused-requires
     returns
     refused-requires-2

@@ -30,10 +30,10 @@ said words table a e h = sym (ap (λ (ws : List ℕ). inWords ws a) e ∙ inWord
 empty-is : (c : tie.After-works) → inTable (now (c .before .before .before .before .args .table)) 0 ≡ c .works .result
 empty-is c = said _ (now (c .before .before .before .before .args .table)) 0 (c .before .before .load .ensures) (omega arith) ∙ sym (c .works .ensures)
 
-power-is : (c : tie.After-power) → c .power .result ≡ 2 ^ (c .before .before .before .before .before .before .before .args .n)
+power-is : (c : tie.After-power-of-two) → c .power-of-two .result ≡ 2 ^ (c .before .before .before .before .before .before .before .args .n)
 power-is c =
     let start = c .before .before .before .before .before .before .before in
-    c .power .ensures ∙ upTo16-given (start .args .n) _ (start .pre .0)
+    c .power-of-two .ensures ∙ upTo16-given (start .args .n) _ (start .pre .0)
 
 full-is : (c : tie.After-works2) → inTable (now (c .before .before .before .before .before .before .before .before .args .table)) (2 ^ (c .before .before .before .before .before .before .before .before .args .n) - 1) ≡ c .works2 .result
 full-is c =
@@ -67,8 +67,8 @@ returns c = c .refused .ensures ∙ sym (refuse-held _ emptySetWorks 0 _ (empty-
 slice-aggregate-works-2 : tie.Need-slice-aggregate-works-2
 slice-aggregate-works-2 c = search needs
 
-power-requires : tie.Need-power-requires
-power-requires c κs = search needs
+power-of-two-requires : tie.Need-power-of-two-requires
+power-of-two-requires c κs = search needs
 
 sub-works : tie.Need-sub-works
 sub-works c = subst (λ (x : ℕ). 1 ≤ x) (sym (power-is c)) (pow-pos (c .before .before .before .before .before .before .before .args .n))
@@ -125,7 +125,7 @@ structure-verdict-spec =
     refused-requires
     returns
     slice-aggregate-works-2
-    power-requires
+    power-of-two-requires
     sub-works
     works-requires-2
     refused-requires-2

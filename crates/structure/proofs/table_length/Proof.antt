@@ -12,8 +12,8 @@ use borrow.Author.Needs.{needs}
 use Rattle.structure.proofs.table_length.Statement.{statement}
 use Rattle.structure.proofs.table_length.Tie as tie
 
-power-requires : tie.Need-power-requires
-power-requires c κs = search needs
+power-of-two-requires : tie.Need-power-of-two-requires
+power-of-two-requires c κs = search needs
 
 returns : tie.Need-returns
 returns c = sym (upTo16-above (c .before .args .n) _ (c .if1 .taken))
@@ -28,8 +28,8 @@ returns-3 c =
     let n = c .before .before .before .args .n in
     let whole : 8 * tableLength n ≡ 2 ^ n = tableLength-large n (c .before .if2 .left) in
     let eights : 2 ^ n ≡ 2 ^ 3 * 2 ^ (n - 3) = ap (λ (k : ℕ). 2 ^ k) (sym (add-sub-of-le (c .before .if2 .left))) ∙ pow-add 2 3 (n - 3) in
-    let given : c .power .result ≡ 2 ^ (n - 3) = c .power .ensures ∙ upTo16-given (n - 3) _ (omega arith) in
+    let given : c .power-of-two .result ≡ 2 ^ (n - 3) = c .power-of-two .ensures ∙ upTo16-given (n - 3) _ (omega arith) in
     omega (arith, whole, eights, given) ∙ sym (upTo16-given n (tableLength n) (omega arith))
 
 pub table-length-spec : {M : Type 1} → statement M
-table-length-spec = tie.close (tie.spec returns power-requires returns-2 returns-3)
+table-length-spec = tie.close (tie.spec returns power-of-two-requires returns-2 returns-3)

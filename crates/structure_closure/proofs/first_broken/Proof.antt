@@ -12,7 +12,7 @@ use Rattle.theory_sets.specs.Masks.{meet}
 use Rattle.theory_sets.specs.Structures.{broken}
 use Rattle.theory_sets.proofs.Ranges.{least-none}
 use Rattle.structure_words.specs.Words.{inWords, wordOf}
-use Rattle.structure_closure.specs.Steps.{lost}
+use Rattle.structure_closure.specs.Inside.{failingAbove}
 use Rattle.structure_words.proofs.Words.{word-is, wordOf-and}
 use Rattle.structure_words.proofs.Runs.{Lowest, lowest-of}
 use Rattle.structure_closure.proofs.Walks.{none-more, found-first}
@@ -27,7 +27,7 @@ abbrev μ-loop : tie.MeasureT-loop
 μ-loop words parts at₀ at = 1024 - at
 
 -- the word that is looked at is that of the broken sets
-bad-word : (c : tie.After-lost Inv-loop μ-loop) → meet (c .before .cell .result) (c .lost .result)
+bad-word : (c : tie.After-failing-above Inv-loop μ-loop) → meet (c .before .cell .result) (c .failing-above .result)
     ≡ wordOf (broken (min (c .before .before .before .before .before .args .parts) 16) (inWords (now (c .before .before .before .before .before .args .words)))) (c .before .before .before .loop .at)
 unfolding broken
 bad-word c =
@@ -36,8 +36,8 @@ bad-word c =
     let works = inWords (now (a .words)) in
     let at = head .loop .at in
     ap₂ (λ (x y : ℕ). meet x y) (word-is (now (a .words)) at (c .before .cell .result) (c .before .cell .ensures) (omega (arith, c .before .cell .ok)))
-    (c .lost .ensures)
-    ∙ wordOf-and works (lost (min (a .parts) 16) works) at
+    (c .failing-above .ensures)
+    ∙ wordOf-and works (failingAbove (min (a .parts) 16) works) at
 
 loop-holds : tie.Need-loop-holds Inv-loop μ-loop
 loop-holds c = (omega arith, λ a h. absurd (not-suc-le-zero h))
@@ -45,8 +45,8 @@ loop-holds c = (omega arith, λ a h. absurd (not-suc-le-zero h))
 cell-requires : tie.Need-cell-requires Inv-loop μ-loop
 cell-requires c κs = search needs
 
-lost-requires : tie.Need-lost-requires Inv-loop μ-loop
-lost-requires c κs = search needs
+failing-above-requires : tie.Need-failing-above-requires Inv-loop μ-loop
+failing-above-requires c κs = search needs
 
 mul-result : tie.Need-mul-result Inv-loop μ-loop
 mul-result c = omega arith
@@ -55,10 +55,10 @@ lowest-requires : tie.Need-lowest-requires Inv-loop μ-loop
 lowest-requires c κs = search needs
 
 -- the word has a broken set
-low : (c : tie.After-lowest Inv-loop μ-loop) → Lowest (meet (c .before .before .before .cell .result) (c .before .before .lost .result)) (c .lowest .result)
+low : (c : tie.After-lowest Inv-loop μ-loop) → Lowest (meet (c .before .before .before .cell .result) (c .before .before .failing-above .result)) (c .lowest .result)
 low c =
     let read = c .before .before .before .cell in
-    let lacks = c .before .before .lost in
+    let lacks = c .before .before .failing-above in
     lowest-of (meet (read .result) (lacks .result)) (c .lowest .result)
     (and-lt 64 (read .result) (lacks .result) (omega (arith, read .ok)) (omega (arith, lacks .ok))) (c .before .if1 .taken) (c .lowest .ensures)
 
@@ -98,7 +98,7 @@ first-broken-spec =
     μ-loop
     loop-holds
     cell-requires
-    lost-requires
+    failing-above-requires
     mul-result
     lowest-requires
     add-result

@@ -20,15 +20,15 @@ use Rattle.structure_closure.proofs.with.Tie as tie
 cell-requires : tie.Need-cell-requires
 cell-requires c κs = search needs
 
-power-requires : tie.Need-power-requires
-power-requires c κs = search needs
+power-of-two-requires : tie.Need-power-of-two-requires
+power-of-two-requires c κs = search needs
 
 -- what the part weighs, within a word and among the words
-weight : (c : tie.After-power) → c .power .result ≡ 2 ^ (c .before .before .before .before .args .part)
-weight c = c .power .ensures ∙ upTo16-given (c .before .before .before .before .args .part) _ (omega arith)
+weight : (c : tie.After-power-of-two) → c .power-of-two .result ≡ 2 ^ (c .before .before .before .before .args .part)
+weight c = c .power-of-two .ensures ∙ upTo16-given (c .before .before .before .before .args .part) _ (omega arith)
 
-step-weight : (c : tie.After-power2) → c .power2 .result ≡ 2 ^ (c .before .before .before .before .args .part - 6)
-step-weight c = c .power2 .ensures ∙ upTo16-given (c .before .before .before .before .args .part - 6) _ (omega arith)
+step-weight : (c : tie.After-power-of-two2) → c .power-of-two2 .result ≡ 2 ^ (c .before .before .before .before .args .part - 6)
+step-weight c = c .power-of-two2 .ensures ∙ upTo16-given (c .before .before .before .before .args .part - 6) _ (omega arith)
 
 shr-result : tie.Need-shr-result
 shr-result c = subst (λ (x : ℕ). x < 64) (sym (weight c)) (pow-lt (c .before .before .if1 .taken))
@@ -49,15 +49,15 @@ returns c =
 shr-if2 : tie.Need-shr-if2
 shr-if2 c = search needs
 
-power-requires-2 : tie.Need-power-requires-2
-power-requires-2 c κs = search needs
+power-of-two-requires-2 : tie.Need-power-of-two-requires-2
+power-of-two-requires-2 c κs = search needs
 
 add-cell : tie.Need-add-cell
 add-cell c =
     let start = c .before .before .before .before in
     let a = start .args in
-    let above : a .at + c .power2 .result < 1024 =
-    step-below (now (a .words)) (a .at) (a .part) (c .power2 .result) (c .before .before .if1 .left) (step-weight c)
+    let above : a .at + c .power-of-two2 .result < 1024 =
+    step-below (now (a .words)) (a .at) (a .part) (c .power-of-two2 .result) (c .before .before .if1 .left) (step-weight c)
     (c .before .if2 .left) (start .pre .0) (start .pre .1) in
     omega arith
 
@@ -72,7 +72,7 @@ returns-2 c =
 returns-3 : tie.Need-returns-3
 returns-3 c =
     let a = c .before .before .before .before .before .args in
-    let step = c .before .power2 in
+    let step = c .before .power-of-two2 in
     c .cell2 .ensures
     ∙ with-high (now (a .words)) (a .at) (a .part) (step .result) (c .before .before .before .if1 .left) (step-weight (c .before)) (c .before .before .if2 .left)
     (subst (λ (w : ℕ). w < 2 ^ 64) (c .cell2 .ensures) (omega (arith, c .cell2 .ok)))
@@ -82,12 +82,12 @@ with-spec =
     tie.close
     (tie.spec
     cell-requires
-    power-requires
+    power-of-two-requires
     shr-result
     lacking-requires
     returns
     shr-if2
-    power-requires-2
+    power-of-two-requires-2
     add-cell
     cell-requires-2
     returns-2

@@ -22,15 +22,15 @@ cell-requires c κs = search needs
 lacking-requires : tie.Need-lacking-requires
 lacking-requires c κs = search needs
 
-power-requires : tie.Need-power-requires
-power-requires c κs = search needs
+power-of-two-requires : tie.Need-power-of-two-requires
+power-of-two-requires c κs = search needs
 
 -- what the part weighs, within a word and among the words
-weight : (c : tie.After-power) → c .power .result ≡ 2 ^ (c .before .before .before .before .before .args .part)
-weight c = c .power .ensures ∙ upTo16-given (c .before .before .before .before .before .args .part) _ (omega arith)
+weight : (c : tie.After-power-of-two) → c .power-of-two .result ≡ 2 ^ (c .before .before .before .before .before .args .part)
+weight c = c .power-of-two .ensures ∙ upTo16-given (c .before .before .before .before .before .args .part) _ (omega arith)
 
-step-weight : (c : tie.After-power2) → c .power2 .result ≡ 2 ^ (c .before .before .before .before .args .part - 6)
-step-weight c = c .power2 .ensures ∙ upTo16-given (c .before .before .before .before .args .part - 6) _ (omega arith)
+step-weight : (c : tie.After-power-of-two2) → c .power-of-two2 .result ≡ 2 ^ (c .before .before .before .before .args .part - 6)
+step-weight c = c .power-of-two2 .ensures ∙ upTo16-given (c .before .before .before .before .args .part - 6) _ (omega arith)
 
 shl-result : tie.Need-shl-result
 shl-result c = subst (λ (x : ℕ). x < 64) (sym (weight c)) (pow-lt (c .before .before .before .if1 .taken))
@@ -48,13 +48,13 @@ returns c =
 shr-if2 : tie.Need-shr-if2
 shr-if2 c = search needs
 
-power-requires-2 : tie.Need-power-requires-2
-power-requires-2 c κs = search needs
+power-of-two-requires-2 : tie.Need-power-of-two-requires-2
+power-of-two-requires-2 c κs = search needs
 
 sub-cell : tie.Need-sub-cell
 sub-cell c =
     let a = c .before .before .before .before .args in
-    step-le (now (a .words)) (a .at) (a .part) (c .power2 .result) (c .before .before .if1 .left) (step-weight c) (c .before .if2 .taken)
+    step-le (now (a .words)) (a .at) (a .part) (c .power-of-two2 .result) (c .before .before .if1 .left) (step-weight c) (c .before .if2 .taken)
 
 cell-requires-2 : tie.Need-cell-requires-2
 cell-requires-2 c κs = search needs
@@ -62,7 +62,7 @@ cell-requires-2 c κs = search needs
 returns-2 : tie.Need-returns-2
 returns-2 c =
     let a = c .before .before .before .before .before .args in
-    let step = c .before .power2 in
+    let step = c .before .power-of-two2 in
     c .cell2 .ensures
     ∙ without-high (now (a .words)) (a .at) (a .part) (step .result) (c .before .before .before .if1 .left) (step-weight (c .before)) (c .before .before .if2 .taken)
     (subst (λ (w : ℕ). w < 2 ^ 64) (c .cell2 .ensures) (omega (arith, c .cell2 .ok)))
@@ -78,11 +78,11 @@ without-spec =
     (tie.spec
     cell-requires
     lacking-requires
-    power-requires
+    power-of-two-requires
     shl-result
     returns
     shr-if2
-    power-requires-2
+    power-of-two-requires-2
     sub-cell
     cell-requires-2
     returns-2

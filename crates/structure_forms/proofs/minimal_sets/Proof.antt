@@ -12,7 +12,7 @@ use Rattle.theory_sets.specs.Masks.{those}
 use Rattle.theory_sets.specs.Structures.{minimalSets}
 use Rattle.theory_sets.specs.Tables.{inTable}
 use Rattle.structure_words.specs.Words.{inWords, wordsOf}
-use Rattle.structure_closure.specs.Closure.{trimmed}
+use Rattle.structure_closure.specs.Closure.{irredundant}
 use Rattle.structure.specs.Checks.{tableRefusal}
 use Rattle.structure.proofs.Acceptance.{accepted-table}
 use Rattle.structure.proofs.Walks.{minimal-walk}
@@ -32,11 +32,11 @@ enum-told c = search needs
 load-requires : tie.Need-load-requires
 load-requires c κs = search needs
 
-slice-aggregate-trimmed : tie.Need-slice-aggregate-trimmed
-slice-aggregate-trimmed c = search needs
+slice-aggregate-irredundant : tie.Need-slice-aggregate-irredundant
+slice-aggregate-irredundant c = search needs
 
-trimmed-requires : tie.Need-trimmed-requires
-trimmed-requires c κs = search needs
+irredundant-requires : tie.Need-irredundant-requires
+irredundant-requires c κs = search needs
 
 slice-aggregate-list : tie.Need-slice-aggregate-list
 slice-aggregate-list c = search needs
@@ -63,7 +63,7 @@ returns-2 c =
     let works = inTable table in
     c .before .before .list .ensures
     ∙ ap (λ (ws : List ℕ). delivered Accepted (those (inWords ws) 65536) sets)
-    (c .before .before .before .before .before .trimmed .ensures ∙ ap (λ (ws : List ℕ). wordsOf (trimmed (min n 16) (inWords ws))) (c .before .before .before .before .before .before .before .load .ensures))
+    (c .before .before .before .before .before .irredundant .ensures ∙ ap (λ (ws : List ℕ). wordsOf (irredundant (min n 16) (inWords ws))) (c .before .before .before .before .before .before .before .load .ensures))
     ∙ ap (λ (xs : List ℕ). delivered Accepted xs sets) (minimal-walk n table (accepted-table n table verdict))
     ∙ ap (λ (v : Verdict). delivered v (minimalSets n works) sets) (sym verdict)
 
@@ -75,8 +75,8 @@ minimal-sets-spec =
     enum-known-checked
     enum-told
     load-requires
-    slice-aggregate-trimmed
-    trimmed-requires
+    slice-aggregate-irredundant
+    irredundant-requires
     slice-aggregate-list
     list-requires
     returns

@@ -64,11 +64,11 @@ returns c =
 marked-requires : tie.Need-marked-requires
 marked-requires c κs = search needs
 
-slice-aggregate-carried : tie.Need-slice-aggregate-carried
-slice-aggregate-carried c = search needs
+slice-aggregate-spread : tie.Need-slice-aggregate-spread
+slice-aggregate-spread c = search needs
 
-carried-requires : tie.Need-carried-requires
-carried-requires c κs = search needs
+spread-requires : tie.Need-spread-requires
+spread-requires c κs = search needs
 
 slice-aggregate-store : tie.Need-slice-aggregate-store
 slice-aggregate-store c = search needs
@@ -101,7 +101,7 @@ returns-3 c =
     let needed = c .before .before .before .before .before .before .before .before .before .table-length .result in
     let result = tableOf n (listed list) in
     let long : needed ≡ tableLength n = length-is (c .before .before .before .before .before .before .before .before .before) in
-    let reached = c .before .before .before .before .before .carried .ensures ∙ ap (λ (ws : List ℕ). wordsOf (spread (min n 16) (inWords ws))) (c .before .before .before .before .before .before .before .marked .ensures) in
+    let reached = c .before .before .before .before .before .spread .ensures ∙ ap (λ (ws : List ℕ). wordsOf (spread (min n 16) (inWords ws))) (c .before .before .before .before .before .before .before .marked .ensures) in
     let bytes =
     c .before .before .store .ensures
     ∙ ap₂ (λ (k : ℕ) (ws : List ℕ). tabulate k (λ b. packed 8 (λ i. inWords ws (8 * b + i)))) (length-take-le needed table (c .before .before .before .before .before .before .before .before .if1 .left) ∙ long) reached
@@ -120,8 +120,8 @@ table-of-list-spec =
     short-requires
     returns
     marked-requires
-    slice-aggregate-carried
-    carried-requires
+    slice-aggregate-spread
+    spread-requires
     slice-aggregate-store
     slice-relend-prefix-store
     slice-aggregate-store-2

@@ -3,7 +3,7 @@
 use mathlib.Core.Path.{sym, ap}
 use mathlib.Core.Bool.{Bool, cond}
 use borrow.Author.Tests.{lt-ltb, le-ltb}
-use Rattle.vector.specs.Held.{mostEntries}
+use Rattle.vector.specs.InStruct.{mostEntries}
 use Rattle.vector.proofs.lent.Statement.{statement}
 use Rattle.vector.proofs.lent.Tie as tie
 

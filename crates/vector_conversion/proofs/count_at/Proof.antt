@@ -9,7 +9,7 @@ use lib.IntN.{ℤ, pos, _+ℤ_, _-ℤ_}
 use Rattle.numbers.proofs.Counts.{factorial-pos}
 use Rattle.vector_kind.specs.Kinds.{lengthOf}
 use Rattle.vector_conversion.specs.Vectors.{entryAt}
-use Rattle.vector_conversion.specs.Steps.{countIn, countAt, Found}
+use Rattle.vector_conversion.specs.Inside.{countIn, countAt, Found}
 use Rattle.vector_kind.specs.declared.Kind.{Kind}
 use Rattle.vector_conversion.proofs.CountAt.{entry-read, count-entry, count-tail}
 use borrow.Author.Needs.{needs}
@@ -46,15 +46,15 @@ shared-slice-copy-out-count-of-2 c =
     let long = ap (λ (kind : Kind). lengthOf kind (start .args .n)) (c .enum-told2 .given .1) in
     omega (arith, start .pre .1 .1 .0, long)
 
-ways-requires : tie.Need-ways-requires
-ways-requires c κs = search needs
+tail-unit-requires : tie.Need-tail-unit-requires
+tail-unit-requires c κs = search needs
 
 count-of-requires-2 : tie.Need-count-of-requires-2
 count-of-requires-2 c κs =
     let start = c .before .before .before .before in
     let a = start .args in (
       omega arith,
-      (lt-of-lt-of-le (mul-pos (factorial-pos (a .j)) (factorial-pos (a .n - a .j))) (le-of-eq (sym (c .ways .ensures))), start .pre .0),
+      (lt-of-lt-of-le (mul-pos (factorial-pos (a .j)) (factorial-pos (a .n - a .j))) (le-of-eq (sym (c .tail-unit .ensures))), start .pre .0),
     )
 
 enum-told-3 : tie.Need-enum-told-3
@@ -106,9 +106,9 @@ returns-2 c =
     let told = c .before .before .before in
     let a = told .before .before .args in
     c .count-of2 .ensures
-    ∙ ap (λ (z : ℤ). countIn (a .n) (a .j) (c .before .ways .result) (pos 0 +ℤ z -ℤ pos 0))
+    ∙ ap (λ (z : ℤ). countIn (a .n) (a .j) (c .before .tail-unit .result) (pos 0 +ℤ z -ℤ pos 0))
     (entry-read (now (a .entries)) (a .n - a .j) (c .before .before .count-of-arg2 .given))
-    ∙ ap (λ (u : ℕ). countIn (a .n) (a .j) u (pos 0 +ℤ entryAt (now (a .entries)) (a .n - a .j) -ℤ pos 0)) (c .before .ways .ensures)
+    ∙ ap (λ (u : ℕ). countIn (a .n) (a .j) u (pos 0 +ℤ entryAt (now (a .entries)) (a .n - a .j) -ℤ pos 0)) (c .before .tail-unit .ensures)
     ∙ count-tail (a .n) (now (a .entries)) (a .j) ∙ ap (λ (kind : Kind). countAt kind (a .n) (now (a .entries)) (a .j)) (sym (told .enum-told2 .given .1))
 
 returns-3 : tie.Need-returns-3
@@ -133,7 +133,7 @@ count-at-spec =
     sub-count-of
     mul-count-of-2
     shared-slice-copy-out-count-of-2
-    ways-requires
+    tail-unit-requires
     count-of-requires-2
     enum-told-3
     signature-count-requires

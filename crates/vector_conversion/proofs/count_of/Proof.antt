@@ -9,7 +9,7 @@ use lib.Signed.{ltZ}
 use mir.Facts.{toZ-ofZ}
 use mir.Syntax.{w64}
 use mir.Val.{toZ, ofZ}
-use Rattle.vector_conversion.specs.Steps.{countIn}
+use Rattle.vector_conversion.specs.Inside.{countIn}
 use Rattle.vector_conversion.proofs.Conversions.{difference-positive}
 use Rattle.vector_conversion.proofs.CountIn.{difference-negative, count-negative}
 use Rattle.integers.proofs.Signs.{less-found, less-fits, less-same, less-cast, whole-found, whole-small, whole-cast}

@@ -7,7 +7,7 @@ use denote.Ref.{now}
 use mir.Facts.{toZ-ofZ}
 use mir.Syntax.{w64}
 use Rattle.integers.proofs.Differences.{difference-small}
-use Rattle.vector_conversion.specs.Steps.{cellsOf}
+use Rattle.vector_conversion.specs.Inside.{cellsOf}
 use Rattle.vector_conversion.proofs.Scaled.{domination-terms}
 use borrow.Author.Needs.{needs}
 use Rattle.vector_conversion.proofs.domination.Statement.{statement}

@@ -3,7 +3,7 @@
 use mathlib.Core.Path.{ap, _∙_}
 use Prim.Native.Nat.{ℕ}
 use lib.IntN.{ℤ, pos, _+ℤ_, _-ℤ_}
-use Rattle.vector_conversion.specs.Steps.{countIn}
+use Rattle.vector_conversion.specs.Inside.{countIn}
 use denote.Ref.{now}
 use Rattle.vector_conversion.proofs.CountAt.{entry-read, count-domination}
 use borrow.Author.Needs.{needs}

@@ -13,7 +13,7 @@ use borrow.Author.Needs.{needs}
 use Rattle.theory_figures.specs.Figures.{tail, signature}
 use Rattle.vector_kind.specs.Kinds.{lengthOf}
 use Rattle.vector_conversion.specs.Vectors.{figure}
-use Rattle.vector_conversion.specs.Steps.{cellsOf}
+use Rattle.vector_conversion.specs.Inside.{cellsOf}
 use Rattle.vector_kind.specs.declared.Kind.{Kind}
 use Rattle.integers.proofs.Differences.{difference-small}
 use Rattle.theory_figures.proofs.Ranges.{tail-few}

@@ -14,7 +14,7 @@ use borrow.Author.Tests.{lt-ltb, le-ltb}
 use Rattle.numbers.specs.Counts.{choose}
 use Rattle.numbers.proofs.Counts.{upTo16-given}
 use Rattle.vector_conversion.specs.Vectors.{falls}
-use Rattle.vector_conversion.specs.Steps.{cellsOf}
+use Rattle.vector_conversion.specs.Inside.{cellsOf}
 use Rattle.vector_conversion.proofs.first_fall.Statement.{statement}
 use Rattle.vector_conversion.proofs.first_fall.Tie as tie
 

@@ -7,7 +7,7 @@ use native.Mathlib.Omega.{arith}
 use denote.Ref.{now}
 use lib.ListN.{length, length-set}
 use borrow.Author.Needs.{needs}
-use Rattle.vector_conversion.specs.Steps.{Found}
+use Rattle.vector_conversion.specs.Inside.{Found}
 use Rattle.vector_conversion.proofs.Fits.{none-few}
 use Rattle.vector_conversion.proofs.CountAt.{count-wrong, found-more}
 use Rattle.vector_conversion.proofs.path_counts.Statement.{statement}

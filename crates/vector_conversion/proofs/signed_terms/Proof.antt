@@ -11,7 +11,7 @@ use borrow.Author.Needs.{needs}
 use Rattle.numbers.specs.Counts.{choose}
 use Rattle.numbers.proofs.Counts.{upTo16-given}
 use Rattle.theory_figures.proofs.Signs.{termsBelow, terms-none, terms-added, terms-taken}
-use Rattle.vector_conversion.specs.Steps.{cellsOf}
+use Rattle.vector_conversion.specs.Inside.{cellsOf}
 use Rattle.vector_conversion.proofs.signed_terms.Statement.{statement}
 use Rattle.vector_conversion.proofs.signed_terms.Tie as tie
 

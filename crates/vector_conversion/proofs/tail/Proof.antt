@@ -7,8 +7,8 @@ use native.Mathlib.Omega.{arith}
 use denote.Ref.{now}
 use Rattle.numbers.specs.Counts.{factorial}
 use Rattle.theory_figures.specs.Figures.{tail}
-use Rattle.vector_conversion.specs.Steps.{cellsOf}
-use Rattle.vector_conversion.proofs.Fits.{ways-few}
+use Rattle.vector_conversion.specs.Inside.{cellsOf}
+use Rattle.vector_conversion.proofs.Fits.{tail-unit-few}
 use borrow.Author.Needs.{needs}
 use Rattle.vector_conversion.proofs.tail.Statement.{statement}
 use Rattle.vector_conversion.proofs.tail.Tie as tie
@@ -22,17 +22,17 @@ mul-result c = search needs
 element-copy-out-result : tie.Need-element-copy-out-result
 element-copy-out-result c = search needs
 
-sub-ways : tie.Need-sub-ways
-sub-ways c = search needs
+sub-tail-unit : tie.Need-sub-tail-unit
+sub-tail-unit c = search needs
 
-ways-requires : tie.Need-ways-requires
-ways-requires c κs = search needs
+tail-unit-requires : tie.Need-tail-unit-requires
+tail-unit-requires c κs = search needs
 
 mul-result-2 : tie.Need-mul-result-2
 mul-result-2 c =
     let start = c .before .before in
     let a = start .args in
-    let small : c .ways .result ≤ 20922789888000 = le-trans (le-of-eq (c .ways .ensures)) (ways-few (a .n) (a .n - a .k) (start .pre .0) (omega arith)) in
+    let small : c .tail-unit .result ≤ 20922789888000 = le-trans (le-of-eq (c .tail-unit .ensures)) (tail-unit-few (a .n) (a .n - a .k) (start .pre .0) (omega arith)) in
     record { fits = omega (arith, mul-le-mul (start .pre .1 .1 (a .n - a .k)) small) }
 
 returns : tie.Need-returns
@@ -41,7 +41,7 @@ returns c =
     let a = c .before .before .args in
     let φ = cellsOf (now (a .counts)) in
     let back : a .n - (a .n - a .k) ≡ a .k = omega (arith, c .before .before .pre .1 .0) in
-    ap (λ (x : ℕ). φ (a .n - a .k) * x) (c .ways .ensures ∙ ap (λ (x : ℕ). factorial (a .n - a .k) * factorial x) back)
+    ap (λ (x : ℕ). φ (a .n - a .k) * x) (c .tail-unit .ensures ∙ ap (λ (x : ℕ). factorial (a .n - a .k) * factorial x) back)
     ∙ sym (mul-assoc (φ (a .n - a .k)) (factorial (a .n - a .k)) (factorial (a .k)))
 
 pub tail-spec : {M : Type 1} → statement M
@@ -51,7 +51,7 @@ tail-spec =
     sub-result
     mul-result
     element-copy-out-result
-    sub-ways
-    ways-requires
+    sub-tail-unit
+    tail-unit-requires
     mul-result-2
     returns)

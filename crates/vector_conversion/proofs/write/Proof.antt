@@ -12,7 +12,7 @@ use Rattle.numbers.proofs.Tables.{filled, filled-none, filled-again, filled-len
 use Rattle.vector_kind.specs.Kinds.{lengthOf}
 use Rattle.vector_kind.proofs.KindNumbers.{entries-few}
 use Rattle.vector_conversion.specs.Vectors.{figure}
-use Rattle.vector_conversion.specs.Steps.{cellsOf}
+use Rattle.vector_conversion.specs.Inside.{cellsOf}
 use borrow.Author.Needs.{needs}
 use Rattle.vector_conversion.proofs.write.Statement.{statement}
 use Rattle.vector_conversion.proofs.write.Tie as tie

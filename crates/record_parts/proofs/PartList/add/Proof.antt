@@ -14,7 +14,7 @@ use Rattle.record_parts.specs.declared.Numbered.the-variants.{Number}
 use Rattle.answer.proofs.FixedCells.{cells-more}
 use Rattle.record_numbers.specs.Numbering.{mostParts, cellsOf}
 use Rattle.record_parts.specs.PartLists.{numbersOf}
-use Rattle.record_parts.specs.Changes.{changed, addRefusal, withPart, added}
+use Rattle.record_parts.specs.Changes.{changed, addRefusal, withPart, partAdded}
 use Rattle.record_parts.proofs.LeftOut.{without-none}
 use Rattle.record_parts.proofs.Changing.{change-broken, change-refused, change-made, Usable, usable}
 use Rattle.record_parts.proofs.PartList.add.Statement.{statement}
@@ -30,7 +30,7 @@ unchanged-requires : tie.Need-unchanged-requires
 unchanged-requires c κs = search needs
 
 returns : tie.Need-returns
-unfolding added
+unfolding partAdded
 returns c =
     let v = c .before .before in
     let j = v .before .before in
@@ -45,7 +45,7 @@ unchanged-requires-2 : tie.Need-unchanged-requires-2
 unchanged-requires-2 c κs = search needs
 
 returns-2 : tie.Need-returns-2
-unfolding added
+unfolding partAdded
 returns-2 c =
     let t = c .before .before in
     let j = t .before .before in
@@ -58,7 +58,7 @@ unchanged-requires-3 : tie.Need-unchanged-requires-3
 unchanged-requires-3 c κs = search needs
 
 returns-3 : tie.Need-returns-3
-unfolding added
+unfolding partAdded
 returns-3 c =
     let t = c .before .before .before in
     let j = t .before .before in
@@ -103,7 +103,7 @@ add-t13 : tie.Need-add-t13
 add-t13 c = omega (arith, spare (c .before .before .before .before))
 
 returns-4 : tie.Need-returns-4
-unfolding added
+unfolding partAdded
 returns-4 c =
     let n = c .before .before .before in
     let e = n .before in

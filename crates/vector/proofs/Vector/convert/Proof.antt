@@ -14,12 +14,12 @@ use Rattle.answer.specs.declared.Verdict.the-variants.{Accepted}
 use Rattle.answer.specs.declared.Verdict.the-variants as verdict
 use Rattle.answer.specs.declared.Written.{Written}
 use Rattle.answer.specs.declared.Written.the-variants as written
-use Rattle.vector.specs.Held.{mostEntries, vectorHolding, entriesOf, heldRefusal, given, heldConverted}
-use Rattle.vector.specs.Steps.{lentCells}
+use Rattle.vector.specs.InStruct.{mostEntries, vectorHolding, entriesOf, structRefusal, given, structConverted}
+use Rattle.vector.specs.Inside.{lentCells}
 use Rattle.vector_conversion.specs.Vectors.{vectorRefusal, converted}
 use Rattle.vector_kind.specs.declared.Kind.{Kind}
 use Rattle.vector.specs.declared.Vector.{Vector}
-use Rattle.vector.proofs.Held.{lent-judged, lent-few, lent-all, cells-all, zeros-behind, converted-fits}
+use Rattle.vector.proofs.InStruct.{lent-judged, lent-few, lent-all, cells-all, zeros-behind, converted-fits}
 use Rattle.answer.proofs.Deliveries.{refused-by}
 use Rattle.answer.proofs.Deliveries.{given as written-whole}
 use borrow.Author.Needs.{needs}
@@ -54,20 +54,20 @@ module _ (vector : Vector) (all : length (vector .entries) ≡ mostEntries) (tar
   abbrev judged : Verdict
   judged = vectorRefusal (vector .kind) (vector .n) entries
 
-  same : judged ≡ heldRefusal vector
+  same : judged ≡ structRefusal vector
   same = ap (λ (k : ℕ). vectorRefusal (vector .kind) (vector .n) (take k (vector .entries))) lent ∙ lent-judged vector all
 
   why-refused : (now : List ℤ) (why : Refusal) → outcome (written.Refused why) now ≡ delivered judged (converted target (vector .kind) (vector .n) entries) (replicate mostEntries (pos 0))
-      → given (verdict.Refused why) (vectorHolding target (vector .n) (converted target (vector .kind) (vector .n) (entriesOf vector))) ≡ heldConverted vector target
+      → given (verdict.Refused why) (vectorHolding target (vector .n) (converted target (vector .kind) (vector .n) (entriesOf vector))) ≡ structConverted vector target
   why-refused now why e =
       ap (λ (v : Verdict). given v (vectorHolding target (vector .n) (converted target (vector .kind) (vector .n) (entriesOf vector))))
       (sym (refused-by judged _ (replicate mostEntries (pos 0)) now why (converted-fits target (vector .kind) (vector .n) entries) e) ∙ same)
 
   what-written : (now : List ℤ) (long : ℕ) → outcome (written.Length long) now ≡ delivered judged (converted target (vector .kind) (vector .n) entries) (replicate mostEntries (pos 0))
-      → given Accepted (record { kind = target; n = vector .n; length = long; entries = now }) ≡ heldConverted vector target
+      → given Accepted (record { kind = target; n = vector .n; length = long; entries = now }) ≡ structConverted vector target
   what-written now long e =
       let whole = written-whole judged _ (replicate mostEntries (pos 0)) now long e in
-      let accepted : heldRefusal vector ≡ Accepted = sym same ∙ whole .accepted in
+      let accepted : structRefusal vector ≡ Accepted = sym same ∙ whole .accepted in
       ap₂ (λ (k : ℕ) (cells : List ℤ). given Accepted (record { kind = target; n = vector .n; length = k; entries = cells })) (whole .counted) (whole .stands ∙ zeros-behind (converted target (vector .kind) (vector .n) entries))
       ∙ ap (λ (k : ℕ). given Accepted (vectorHolding target (vector .n) (converted target (vector .kind) (vector .n) (take k (vector .entries))))) (lent ∙ lent-all vector accepted)
       ∙ ap (λ (v : Verdict). given v (vectorHolding target (vector .n) (converted target (vector .kind) (vector .n) (entriesOf vector)))) (sym accepted)

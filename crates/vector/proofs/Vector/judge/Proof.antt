@@ -5,9 +5,9 @@ use Prim.Native.Nat.{ℕ, _≤_}
 use native.Mathlib.Omega.{arith}
 use lib.ListN.{length, take}
 use lib.Seq.{length-take-le}
-use Rattle.vector.specs.Held.{mostEntries}
+use Rattle.vector.specs.InStruct.{mostEntries}
 use Rattle.vector_conversion.specs.Vectors.{vectorRefusal}
-use Rattle.vector.proofs.Held.{lent-judged, lent-few, cells-all}
+use Rattle.vector.proofs.InStruct.{lent-judged, lent-few, cells-all}
 use borrow.Author.Needs.{needs}
 use Rattle.vector.proofs.Vector.judge.Statement.{statement}
 use Rattle.vector.proofs.Vector.judge.Tie as tie

@@ -1,0 +1,12 @@
+-- What the private functions do: a reader of the promises may pass this file over.
+use mathlib.Core.Bool.{_&&_}
+use mathlib.Core.List.{List}
+use Prim.Native.Nat.{ℕ, _+_, _≤_}
+use lib.Dec.{eqb}
+use lib.ListN.{getD}
+use Rattle.theory_sums.specs.Sums.{indicator, sumBelow}
+use Rattle.theory_sets.specs.Masks.{has, size}
+
+-- how many sets of a word have size s, where bit m stands for a set of `base` parts and those of m
+unfoldable pub inWord : ℕ → ℕ → ℕ → ℕ
+inWord word base s = sumBelow (λ m. indicator (has word m && eqb (base + size m) s)) 64

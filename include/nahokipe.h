@@ -6,9 +6,18 @@
  * 2^n masks, mask A at byte A / 8, bit A % 8, bit 0 the lowest: 2^n / 8 bytes, and one byte for n = 1 and 2, its unused bits zero.
  *
  * Every function takes every input. A call that is refused leaves what was lent to it as it was; one that is given writes its result's
- * length and not one cell more. A pointer may not be null, also where its length is 0, and what is written may not overlap what is read.
+ * length and not one cell more.
  *
- * Link libnahokipe.a; nothing else is needed.
+ * What a caller has to keep: a pointer is not null, also where its length is 0, and leads to as many cells as its length says; no two
+ * buffers that are lent to one call overlap; and nothing else changes them before the call returns.
+ *
+ * Positions of parts are not part numbers: when a part is taken out, the parts behind it move to lower positions and keep their numbers.
+ * Two copies of one record issue the same next number: that a number never comes back holds along one line of changes, each made to what
+ * the last one gave.
+ *
+ * Link libnahokipe.a, for x86-64: it needs memcpy and memset and nothing else. Calls keep nothing between them and share nothing, so they
+ * may run in any number of threads at once, on buffers of their own. 256 KiB of stack are enough for every call; the 128 KiB that some C
+ * libraries give a thread are not.
  */
 #ifndef NAHOKIPE_H
 #define NAHOKIPE_H
@@ -46,7 +55,8 @@ extern "C" {
  *   19  the record has 16 parts
  *   20  the record's mark is 2^32 - 1
  *   21  the bytes end before a number does; the length of the input
- *   22  a number is not written in its shortest form, or is over its top value; its first byte's position, from 0
+ *   22  a number is not written in its shortest form, is over its top value, or takes more bytes than a number can, five in a record and
+ *       nine in a sheet: bit 7 set in the last of these is 22 also where the input ends there; its first byte's position, from 0
  *   23  a part number is 0, not above the one before it, or above the mark; its first byte's position
  *   24  a set is not above the one before it, or holds an earlier one; its first byte's position
  *   25  bytes are left behind the last number; the first one's position
@@ -164,7 +174,10 @@ typedef struct nahokipe_sheet {
     size_t n;
 } nahokipe_sheet;
 
-/* Writes the entries of the vector in a sheet: 17 cells are enough. Refused: 21 and 22 number by number, 26, 1, 25, 13, 14, 11. */
+/*
+ * Writes the entries of the vector in a sheet: 17 cells are enough. Refused, in this order: 21 and 22 of the kind; 26; 21 and 22 of n; 1, at
+ * place 0; 21 and 22 of the entries, one after the other; 25; 13 and then 14, whose places are sizes; 11.
+ */
 nahokipe_sheet nahokipe_read_sheet(const uint8_t *sheet, size_t sheet_len, int64_t *cells, size_t cells_len);
 
 /*
@@ -207,8 +220,8 @@ typedef struct nahokipe_step {
 } nahokipe_step;
 
 /*
- * The next set of a record, read where it stands. A walk begins with the offset and the sets of nahokipe_whole_record as next and left,
- * and goes on with those of the last step. It ends where no set is left, or where no number can be read.
+ * The next set of a record, read where it stands. A walk begins with the offset and the sets of nahokipe_whole_record, or of
+ * nahokipe_record_at, as next and left, and goes on with those of the last step. It ends where no set is left, or where no number can be read.
  */
 nahokipe_step nahokipe_next_set(const uint8_t *bytes, size_t bytes_len, size_t next, size_t left);
 

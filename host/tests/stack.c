@@ -1,0 +1,87 @@
+/*
+ * How much stack the calls take: each is run in a thread whose stack was painted, on the largest machine, and what is no longer paint was
+ * used. README and nahokipe.h promise that 256 KiB are enough for every call; this test says so or fails, and prints the largest.
+ */
+#define _XOPEN_SOURCE 700
+#include <pthread.h>
+#include <stdio.h>
+#include <stdlib.h>
+#include <string.h>
+
+#include "nahokipe.h"
+
+enum { ROOM = 4 << 20, PROMISED = 256 << 10, PAINT = 0xA5, SETS = 12870, BYTES = 40000 };
+
+static uint16_t sets[SETS], found[SETS];
+static uint8_t table[8192], other[8192], record[BYTES], written[BYTES], text[4096], sheet[256];
+static int64_t counts[17], first[17], second[17], cells[81];
+static uint64_t parts[16];
+static size_t length, sheet_length;
+static unsigned char *ground;
+
+static void nothing(void) {}
+static void table_of_list(void) { nahokipe_table_of_list(16, sets, SETS, table, sizeof table); }
+static void table_verdict(void) { nahokipe_table_verdict(16, table, sizeof table); }
+static void minimal_sets(void) { nahokipe_minimal_sets(16, table, sizeof table, found, SETS); }
+static void figures(void) { nahokipe_figures(16, table, sizeof table, counts, 17, first, 17, second, 17, parts, 16); }
+static void both_routes(void) { nahokipe_shares_by_both_routes(16, table, sizeof table, 0xFF, first, 17, second, 17); }
+static void reliability(void) { nahokipe_reliability(16, table, sizeof table, 0xFF, cells, 81); }
+static void convert(void) { nahokipe_convert(1, 16, counts, 17, 4, second, 17); }
+static void write_sheet(void) { sheet_length = nahokipe_write_sheet(1, 16, counts, 17, sheet, sizeof sheet).value; }
+static void read_sheet(void) { nahokipe_read_sheet(sheet, sheet_length, first, 17); }
+static void first_record(void) { length = nahokipe_first_record(16, sets, SETS, record, BYTES).value; }
+static void whole_record(void) { nahokipe_whole_record(record, length); }
+static void table_of_record(void) { nahokipe_table_of_record(record, length, other, sizeof other); }
+static void take_out(void) { nahokipe_take_out(record, length, 3, written, BYTES); }
+static void add_set(void) { nahokipe_add_set(record, length, 0x7F, written, BYTES); }
+static void add_part(void) { nahokipe_add_part(written, nahokipe_take_out(record, length, 3, written, BYTES).value, record, BYTES); }
+static void report(void) { nahokipe_report(record, length, other, sizeof other, text, sizeof text); }
+
+typedef void (*call)(void);
+
+static void *run(void *given) {
+    (*(call *)given)();
+    return NULL;
+}
+
+/* The bytes of stack that a thread took which made this call and nothing else. */
+static size_t used(call made) {
+    pthread_attr_t attributes;
+    pthread_t thread;
+    size_t clean = 0;
+    memset(ground, PAINT, ROOM);
+    pthread_attr_init(&attributes);
+    if (pthread_attr_setstack(&attributes, ground, ROOM) != 0 || pthread_create(&thread, &attributes, run, &made) != 0) {
+        fprintf(stderr, "stack: no thread\n");
+        exit(1);
+    }
+    pthread_join(thread, NULL);
+    while (clean < ROOM && ground[clean] == PAINT) clean++;
+    return ROOM - clean;
+}
+
+int main(void) {
+    static const struct { const char *name; call made; } calls[] = {
+        {"table_of_list", table_of_list}, {"table_verdict", table_verdict}, {"minimal_sets", minimal_sets}, {"figures", figures},
+        {"shares_by_both_routes", both_routes}, {"reliability", reliability}, {"convert", convert}, {"write_sheet", write_sheet},
+        {"read_sheet", read_sheet}, {"first_record", first_record}, {"whole_record", whole_record},
+        {"table_of_record", table_of_record}, {"take_out", take_out}, {"add_set", add_set}, {"report", report}, {"add_part", add_part},
+    };
+    const char *largest = "";
+    size_t most = 0, count = 0, bare;
+    unsigned mask;
+    if (posix_memalign((void **)&ground, 1 << 16, ROOM) != 0) return 1;
+    for (mask = 0; mask < 65536; mask++) {
+        unsigned bits = 0, rest = mask;
+        for (; rest != 0; rest &= rest - 1) bits++;
+        if (bits == 8) sets[count++] = (uint16_t)mask;
+    }
+    bare = used(nothing);
+    for (count = 0; count < sizeof calls / sizeof calls[0]; count++) {
+        size_t taken = used(calls[count].made) - bare;
+        if (taken > most) most = taken, largest = calls[count].name;
+    }
+    printf("stack: the largest call is %s with %zu bytes\n", largest, most);
+    if (length == 0 || sheet_length == 0 || most > PROMISED) return 1;
+    return 0;
+}

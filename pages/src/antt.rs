@@ -132,3 +132,35 @@ pub fn words(line: &str) -> Vec<String> {
         .map(|word| word.trim_end_matches('.').to_string())
         .collect()
 }
+
+#[cfg(test)]
+mod tests {
+    use super::*;
+
+    const TEXT: &str = "-- a file\nuse M.{a, b as c}\nuse N as n\n\n-- a list\npub data Found : Type 0 where\n  At : ℕ → Found\n  None : Found\n\n\
+        unfoldable pub size : ℕ → ℕ\nsize zero = a\n\nsize (suc k) =\n    n.more k\n\nmodule _ (works : Works) where\n  law : size 0 ≡ c\n  law = refl\n";
+
+    #[test]
+    fn names_that_are_brought_in() {
+        let file = read(TEXT);
+        assert_eq!(file.brought["c"], (String::from("M"), String::from("b")));
+        assert_eq!(file.modules["n"], "N");
+    }
+
+    #[test]
+    fn declarations_with_all_their_clauses() {
+        let file = read(TEXT);
+        let names: Vec<&str> = file.declarations.iter().map(|d| d.name.as_str()).collect();
+        assert_eq!(names, ["Found", "size", "law"]);
+        assert_eq!(file.declarations[0].constructors, ["At", "None"]);
+        assert_eq!(file.declarations[1].lines, 4);
+        assert!(file.declarations[1].words.contains(&String::from("n.more")));
+    }
+
+    #[test]
+    fn a_statement_has_the_words_of_its_section_and_not_those_of_its_proof() {
+        let law = read(TEXT).declarations.pop().unwrap();
+        assert!(law.signature.contains(&String::from("Works")) && law.signature.contains(&String::from("size")));
+        assert!(!law.signature.contains(&String::from("refl")));
+    }
+}

@@ -229,3 +229,32 @@ fn unnamed(shelf: &mut Shelf) -> Vec<String> {
     }
     faults
 }
+
+#[cfg(test)]
+mod tests {
+    use super::*;
+
+    #[test]
+    fn a_link_by_its_text_file_and_line() {
+        let link = links("see [`line-of`](../crates/x/proofs/Lines.antt#L12) there").remove(0);
+        assert_eq!((link.text.as_str(), link.line), ("`line-of`", Some(12)));
+        assert_eq!(led_to("docs/CLAIMS.md", &link), "crates/x/proofs/Lines.antt");
+    }
+
+    #[test]
+    fn a_heading_as_a_link_names_it() {
+        assert_eq!(slug("## The reviewer's two questions"), "the-reviewers-two-questions");
+    }
+
+    #[test]
+    fn a_link_to_what_is_not_there() {
+        let link = links("[x](nowhere.md)").remove(0);
+        assert!(link_fault("docs/CLAIMS.md", &link).is_some());
+    }
+
+    #[test]
+    fn names_stand_between_backquotes_and_not_in_blocks() {
+        assert_eq!(spans("a `b` c `d::e`"), ["b", "d::e"]);
+        assert_eq!(prose("a\n```\nb\n```\n    c\nd").len(), 2);
+    }
+}

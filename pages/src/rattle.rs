@@ -93,3 +93,28 @@ fn contract(lines: &[&str], at: usize) -> Vec<String> {
 fn type_words(line: &str) -> Vec<String> {
     line.split(|c: char| !(c.is_alphanumeric() || c == '_')).filter(|word| !word.is_empty()).map(String::from).collect()
 }
+
+#[cfg(test)]
+mod tests {
+    use super::*;
+
+    const TEXT: &str = "use answer::Written;\nghost use M.{f};\npub struct List {\n    pub count: usize,\n}\nimpl List {\n    pub const MOST: usize = 16;\n    \
+        pub fn first(n: usize) -> List\n        ensures { λ r. ⌜ r ≡ f n ⌝ }\n    {\n        g(n)\n    }\n}\nfn inner(n: usize) -> Written {\n    n\n}\n";
+
+    #[test]
+    fn functions_with_their_contracts() {
+        let source = read(TEXT);
+        let names: Vec<(&str, bool)> = source.functions.iter().map(|f| (f.name.as_str(), f.open)).collect();
+        assert_eq!(names, [("List::first", true), ("inner", false)]);
+        assert!(source.functions[0].contract.contains(&String::from("f")));
+        assert!(!source.functions[0].contract.contains(&String::from("g")));
+    }
+
+    #[test]
+    fn types_and_constants() {
+        let source = read(TEXT);
+        assert_eq!(source.types["List"].lines, 3);
+        assert_eq!(source.constants, ["List::MOST"]);
+        assert_eq!(source.foreign["Written"], "answer");
+    }
+}

@@ -37,3 +37,14 @@ fn seconds(line: &str) -> usize {
     let end = line.trim_end().trim_end_matches(" s)");
     end.rsplit(|c: char| !c.is_ascii_digit()).next().and_then(|n| n.parse().ok()).unwrap_or(0)
 }
+
+#[cfg(test)]
+mod tests {
+    use super::*;
+
+    #[test]
+    fn the_seconds_at_a_lines_end() {
+        assert_eq!(seconds("codec proved (6 s)"), 6);
+        assert_eq!(seconds("must-fail codec/six_groups: refused, as it must be (first at proofs/Window.antt:34:5; 12 s)"), 12);
+    }
+}

@@ -10,8 +10,9 @@ use Rattle.theory_sets.specs.Masks.{has, holds, any, those}
 use Rattle.theory_sets.specs.Structures.{listed}
 use Rattle.theory_orders.specs.Formulas.{pathCount, added, taken}
 use Rattle.theory_figures.specs.Figures.{tail, signature, domination, setDomination, importance}
-use Rattle.shares_claim.specs.Polynomials.{derivative, reflected, shifted, coefficient, integral, shareFrom}
-use Rattle.shares_claim.specs.Shares.{shareOf, sharesBySets, reliability, reliabilityCells, inCells, sharesFromCells, sharesByReliability}
+use Rattle.shares_claim.specs.Polynomials.{derivative, reflected, shifted, coefficient, integral, shareFrom, inCells, sharesFromCells}
+use Rattle.shares_claim.specs.SetBySet.{shareOf, sharesBySets}
+use Rattle.shares_claim.specs.Reliability.{reliability, reliabilityCells, sharesByReliability}
 use Rattle.vector_conversion.specs.Vectors.{scaledCount, unitOf, wrongCount, falls, countsRefusal, vectorRefusal}
 use Rattle.examples_proved.specs.Examples.{value, examples}
 

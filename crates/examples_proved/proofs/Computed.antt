@@ -10,11 +10,12 @@ use Rattle.theory_sets.specs.Masks.{has, holds, any, those}
 use Rattle.theory_sets.specs.Structures.{listed}
 use Rattle.theory_orders.specs.Formulas.{pathCount, added, taken}
 use Rattle.theory_figures.specs.Figures.{tail, signature, domination, setDomination, importance}
-use Rattle.shares_claim.specs.Polynomials.{derivative, reflected, shifted, coefficient, integral, shareFrom}
-use Rattle.shares_claim.specs.Shares.{shareOf, sharesBySets, reliability, reliabilityCells, inCells, sharesFromCells, sharesByReliability}
-use Rattle.vector_conversion.specs.Vectors.{scaledCount, unitOf, wrongCount, falls, countsRefusal, vectorRefusal}
+use Rattle.shares_claim.specs.Polynomials.{derivative, reflected, shifted, coefficient, integral, shareFrom, inCells, sharesFromCells}
+use Rattle.shares_claim.specs.SetBySet.{shareOf, sharesBySets}
+use Rattle.shares_claim.specs.Reliability.{reliability, reliabilityCells, sharesByReliability}
+use Rattle.vector_conversion.specs.Vectors.{scaledCount, unitOf, wrongCount, falls, pathCountsRefusal, countsRefusal, vectorRefusal}
 use Rattle.examples_proved.specs.Examples.{value, examples}
 
 pub examples-hold : map (λ e. value (e .question)) examples ≡ map (λ e. e .answer) examples
-unfolding ones onesIn pow one factorial choose tabulate sumBelow sumBelowℤ has holds listed pathCount tail signature domination importance added taken setDomination derivative reflected shifted coefficient integral shareFrom shareOf sharesBySets reliability reliabilityCells inCells sharesFromCells sharesByReliability any those scaledCount unitOf wrongCount falls countsRefusal vectorRefusal
+unfolding ones onesIn pow one factorial choose tabulate sumBelow sumBelowℤ has holds listed pathCount tail signature domination importance added taken setDomination derivative reflected shifted coefficient integral shareFrom shareOf sharesBySets reliability reliabilityCells inCells sharesFromCells sharesByReliability any those scaledCount unitOf wrongCount falls pathCountsRefusal countsRefusal vectorRefusal
 examples-hold = refl

@@ -9,7 +9,8 @@ use Rattle.answer.specs.declared.Verdict.{Verdict}
 use Rattle.answer.specs.declared.Verdict.the-variants.{Accepted, Refused}
 use Rattle.theory_sets.specs.Structures.{listed}
 use Rattle.theory_figures.specs.Figures.{importance, pathCounts, tails, signatures, dominations}
-use Rattle.shares_claim.specs.Shares.{sharesBySets, reliabilityCells, sharesByReliability}
+use Rattle.shares_claim.specs.SetBySet.{sharesBySets}
+use Rattle.shares_claim.specs.Reliability.{reliabilityCells, sharesByReliability}
 use Rattle.vector_conversion.specs.Vectors.{vectorRefusal}
 use Rattle.vector_kind.specs.declared.Kind.{Kind}
 use Rattle.vector_kind.specs.declared.Kind.the-variants.{PathCounts, Tail}

@@ -27,7 +27,8 @@ use Rattle.numbers.specs.Counts.{factorial}
 use Rattle.theory_figures.proofs.Ranges.{factorials-few}
 use Rattle.structure_words.specs.Words.{inWords, wordOf, wordsOf}
 use Rattle.structure_words.proofs.Words.{inWords-wordsOf}
-use Rattle.structure.proofs.Acceptance.{AcceptedTable, table-beyond}
+use Rattle.structure.specs.Accepted.{AcceptedTable}
+use Rattle.structure.proofs.Acceptance.{table-beyond}
 use Rattle.theory_figures.specs.Figures.{importance, pathCounts, importances}
 use Rattle.figures_counts.specs.Rows.{hasPart, rowsOf, row}
 use Rattle.figures.specs.Inside.{countsOf, entriesOf, sizedIn, rowsIn, partWeight, addedSets, takenSets, Parted, importanceBy, Rows}

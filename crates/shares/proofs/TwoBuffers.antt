@@ -18,17 +18,10 @@ use Rattle.answer.specs.declared.Verdict.the-variants as verdict
 use Rattle.answer.specs.declared.Written.{Written}
 use Rattle.answer.specs.declared.Written.the-variants.{Length, Refused}
 use Rattle.answer.proofs.Deliveries.{delivered-whole}
-use Rattle.numbers.proofs.Tables.{tabulate-length}
-use Rattle.theory_sets.specs.Masks.{size}
 use Rattle.theory_sets.proofs.Ranges.{below-or-above}
-use Rattle.shares_claim.specs.Shares.{groupCounts}
 use Rattle.shares_group.specs.Answers.{answered}
 use Rattle.shares_group.proofs.Answers.{Roomy, Unwritten, refused, short, unwritten}
 use Rattle.shares.specs.Both.{bothOutcome, bothDelivered}
-
-pub counts-length : (n : ℕ) (works : ℕ → Bool) (group : ℕ) → length (groupCounts n works group) ≡ size group
-unfolding groupCounts
-counts-length n works group = tabulate-length (size group) _
 
 module _ (judged : Verdict) (result : List ℤ) (needed : ℕ) (long : needed ≡ length result) where
   -- what a route whose shares are the result leaves in its buffer

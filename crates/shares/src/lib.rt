@@ -3,7 +3,7 @@ use answer::Written;
 ghost use mathlib.Core.Path.{_≡_};
 ghost use Prim.Native.Nat.{min};
 ghost use Rattle.theory_sets.specs.Tables.{inTable};
-ghost use Rattle.shares_claim.specs.Shares.{groupCounts};
+ghost use Rattle.shares_claim.specs.Claim.{groupCounts};
 ghost use Rattle.shares_claim.specs.Refusals.{sharesRefusal};
 ghost use Rattle.shares.specs.Both.{bothOutcome, bothDelivered};
 

@@ -18,8 +18,7 @@ use Rattle.theory_sums.proofs.IntegerSums.{sumBelowℤ-same, sumBelowℤ-mul, s
 use Rattle.theory_sets.specs.Masks.{any}
 use Rattle.theory_sets.proofs.Bools.{not-not}
 use Rattle.theory_sets.proofs.Ranges.{any-none}
-use Rattle.shares_claim.specs.Polynomials.{shareFrom}
-use Rattle.shares_claim.specs.Shares.{rowLength, inCells}
+use Rattle.shares_claim.specs.Polynomials.{shareFrom, rowLength, inCells}
 use Rattle.shares_claim.specs.Inside.{common, powerWeight, Bounded}
 use Rattle.shares_claim.proofs.Magnitudes.{natAbs-product}
 use Rattle.shares_claim.proofs.Regrouped.{powerTerm, powerSum, regrouped, powerWeight-whole, share-regrouped}

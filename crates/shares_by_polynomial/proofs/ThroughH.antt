@@ -20,7 +20,8 @@ use Rattle.answer.specs.declared.Written.{Written}
 use Rattle.answer.specs.declared.Written.the-variants.{Length, Refused}
 use Rattle.answer.proofs.Deliveries.{refused-kept, refused-by, Given, given}
 use Rattle.theory_orders.specs.Counting.{count}
-use Rattle.shares_claim.specs.Shares.{rowLength, reliabilityCells, inCells, sharesFromCells, sharesByReliability}
+use Rattle.shares_claim.specs.Polynomials.{rowLength, inCells, sharesFromCells}
+use Rattle.shares_claim.specs.Reliability.{reliabilityCells, sharesByReliability}
 use Rattle.shares_claim.specs.Inside.{Bounded}
 use Rattle.shares_claim.proofs.Bounds.{cells-bounded}
 use Rattle.shares_claim.proofs.Cells.{shareFrom-same}

@@ -4,8 +4,7 @@ use mathlib.Core.Path.{_≡_}
 use Prim.Native.Nat.{ℕ, suc, _+_, _-_, _*_, _≤_}
 use lib.IntN.{ℤ, pos, negsuc, natAbs}
 use Rattle.numbers.specs.Counts.{factorial, choose}
-use Rattle.shares_claim.specs.Shares.{inCells}
-use Rattle.shares_claim.specs.Polynomials.{shareFrom}
+use Rattle.shares_claim.specs.Polynomials.{shareFrom, inCells}
 use Rattle.shares_claim.specs.Inside.{powerWeight}
 
 -- how far a number is above 0, and how far below

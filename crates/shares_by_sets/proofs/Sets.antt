@@ -19,13 +19,13 @@ use Rattle.numbers.specs.Counts.{factorial}
 use Rattle.numbers.specs.Tables.{tabulate}
 use Rattle.numbers.proofs.Tables.{tabulate-at, tabulate-length, tabulate-same}
 use Rattle.theory_sums.proofs.Sums.{sumBelow-same}
-use Rattle.theory_sets.specs.Masks.{size}
+use Rattle.theory_sets.specs.Masks.{size, inside}
 use Rattle.theory_sets.specs.Tables.{inTable}
 use Rattle.theory_sets.proofs.Ranges.{below-or-above}
 use Rattle.theory_orders.specs.Formulas.{added, taken}
 use Rattle.structure_words.specs.Words.{inWords, wordsOf}
 use Rattle.theory_figures.proofs.Ranges.{factorials-few}
-use Rattle.shares_claim.specs.Shares.{inside, shareOf, sharesBySets}
+use Rattle.shares_claim.specs.SetBySet.{shareOf, sharesBySets}
 use Rattle.shares_claim.proofs.Types.{inside-most, inside-and-outside, outside-most}
 use Rattle.shares_group.specs.Inside.{gathered}
 use Rattle.shares_group.proofs.Gathering.{gathered-list-few, gathered-words}

@@ -3,8 +3,7 @@ use mathlib.Core.Bool.{cond}
 use Prim.Native.Nat.{ℕ, zero, suc, _+_, _-_, _*_}
 use lib.Dec.{leb}
 use Rattle.numbers.specs.Counts.{factorial}
-use Rattle.theory_sets.specs.Masks.{size}
-use Rattle.shares_claim.specs.Shares.{inside}
+use Rattle.theory_sets.specs.Masks.{size, inside}
 
 -- (s-1)! × (n-s)!, for the sizes s from 1 to n
 unfoldable pub weight : ℕ → ℕ → ℕ

@@ -16,14 +16,15 @@ use borrow.Author.Tests.{eqb-true}
 use Rattle.numbers.specs.Counts.{choose}
 use Rattle.theory_sums.specs.Sums.{indicator, sumBelow}
 use Rattle.theory_sums.proofs.Sums.{sumBelow-same, sumBelow-le, sumBelow-zero, sumBelow-mul, sumBelow-masks}
-use Rattle.theory_sets.specs.Masks.{has, size, holds}
+use Rattle.theory_sets.specs.Masks.{has, size, holds, inside, outside}
 use Rattle.theory_sets.proofs.Bools.{and-left, and-right, and-swap, true-or-false}
 use Rattle.theory_sets.proofs.Ranges.{below-or-above}
 use Rattle.theory_orders.proofs.Sizes.{size-bits, size-rest, size-last}
 use Rattle.theory_figures.specs.Figures.{sign, setDomination}
 use Rattle.theory_figures.proofs.Holding.{holds-more, holds-never, holds-last}
 use Rattle.theory_figures.proofs.Supersets.{opposite, having, having-without, having-with}
-use Rattle.shares_claim.specs.Shares.{inside, outside, reliability, reliabilityCells, inCells}
+use Rattle.shares_claim.specs.Polynomials.{inCells}
+use Rattle.shares_claim.specs.Reliability.{reliability, reliabilityCells}
 use Rattle.shares_claim.specs.Inside.{Bounded}
 use Rattle.shares_claim.proofs.Cells.{in-cells}
 use Rattle.shares_claim.proofs.Magnitudes.{natAbs-product, natAbs-sum, natAbs-sign}

@@ -9,8 +9,8 @@ use lib.IntN.{ℤ, pos, _*ℤ_}
 use Rattle.numbers.proofs.Tables.{tabulate-at}
 use Rattle.theory_sums.proofs.IntegerSums.{sumBelowℤ-same}
 use Rattle.theory_sets.specs.Masks.{size}
-use Rattle.shares_claim.specs.Polynomials.{integral, shareFrom}
-use Rattle.shares_claim.specs.Shares.{rowLength, reliability, reliabilityCells, inCells}
+use Rattle.shares_claim.specs.Polynomials.{integral, shareFrom, rowLength, inCells}
+use Rattle.shares_claim.specs.Reliability.{reliability, reliabilityCells}
 use Rattle.shares_claim.proofs.Algorithm.{chosen, coefficient-weights}
 
 -- the row of a cell, and the place in it

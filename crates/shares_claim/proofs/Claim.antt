@@ -3,30 +3,33 @@
 use mathlib.Core.Path.{_≡_, refl, sym, ap, _∙_, subst}
 use mathlib.Core.Bool.{Bool}
 use mathlib.Core.List.{List, _++_}
-use Prim.Native.Nat.{ℕ, suc, _-_, _^_, _≤_, _<_}
+use Prim.Native.Nat.{ℕ, suc, _^_, _≤_, _<_}
 use native.Mathlib.Omega.{arith}
 use lib.Dec.{leb, eqb}
 use lib.IntN.{ℤ, pos}
-use lib.ListN.{length, getD, drop, List·getD-append}
+use lib.ListN.{length, take, drop}
+use lib.Seq.{take-append-seam}
 use borrow.Author.Tests.{leb-false, eqb-false}
-use Rattle.answer.specs.Outcome.{delivered, refuse}
+use Rattle.answer.specs.Outcome.{outcome, delivered, refuse}
 use Rattle.answer.specs.Refusals.{emptyGroup, unknownGroupPart}
 use Rattle.answer.specs.declared.Verdict.{Verdict}
 use Rattle.answer.specs.declared.Verdict.the-variants.{Accepted}
+use Rattle.answer.specs.declared.Written.{Written}
+use Rattle.answer.specs.declared.Written.the-variants.{Length}
 use Rattle.answer.proofs.Outcomes.{refuse-accepted, then-accepted}
-use Rattle.numbers.proofs.Tables.{tabulate-length, tabulate-at}
+use Rattle.numbers.proofs.Tables.{tabulate-length, tabulate-same}
 use Rattle.theory_sets.specs.Masks.{size}
 use Rattle.theory_sets.specs.Structures.{Semicoherent}
 use Rattle.theory_sets.specs.Tables.{inTable}
 use Rattle.theory_orders.specs.Counting.{count}
-use Rattle.numbers.proofs.Tables.{tabulate-same}
-use Rattle.answer.proofs.Deliveries.{delivered-whole}
+use Rattle.answer.proofs.Deliveries.{delivered-whole, given}
 use Rattle.structure.specs.Checks.{tableRefusal}
 use Rattle.structure.proofs.Acceptance.{accepted-table}
-use Rattle.shares_claim.specs.Polynomials.{shareFrom}
-use Rattle.shares_claim.specs.Shares.{sharesBySets, reliability, reliabilityCells, inCells, sharesFromCells, sharesByReliability, groupCounts}
+use Rattle.shares_claim.specs.Polynomials.{shareFrom, inCells, sharesFromCells}
+use Rattle.shares_claim.specs.SetBySet.{sharesBySets}
+use Rattle.shares_claim.specs.Reliability.{reliability, reliabilityCells, sharesByReliability}
 use Rattle.shares_claim.specs.Refusals.{groupRefusal, sharesRefusal}
-use Rattle.shares_claim.specs.Claim.{GivesCounts}
+use Rattle.shares_claim.specs.Claim.{groupCounts, GivesCounts}
 use Rattle.shares_claim.proofs.Routes.{share-is-count, routes-agree}
 use Rattle.shares_claim.proofs.Cells.{in-cells, shareFrom-same}
 
@@ -73,23 +76,33 @@ accepted-group n table group h =
 
 -- ---- the claim
 
+pub counts-length : (n : ℕ) (works : ℕ → Bool) (group : ℕ) → length (groupCounts n works group) ≡ size group
+unfolding groupCounts
+counts-length n works group = tabulate-length (size group) _
+
+-- what is delivered where nothing refuses and the result is the counts
 counts-given : (n : ℕ) (works : ℕ → Bool) (group : ℕ) (verdict : Verdict) (result buffer : List ℤ) → verdict ≡ Accepted
     → result ≡ groupCounts n works group → size group ≤ length buffer → GivesCounts n works group (delivered verdict result buffer)
-unfolding groupCounts
 counts-given n works group verdict result buffer accepted counts long =
     subst (GivesCounts n works group)
-    (delivered-whole verdict result buffer accepted (size group) (sym result-length) (result ++ drop (size group) buffer) refl long)
+    (delivered-whole verdict result buffer accepted (size group) (sym cells) (result ++ drop (size group) buffer) refl long)
     (record {
       given = refl;
-      shares = λ k some most.
-          List·getD-append result (drop (size group) buffer) (pos 0) (k - 1) (rw result-length (omega arith))
-          ∙ ap (λ (list : List ℤ). getD list (k - 1) (pos 0)) counts
-          ∙ tabulate-at (size group) (λ i. pos (count n works group (suc i))) (k - 1) (pos 0) (omega arith)
-          ∙ (let own : suc (k - 1) ≡ k = omega arith in ap (λ (x : ℕ). pos (count n works group x)) own);
+      shares = ap (λ (m : ℕ). take m (result ++ drop (size group) buffer)) (sym cells)
+          ∙ take-append-seam result (drop (size group) buffer) ∙ counts;
     })
   where
-    result-length : length result ≡ size group
-    result-length = ap length counts ∙ tabulate-length (size group) (λ i. pos (count n works group (suc i)))
+    cells : length result ≡ size group
+    cells = ap length counts ∙ counts-length n works group
+
+-- and the other way round: what gives the counts has them as its result
+pub given-counts : (n : ℕ) (works : ℕ → Bool) (group : ℕ) (verdict : Verdict) (result buffer : List ℤ)
+    → GivesCounts n works group (delivered verdict result buffer) → result ≡ groupCounts n works group
+given-counts n works group verdict result buffer gives =
+    sym (given verdict result buffer _ (size group) told .front) ∙ gives .shares
+  where
+    told : outcome (Length (size group)) (delivered verdict result buffer .buffer) ≡ delivered verdict result buffer
+    told = ap (λ (answer : Written). outcome answer (delivered verdict result buffer .buffer)) (sym (gives .given))
 
 pub shares-are-counts : (n : ℕ) (table : List ℕ) (group : ℕ) (first second : List ℤ) → sharesRefusal n table group ≡ Accepted
     → size group ≤ length first → size group ≤ length second

@@ -15,8 +15,9 @@ use Rattle.theory_sets.specs.Masks.{holds}
 use Rattle.theory_sets.specs.Structures.{listed}
 use Rattle.theory_orders.specs.Formulas.{added, taken}
 use Rattle.theory_figures.specs.Figures.{setDomination}
-use Rattle.shares_claim.specs.Polynomials.{derivative, reflected, shifted, coefficient, integral, shareFrom}
-use Rattle.shares_claim.specs.Shares.{shareOf, sharesBySets, reliability, reliabilityCells, inCells, sharesFromCells}
+use Rattle.shares_claim.specs.Polynomials.{derivative, reflected, shifted, coefficient, integral, shareFrom, inCells, sharesFromCells}
+use Rattle.shares_claim.specs.SetBySet.{shareOf, sharesBySets}
+use Rattle.shares_claim.specs.Reliability.{reliability, reliabilityCells}
 
 -- ---- all parts: h(x) = 2x² + 2x³ - 5x⁴ + 2x⁵
 

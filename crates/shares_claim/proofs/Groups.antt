@@ -19,13 +19,13 @@ use Rattle.numbers.specs.Tables.{tabulate}
 use Rattle.theory_sums.specs.Sums.{indicator, sumBelow, sumBelowℤ}
 use Rattle.theory_sums.proofs.Sums.{sumBelow-same, sumBelow-zero, sumBelow-exchange, sumBelow-term}
 use Rattle.theory_sums.proofs.IntegerSums.{sumBelowℤ-same}
-use Rattle.theory_sets.specs.Masks.{has, size, meet}
+use Rattle.theory_sets.specs.Masks.{has, size, inside, outside}
 use Rattle.theory_sets.specs.Structures.{Semicoherent}
 use Rattle.theory_sets.proofs.Bools.{true-or-false}
 use Rattle.theory_orders.specs.Counting.{count}
 use Rattle.theory_orders.specs.Formulas.{pathCount, byParts}
 use Rattle.theory_orders.proofs.Counting.{count-is-byParts}
-use Rattle.theory_orders.proofs.Sizes.{outside-meet}
+use Rattle.theory_orders.proofs.Sizes.{missing-inside}
 use Rattle.theory_figures.specs.Figures.{signatures, setDomination, domination, dominations, importance}
 use Rattle.theory_figures.proofs.Binomials.{choose-factorials, factorial-suc}
 use Rattle.theory_sums.proofs.IntegerSums.{sumBelow-pos}
@@ -34,7 +34,10 @@ use Rattle.numbers.proofs.Tables.{tabulate-same}
 use Rattle.theory_figures.proofs.Tails.{signature-is-count}
 use Rattle.theory_figures.proofs.Importances.{size-single, importance-is-count}
 use Rattle.theory_figures.proofs.Dominations.{domination-of-sets}
-use Rattle.shares_claim.specs.Shares.{shareOf, sharesBySets, inside, outside, reliability, rowLength, reliabilityCells, sharesByReliability, groupCounts}
+use Rattle.shares_claim.specs.Polynomials.{rowLength}
+use Rattle.shares_claim.specs.SetBySet.{shareOf, sharesBySets}
+use Rattle.shares_claim.specs.Reliability.{reliability, reliabilityCells, sharesByReliability}
+use Rattle.shares_claim.specs.Claim.{groupCounts}
 use Rattle.shares_claim.proofs.Routes.{share-is-count}
 use Rattle.shares_claim.proofs.Claim.{by-sets-counts, by-reliability-counts}
 
@@ -110,26 +113,26 @@ module _ (n : ℕ) (works : ℕ → Bool) (group : ℕ) (within : group < 2 ^ n)
   leaves-some : (j a : ℕ) → j < n → a < 2 ^ n → has group j ≡ true → has a j ≡ false → inside group a < size group
   leaves-some j a l h own lacks =
       let one : indicator (has group j && not (has a j)) ≡ 1 = rw (own, lacks) in
-      omega (arith, outside-meet n group a within h, sumBelow-term (λ i. indicator (has group i && not (has a i))) j n l)
+      omega (arith, missing-inside n group a within h, sumBelow-term (λ i. indicator (has group i && not (has a i))) j n l)
 
   -- so a part and a set give their weight for one k
   once : (j a x : ℕ) → j < n → a < 2 ^ n
-      → sumBelow (λ k. cond (has group j && not (has a j) && eqb (size group - size (meet a group)) (suc k)) x 0) (size group)
+      → sumBelow (λ k. cond (has group j && not (has a j) && eqb (size group - inside group a) (suc k)) x 0) (size group)
       ≡ cond (has group j) (cond (not (has a j)) x 0) 0
   once j a x l h = cases (true-or-false (has group j)) (true-or-false (has a j))
     where
       cases : (has group j ≡ true) ⊎ (has group j ≡ false) → (has a j ≡ true) ⊎ (has a j ≡ false)
-          → sumBelow (λ k. cond (has group j && not (has a j) && eqb (size group - size (meet a group)) (suc k)) x 0) (size group)
+          → sumBelow (λ k. cond (has group j && not (has a j) && eqb (size group - inside group a) (suc k)) x 0) (size group)
           ≡ cond (has group j) (cond (not (has a j)) x 0) 0
       cases (inl own) (inl there) = rw (own, there) (sumBelow-zero (size group))
       cases (inl own) (inr lacks) =
           let some : inside group a < size group = leaves-some j a l h own lacks in
           rw (own, lacks)
-          (sumBelow-only (λ k. cond (eqb (size group - size (meet a group)) (suc k)) x 0) (size group - size (meet a group) - 1) (size group)
+          (sumBelow-only (λ k. cond (eqb (size group - inside group a) (suc k)) x 0) (size group - inside group a - 1) (size group)
           (omega arith) (λ k m other.
-          ap (λ (t : Bool). cond t x 0) (ne-eqb (size group - size (meet a group)) (suc k) (λ e. other (omega arith))))
+          ap (λ (t : Bool). cond t x 0) (ne-eqb (size group - inside group a) (suc k) (λ e. other (omega arith))))
           ∙ ap (λ (t : Bool). cond t x 0)
-          (eq-eqb (size group - size (meet a group)) (suc (size group - size (meet a group) - 1)) (omega arith)))
+          (eq-eqb (size group - inside group a) (suc (size group - inside group a - 1)) (omega arith)))
       cases (inr not-own) there = rw not-own (sumBelow-zero (size group))
 
   counts-together : Semicoherent n works

@@ -14,7 +14,7 @@ use borrow.Author.Tests.{leb-true, le-leb, lt-leb, eqb-true}
 use Rattle.numbers.specs.Counts.{factorial}
 use Rattle.theory_sums.specs.Sums.{indicator, some}
 use Rattle.theory_sums.proofs.Sums.{sum-le, sum-ones, sumBelow-same, sumBelow-le, sumBelow-zero}
-use Rattle.theory_sets.specs.Masks.{has, size, holds}
+use Rattle.theory_sets.specs.Masks.{has, size, holds, inside}
 use Rattle.theory_sets.specs.Structures.{Semicoherent}
 use Rattle.theory_sets.proofs.Bools.{clash, true-or-false}
 use Rattle.theory_sets.proofs.Masks.{holds-part}
@@ -24,7 +24,6 @@ use Rattle.theory_orders.specs.Formulas.{added, taken}
 use Rattle.theory_orders.proofs.Orders.{orders-length}
 use Rattle.theory_orders.proofs.Counting.{count-and-taken}
 use Rattle.theory_orders.proofs.Sizes.{size-meet}
-use Rattle.shares_claim.specs.Shares.{inside}
 use Rattle.shares_claim.proofs.Types.{outside-most, inside-and-outside}
 
 -- there are no more orders than n!

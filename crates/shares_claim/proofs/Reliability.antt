@@ -12,11 +12,11 @@ use Rattle.theory_sums.specs.Sums.{indicator, sumBelowℤ}
 use Rattle.theory_sums.proofs.Integers.{*ℤ-unit, unit-*ℤ, ring}
 use Rattle.theory_sums.proofs.IntegerSums.{sumBelowℤ-same}
 use Rattle.theory_sums.proofs.Differences.{difference, monomial, expansion, monomial-same, monomial-other}
-use Rattle.theory_sets.specs.Masks.{size}
+use Rattle.theory_sets.specs.Masks.{size, inside, outside}
 use Rattle.theory_figures.specs.Figures.{sign, domination}
 use Rattle.theory_sums.proofs.IntegerSums.{sumBelowℤ-only, sumBelow-pos}
 use Rattle.theory_figures.proofs.Dominations.{expansion-terms, domination-coefficient}
-use Rattle.shares_claim.specs.Shares.{inside, outside, reliability}
+use Rattle.shares_claim.specs.Reliability.{reliability}
 use Rattle.shares_claim.proofs.Types.{sumOfType, sum-types, sum-reliability, typeCount}
 
 -- ---- the value of h

@@ -15,7 +15,7 @@ use Rattle.theory_sums.specs.Sums.{indicator}
 use Rattle.theory_sums.proofs.Integers.{*ℤ-unit, unit-*ℤ, ring}
 use Rattle.theory_sums.proofs.IntegerSums.{sumBelowℤ-same, sumBelowℤ-add, sumBelowℤ-neg}
 use Rattle.theory_sums.proofs.Differences.{difference, monomial, monomial-same, monomial-other}
-use Rattle.theory_sets.specs.Masks.{size, meet}
+use Rattle.theory_sets.specs.Masks.{size, inside, outside}
 use Rattle.theory_sets.specs.Structures.{Semicoherent}
 use Rattle.theory_sets.proofs.Bools.{true-or-false}
 use Rattle.theory_orders.specs.Counting.{count}
@@ -23,7 +23,8 @@ use Rattle.theory_orders.specs.Formulas.{added, taken}
 use Rattle.theory_orders.proofs.Counting.{count-and-taken}
 use Rattle.theory_sums.proofs.IntegerSums.{sumBelow-pos}
 use Rattle.shares_claim.specs.Polynomials.{integral, shareFrom}
-use Rattle.shares_claim.specs.Shares.{shareOf, inside, outside, reliability}
+use Rattle.shares_claim.specs.SetBySet.{shareOf}
+use Rattle.shares_claim.specs.Reliability.{reliability}
 use Rattle.shares_claim.proofs.Integrals.{integral-last}
 use Rattle.shares_claim.proofs.Types.{inside-most, outside-most, inside-and-outside, sum-reliability}
 use Rattle.shares_claim.proofs.Algorithm.{chosen, coefficient-weights, chosen-difference, integral-difference}
@@ -132,10 +133,10 @@ routes-agree n works group within k some most =
   where
     plus : ℕ → ℕ
     plus b =
-        cond (works b && eqb (size (meet b group)) (size group - k + 1)) ((size group - k + 1) * factorial (size b - 1) * factorial (n - size b)) 0
+        cond (works b && eqb (inside group b) (size group - k + 1)) ((size group - k + 1) * factorial (size b - 1) * factorial (n - size b)) 0
 
     minus : ℕ → ℕ
-    minus b = cond (works b && eqb (size (meet b group)) (size group - k)) (k * factorial (size b) * factorial (n - size b - 1)) 0
+    minus b = cond (works b && eqb (inside group b) (size group - k)) (k * factorial (size b) * factorial (n - size b - 1)) 0
 
     of-path-sets : (w p q : Bool) (x y : ℕ)
         → pos (indicator w) *ℤ (pos (cond p x 0) -ℤ pos (cond q y 0)) ≡ pos (cond (w && p) x 0) +ℤ negℤ (pos (cond (w && q) y 0))

@@ -12,14 +12,14 @@ use Rattle.theory_sums.proofs.Differences.{difference}
 use Rattle.theory_sums.proofs.Sums.{sumBelow-same, sumBelow-add}
 use Rattle.theory_sums.proofs.Integers.{ring}
 use Rattle.theory_sums.proofs.IntegerSums.{sumBelowℤ-same, sumBelowℤ-mul, sumBelowℤ-exchange}
-use Rattle.theory_sets.specs.Masks.{has, size}
+use Rattle.theory_sets.specs.Masks.{has, size, inside, outside}
 use Rattle.theory_sets.proofs.Bools.{and-swap}
-use Rattle.theory_orders.proofs.Sizes.{size-bits, size-rest, size-meet, outside-meet}
+use Rattle.theory_orders.proofs.Sizes.{size-bits, size-rest, size-meet, missing-inside}
 use Rattle.theory_figures.specs.Figures.{setDomination}
 use Rattle.theory_sums.proofs.IntegerSums.{sumBelowℤ-only}
 use Rattle.theory_figures.proofs.Supersets.{above-same, opposite, having, lacking, sum-above}
 use Rattle.theory_figures.proofs.Dominations.{sum-dominations}
-use Rattle.shares_claim.specs.Shares.{inside, outside, reliability}
+use Rattle.shares_claim.specs.Reliability.{reliability}
 
 -- how many path sets have i parts in the group and j outside
 unfoldable pub typeCount : ℕ → (ℕ → Bool) → ℕ → ℕ → ℕ → ℕ
@@ -41,7 +41,7 @@ parted f g n =
 
 module _ (n group a : ℕ) (within : group < 2 ^ n) (h : a < 2 ^ n) where
   pub inside-most : inside group a ≤ size group
-  inside-most = omega (arith, outside-meet n group a within h)
+  inside-most = omega (arith, missing-inside n group a within h)
 
   pub having-inside : having (has group) n a ≡ inside group a
   having-inside = sym (size-meet n group a h)
@@ -56,7 +56,7 @@ module _ (n group a : ℕ) (within : group < 2 ^ n) (h : a < 2 ^ n) where
   lacking-inside =
       let lacks : lacking (has group) n a ≡ sumBelow (λ i. indicator (has group i && not (has a i))) n
       = sumBelow-same _ _ n (λ i l. ap indicator (and-swap (not (has a i)) (has group i))) in
-      omega (arith, outside-meet n group a within h)
+      omega (arith, missing-inside n group a within h)
 
   lacking-and-outside : lacking (opposite (has group)) n a + outside group a + size group ≡ n
   lacking-and-outside =

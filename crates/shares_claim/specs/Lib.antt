@@ -1,5 +1,6 @@
 pub mod Polynomials
-pub mod Shares
+pub mod SetBySet
+pub mod Reliability
 pub mod Refusals
 pub mod Claim
 pub mod Inside

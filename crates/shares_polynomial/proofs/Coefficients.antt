@@ -20,13 +20,14 @@ use Rattle.theory_sums.specs.Sums.{sumBelowℤ}
 use Rattle.theory_sums.proofs.Sums.{sumBelow-same}
 use Rattle.theory_sums.proofs.Integers.{*ℤ-unit, negℤ-*ℤ, unit-*ℤ, *ℤ-assoc, ring}
 use Rattle.theory_sums.proofs.IntegerSums.{sumBelowℤ-same, sumBelowℤ-mul}
-use Rattle.theory_sets.specs.Masks.{size}
+use Rattle.theory_sets.specs.Masks.{size, inside, outside}
 use Rattle.theory_sets.specs.Tables.{inTable}
 use Rattle.theory_sets.proofs.Bools.{same-test, and-left, and-right}
 use Rattle.structure_words.specs.Words.{inWords, wordsOf}
 use Rattle.theory_figures.specs.Figures.{sign, domination}
 use Rattle.theory_figures.proofs.Signs.{sign-even, sign-odd}
-use Rattle.shares_claim.specs.Shares.{inside, outside, rowLength, reliability, reliabilityCells}
+use Rattle.shares_claim.specs.Polynomials.{rowLength}
+use Rattle.shares_claim.specs.Reliability.{reliability, reliabilityCells}
 use Rattle.shares_claim.proofs.Types.{typeCount, inside-most, outside-most}
 use Rattle.shares_claim.proofs.Bounds.{choose-few as choose-within}
 use Rattle.shares_claim.proofs.Reliability.{reliability-by-type}

@@ -6,7 +6,7 @@ use lib.ListN.{getD}
 use Rattle.numbers.specs.Counts.{choose}
 use Rattle.theory_sums.specs.Sums.{sumBelowℤ}
 use Rattle.theory_figures.specs.Figures.{sign, domination}
-use Rattle.shares_claim.specs.Shares.{inside, outside}
+use Rattle.theory_sets.specs.Masks.{inside, outside}
 
 -- a set's type as one number: its parts in the group and outside it, of which there are at most 16
 abbrev pub typeOf : ℕ → ℕ → ℕ

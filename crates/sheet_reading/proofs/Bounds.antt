@@ -22,7 +22,8 @@ use Rattle.vector_conversion.specs.Vectors.{entryAt, countsOf, vectorRefusal, f
 use Rattle.vector_kind.specs.declared.Kind.{Kind}
 use Rattle.vector_kind.specs.declared.Kind.the-variants.{PathCounts, Tail, Signature, Domination}
 use Rattle.vector_conversion.proofs.Fits.{choose-few}
-use Rattle.vector_conversion.proofs.Acceptance.{AcceptedVector, accepted-vector}
+use Rattle.vector_conversion.specs.Accepted.{AcceptedVector}
+use Rattle.vector_conversion.proofs.Acceptance.{accepted-vector}
 use Rattle.vector_conversion.proofs.Conversions.{conversion-same, signature-positive}
 use Rattle.sheet.specs.Sheets.{coded, decoded}
 use Rattle.sheet.proofs.Codes.{written-domination, written-positive}

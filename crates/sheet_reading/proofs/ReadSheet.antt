@@ -25,7 +25,8 @@ use Rattle.theory_sets.proofs.Bools.{and-both}
 use Rattle.vector_kind.specs.Kinds.{kindNumber, lengthOf, kindOf}
 use Rattle.vector_conversion.specs.Vectors.{countsRefusal, vectorRefusal}
 use Rattle.vector_kind.specs.declared.Kind.{Kind}
-use Rattle.vector_conversion.proofs.Acceptance.{AcceptedVector, accepted-vector}
+use Rattle.vector_conversion.specs.Accepted.{AcceptedVector}
+use Rattle.vector_conversion.proofs.Acceptance.{accepted-vector}
 use Rattle.vector_kind.proofs.KindNumbers.{kind-back, kind-is-one}
 use Rattle.sheet.proofs.Codes.{kind-few}
 use Rattle.sheet_reading.proofs.Bounds.{Fitting, accepted-fitting}

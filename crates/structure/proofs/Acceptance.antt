@@ -29,17 +29,10 @@ use Rattle.theory_sets.proofs.Ranges.{any-false, any-none, any-same, those-elim
 use Rattle.theory_sets.proofs.Structures.{upward-by-parts, by-parts-upward, unbroken-by-parts, by-parts-unbroken, minimal-works, minimal-below, semicoherent-same, minimalSets-same}
 use Rattle.theory_sets.proofs.Tables.{packed-unique, inTable-at, inTable-beyond, tableOf-length, tableOf-at, tableOf-works, tableLength-small, tableLength-large}
 use Rattle.numbers.proofs.Tables.{tabulate-unique}
+use Rattle.structure.specs.Accepted.{AcceptedTable}
 use Rattle.structure.specs.Checks.{entriesRefusal, listRefusal, unused, tableRefusal}
 
 -- ---- an accepted table
-
--- what an accepted table is: a table of the right length that has bits for sets of n parts alone, and a semicoherent structure
-pub record AcceptedTable (n : ℕ) (table : List ℕ) : Type 0 where
-  pub some : 1 ≤ n
-  pub few : n ≤ 16
-  pub long : length table ≡ tableLength n
-  pub clear : unused n table ≡ false
-  pub semicoherent : Semicoherent n (inTable table)
 
 parts-in : (n : ℕ) → not (leb 1 n && leb n 16) ≡ false → (1 ≤ n) × (n ≤ 16)
 parts-in n h =

@@ -25,7 +25,8 @@ use Rattle.structure_closure.specs.Closure.{without, spread, irredundant}
 use Rattle.structure_words.proofs.Words.{inWords-wordsOf}
 use Rattle.structure_closure.proofs.ListedSets.{spread-listed, spread-beyond}
 use Rattle.structure_closure.proofs.MinimalSets.{irredundant-minimal}
-use Rattle.structure.proofs.Acceptance.{AcceptedTable, AcceptedList, table-beyond}
+use Rattle.structure.specs.Accepted.{AcceptedTable}
+use Rattle.structure.proofs.Acceptance.{AcceptedList, table-beyond}
 
 -- ---- set functions that agree on the masks of 16 parts
 

@@ -12,7 +12,7 @@ use borrow.Author.Tests.{eqb-true, eq-eqb, lt-ltb}
 use Rattle.numbers.specs.Counts.{factorial}
 use Rattle.theory_sums.specs.Sums.{indicator, sum, howMany, sumBelow}
 use Rattle.theory_sums.proofs.Sums.{sum-same, some-is-howMany, sumBelow-same, sumBelow-add, sumBelow-mul, sumBelow-once, sumBelow-weights}
-use Rattle.theory_sets.specs.Masks.{has, size, meet}
+use Rattle.theory_sets.specs.Masks.{has, size, inside}
 use Rattle.theory_sets.specs.Structures.{Semicoherent}
 use Rattle.theory_sets.proofs.Bools.{true-or-false, same-test}
 use Rattle.theory_sets.proofs.Masks.{has-add}
@@ -22,7 +22,7 @@ use Rattle.theory_orders.specs.Counting.{Entry, entries, stops, inGroup,
 use Rattle.theory_orders.specs.Formulas.{added, taken, byParts}
 use Rattle.theory_orders.proofs.Orders.{orders-only, eqb-comm}
 use Rattle.theory_orders.proofs.Stopping.{one-stop}
-use Rattle.theory_orders.proofs.Sizes.{outside, outside-meet, size-meet, size-add, part-more}
+use Rattle.theory_orders.proofs.Sizes.{missing, missing-inside, size-meet, size-add, part-more}
 use Rattle.theory_orders.proofs.Divisions.{AtPlace, met, leavingAfter, sum-entries}
 
 -- ---- eq. 2
@@ -66,8 +66,8 @@ pair-stops x true false true true false = omega arith
 pair-stops x true false true false true = omega arith
 pair-stops x true false true false false = omega arith
 
-outside-is : (n group a : ℕ) → group < 2 ^ n → a < 2 ^ n → outside n group a ≡ size group - size (meet a group)
-outside-is n group a within h = omega (arith, outside-meet n group a within h)
+missing-is : (n group a : ℕ) → group < 2 ^ n → a < 2 ^ n → missing n group a ≡ size group - inside group a
+missing-is n group a within h = omega (arith, missing-inside n group a within h)
 
 -- the count is 001's eq. 2 times n!
 pub count-is-byParts : (n : ℕ) (works : ℕ → Bool) → Semicoherent n works → (group : ℕ) → group < 2 ^ n → (k : ℕ)
@@ -76,8 +76,8 @@ unfolding byParts leavingAfter stopsThere inGroup
 count-is-byParts n works coherent group within k =
     count-met works group k n coherent ∙ sum-entries group n (stopsThere works group k)
     ∙ sumBelow-same _ _ n (λ i l. sumBelow-same _ _ (2 ^ n) (λ a h.
-    rw (sub-one (suc i), add-comm (2 ^ i) a, outside-is n group a within h)
-    (pair-stops (factorial (size a) * factorial (n - size a - 1)) (has group i) (has a i) (eqb (size group - size (meet a group)) k)
+    rw (sub-one (suc i), add-comm (2 ^ i) a, missing-is n group a within h)
+    (pair-stops (factorial (size a) * factorial (n - size a - 1)) (has group i) (has a i) (eqb (size group - inside group a) k)
     (works a) (works (a + 2 ^ i)))))
 
 -- ---- eq. 1
@@ -107,18 +107,18 @@ stop-is-difference x true false true false true h = omega arith
 stop-is-difference x true false true false false h = omega arith
 
 module _ (n : ℕ) (works : ℕ → Bool) (coherent : Semicoherent n works) (group : ℕ) (within : group < 2 ^ n) (k : ℕ) where
-  -- a part of the group outside a set is not outside the set with it
-  outside-add : (i a : ℕ) → i < n → has a i ≡ false → has group i ≡ true → outside n group a ≡ suc (outside n group (a + 2 ^ i))
-  outside-add i a l lacks inside =
+  -- a part of the group that a set lacks is not lacked by the set with it
+  missing-add : (i a : ℕ) → i < n → has a i ≡ false → has group i ≡ true → missing n group a ≡ suc (missing n group (a + 2 ^ i))
+  missing-add i a l lacks belongs =
       sumBelow-same (λ j. indicator (has group j && not (has a j))) (λ j. indicator (eqb i j) + indicator (has group j && not (has (a + 2 ^ i) j))) n
       (λ j m. rw (has-add a i lacks j, eqb-comm j i) (cases j (eqb i j) refl))
       ∙ sumBelow-add (λ j. indicator (eqb i j)) (λ j. indicator (has group j && not (has (a + 2 ^ i) j))) n
-      ∙ ap (λ (u : ℕ). u + outside n group (a + 2 ^ i)) (sumBelow-once i n ∙ ap indicator (lt-ltb i n l))
-      ∙ one-add (outside n group (a + 2 ^ i))
+      ∙ ap (λ (u : ℕ). u + missing n group (a + 2 ^ i)) (sumBelow-once i n ∙ ap indicator (lt-ltb i n l))
+      ∙ one-add (missing n group (a + 2 ^ i))
     where
       cases : (j : ℕ) (b : Bool) → eqb i j ≡ b
           → indicator (has group j && not (has a j)) ≡ indicator b + indicator (has group j && not (b || has a j))
-      cases j true e = rw (← (eqb-true i j e), lacks, inside)
+      cases j true e = rw (← (eqb-true i j e), lacks, belongs)
       cases j false e = sym (zero-add _)
 
   -- the two sums of eq. 1 before they are put in order: over the parts of the group and the sets without them that leave k of the group,
@@ -127,10 +127,10 @@ module _ (n : ℕ) (works : ℕ → Bool) (coherent : Semicoherent n works) (gro
   ways a = factorial (size a) * factorial (n - size a - 1)
 
   without-part : ℕ → ℕ → ℕ
-  without-part i a = indicator (has group i && not (has a i)) * (indicator (eqb (outside n group a) k) * ways a * indicator (works a))
+  without-part i a = indicator (has group i && not (has a i)) * (indicator (eqb (missing n group a) k) * ways a * indicator (works a))
 
   with-part : ℕ → ℕ → ℕ
-  with-part i a = indicator (has group i && not (has a i)) * (indicator (eqb (outside n group a) k) * ways a * indicator (works (a + 2 ^ i)))
+  with-part i a = indicator (has group i && not (has a i)) * (indicator (eqb (missing n group a) k) * ways a * indicator (works (a + 2 ^ i)))
 
   byParts-difference : byParts n works group k + sumBelow (λ i. sumBelow (without-part i) (2 ^ n)) n
       ≡ sumBelow (λ i. sumBelow (with-part i) (2 ^ n)) n
@@ -138,8 +138,8 @@ module _ (n : ℕ) (works : ℕ → Bool) (coherent : Semicoherent n works) (gro
   byParts-difference =
       sym (sumBelow-add _ _ n)
       ∙ sumBelow-same _ _ n (λ i l. sym (sumBelow-add _ _ (2 ^ n)) ∙ sumBelow-same _ _ (2 ^ n) (λ a h.
-      rw (outside-is n group a within h)
-      (stop-is-difference (factorial (size a) * factorial (n - size a - 1)) (has group i) (has a i) (eqb (size group - size (meet a group)) k)
+      rw (missing-is n group a within h)
+      (stop-is-difference (factorial (size a) * factorial (n - size a - 1)) (has group i) (has a i) (eqb (size group - inside group a) k)
       (works a) (works (a + 2 ^ i)) (upward-by-parts n works (coherent .upward) a i h l))))
 
   module _ (most : k ≤ size group) where
@@ -147,18 +147,18 @@ module _ (n : ℕ) (works : ℕ → Bool) (coherent : Semicoherent n works) (gro
     unfolding without-part taken ways
     without-is-taken =
         sumBelow-weights (λ i a. indicator (has group i && not (has a i)))
-        (λ a. indicator (eqb (outside n group a) k) * ways a * indicator (works a)) n (2 ^ n)
+        (λ a. indicator (eqb (missing n group a) k) * ways a * indicator (works a)) n (2 ^ n)
         ∙ sumBelow-same _ _ (2 ^ n) (λ a h.
-        let all : outside n group a + size (meet a group) ≡ size group = outside-meet n group a within h in
-        weighed (outside n group a) k (ways a) (eqb (outside n group a) k) (eqb (size (meet a group)) (size group - k)) (works a)
-        (same-equality (outside n group a) k (size (meet a group)) (size group - k) (λ e. omega arith) (λ e. omega arith))
-        (eqb-true (outside n group a) k)
-        ∙ ap (λ (u : ℕ). cond (works a && eqb (size (meet a group)) (size group - k)) u 0)
+        let all : missing n group a + inside group a ≡ size group = missing-inside n group a within h in
+        weighed (missing n group a) k (ways a) (eqb (missing n group a) k) (eqb (inside group a) (size group - k)) (works a)
+        (same-equality (missing n group a) k (inside group a) (size group - k) (λ e. omega arith) (λ e. omega arith))
+        (eqb-true (missing n group a) k)
+        ∙ ap (λ (u : ℕ). cond (works a && eqb (inside group a) (size group - k)) u 0)
         (sym (mul-assoc k (factorial (size a)) (factorial (n - size a - 1)))))
 
     -- what a path set gives where it is the set with the part
     reached : ℕ → ℕ
-    reached a = indicator (eqb (suc (outside n group a)) k) * (factorial (size a - 1) * factorial (n - size a)) * indicator (works a)
+    reached a = indicator (eqb (suc (missing n group a)) k) * (factorial (size a - 1) * factorial (n - size a)) * indicator (works a)
 
     with-is-reached : (i : ℕ) → i < n → (a : ℕ) → a < 2 ^ n
         → with-part i a ≡ indicator (has group i) * (indicator (not (has a i)) * reached (a + 2 ^ i))
@@ -172,7 +172,7 @@ module _ (n : ℕ) (works : ℕ → Bool) (coherent : Semicoherent n works) (gro
         cases (inl g) (inr b) =
             let less : suc (size a) - 1 ≡ size a = omega arith in
             let rest : n - suc (size a) ≡ n - size a - 1 = omega arith in
-            rw (g, b, outside-add i a l b g, size-add a i b, less, rest) (sym (one-mul _))
+            rw (g, b, missing-add i a l b g, size-add a i b, less, rest) (sym (one-mul _))
 
     with-is-added : sumBelow (λ i. sumBelow (with-part i) (2 ^ n)) n ≡ added n works group k
     unfolding added reached
@@ -185,13 +185,13 @@ module _ (n : ℕ) (works : ℕ → Bool) (coherent : Semicoherent n works) (gro
         ∙ sumBelow-same _ _ (2 ^ n) (λ a h. both (has group i) (has a i) (reached a)))
         ∙ sumBelow-weights (λ i a. indicator (has a i && has group i)) reached n (2 ^ n)
         ∙ sumBelow-same _ _ (2 ^ n) (λ a h.
-        let all : outside n group a + size (meet a group) ≡ size group = outside-meet n group a within h in
+        let all : missing n group a + inside group a ≡ size group = missing-inside n group a within h in
         ap (λ (u : ℕ). u * reached a) (sym (size-meet n group a h))
-        ∙ weighed (size (meet a group)) (size group - k + 1) (factorial (size a - 1) * factorial (n - size a)) (eqb (suc (outside n group a)) k)
-        (eqb (size (meet a group)) (size group - k + 1)) (works a)
-        (same-equality (suc (outside n group a)) k (size (meet a group)) (size group - k + 1) (λ e. omega arith) (λ e. omega arith))
-        (λ t. omega (arith, eqb-true (suc (outside n group a)) k t))
-        ∙ ap (λ (u : ℕ). cond (works a && eqb (size (meet a group)) (size group - k + 1)) u 0)
+        ∙ weighed (inside group a) (size group - k + 1) (factorial (size a - 1) * factorial (n - size a)) (eqb (suc (missing n group a)) k)
+        (eqb (inside group a) (size group - k + 1)) (works a)
+        (same-equality (suc (missing n group a)) k (inside group a) (size group - k + 1) (λ e. omega arith) (λ e. omega arith))
+        (λ t. omega (arith, eqb-true (suc (missing n group a)) k t))
+        ∙ ap (λ (u : ℕ). cond (works a && eqb (inside group a) (size group - k + 1)) u 0)
         (sym (mul-assoc (size group - k + 1) (factorial (size a - 1)) (factorial (n - size a)))))
       where
         both : (p q : Bool) (x : ℕ) → indicator p * (indicator q * x) ≡ indicator (q && p) * x

@@ -20,7 +20,7 @@ use Rattle.theory_sets.proofs.Masks.{has-above}
 use Rattle.theory_orders.specs.Orders.{inserted, orders, mask}
 use Rattle.theory_orders.specs.Counting.{Entry, behind, entries, inGroup}
 use Rattle.theory_orders.proofs.Orders.{sum-inserted}
-use Rattle.theory_orders.proofs.Sizes.{outside, outside-last, outside-with, size-last, size-lacking, has-last, has-others}
+use Rattle.theory_orders.proofs.Sizes.{missing, missing-last, missing-with, size-last, size-lacking, has-last, has-others}
 
 -- ---- the places between the entries of a list
 
@@ -145,7 +145,7 @@ module _ (group : ℕ) where
 
   -- how often a set is what is left at a place of an order, times what g gives there
   unfoldable pub leaving : ℕ → AtPlace → ℕ → ℕ
-  leaving n g a = factorial (size a) * factorial (n - size a) * g (n - size a) (outside n group a) (size a) a
+  leaving n g a = factorial (size a) * factorial (n - size a) * g (n - size a) (missing n group a) (size a) a
 
   share-out : (p q z s x y : ℕ) → p * q * (suc z * x + suc s * y) ≡ p * (suc z * q) * x + suc s * p * q * y
   share-out p q z s x y = omega arith
@@ -155,9 +155,9 @@ module _ (group : ℕ) where
   unfolding leaving withLast factorial
   leaving-last n g a h =
       let more : suc n - size a ≡ suc (n - size a) = omega (arith, ones-le n a h) in
-      rw (more, outside-last n a h group, size-last n a h, suc-sub-suc n (size a), outside-with n a h group)
+      rw (more, missing-last n a h group, size-last n a h, suc-sub-suc n (size a), missing-with n a h group)
       (share-out (factorial (size a)) (factorial (n - size a)) (n - size a) (size a)
-      (g (suc (n - size a)) (outside n group a + indicator (has group n)) (size a) a) (g (n - size a) (outside n group a) (suc (size a)) (a + 2 ^ n)))
+      (g (suc (n - size a)) (missing n group a + indicator (has group n)) (size a) a) (g (n - size a) (missing n group a) (suc (size a)) (a + 2 ^ n)))
 
   pub sum-divisions : (n : ℕ) (g : AtPlace) → sum (divisions (left g)) (orders n) ≡ sumBelow (leaving n g) (2 ^ n)
   unfolding orders divisions sum sumBelow flatMap left leaving factorial mask ones onesIn
@@ -189,7 +189,7 @@ module _ (group : ℕ) where
   -- how often a set is what is left after an entry, times what g gives there
   unfoldable pub leavingAfter : ℕ → (ℕ → AtPlace) → ℕ → ℕ → ℕ
   leavingAfter n g i a =
-      indicator (not (has a i)) * (factorial (size a) * factorial (n - size a - 1) * g (suc i) (n - size a - 1) (outside n group a) (size a) a)
+      indicator (not (has a i)) * (factorial (size a) * factorial (n - size a - 1) * g (suc i) (n - size a - 1) (missing n group a) (size a) a)
 
   leavingAfter-last : (n : ℕ) (g : ℕ → AtPlace) (i : ℕ) → i < n → (a : ℕ) → a < 2 ^ n
       → leavingAfter n (λ j. withLast n (g j)) i a ≡ leavingAfter (suc n) g i a + leavingAfter (suc n) g i (a + 2 ^ n)
@@ -201,11 +201,11 @@ module _ (group : ℕ) where
       cases (inl t) = rw (has-others n a h i l, t) (omega arith)
       cases (inr f) =
           let more : suc n - size a - 1 ≡ suc (n - size a - 1) = omega (arith, size-lacking n a i h l f) in
-          rw (has-others n a h i l, f, more, outside-last n a h group, size-last n a h, suc-sub-suc n (size a), outside-with n a h group)
+          rw (has-others n a h i l, f, more, missing-last n a h group, size-last n a h, suc-sub-suc n (size a), missing-with n a h group)
           (one-mul _
           ∙ share-out (factorial (size a)) (factorial (n - size a - 1)) (n - size a - 1) (size a)
-          (g (suc i) (suc (n - size a - 1)) (outside n group a + indicator (has group n)) (size a) a)
-          (g (suc i) (n - size a - 1) (outside n group a) (suc (size a)) (a + 2 ^ n))
+          (g (suc i) (suc (n - size a - 1)) (missing n group a + indicator (has group n)) (size a) a)
+          (g (suc i) (n - size a - 1) (missing n group a) (suc (size a)) (a + 2 ^ n))
           ∙ sym (ap₂ (λ (u v : ℕ). u + v) (one-mul _) (one-mul _)))
 
   entering-last : (n : ℕ) (g : ℕ → AtPlace) (a : ℕ) → a < 2 ^ n
@@ -213,7 +213,7 @@ module _ (group : ℕ) where
   unfolding leavingAfter leaving
   entering-last n g a h =
       let same : suc n - size a - 1 ≡ n - size a = omega (arith, ones-le n a h) in
-      rw (has-above a n n h (le-refl n), has-last n a h, same, outside-last n a h group) (omega arith)
+      rw (has-above a n n h (le-refl n), has-last n a h, same, missing-last n a h group) (omega arith)
 
   pub sum-entries : (n : ℕ) (g : ℕ → AtPlace)
       → sum (λ order. sum (met g) (entries order)) (orders n) ≡ sumBelow (λ i. sumBelow (leavingAfter n g i) (2 ^ n)) n

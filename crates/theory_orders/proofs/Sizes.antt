@@ -13,7 +13,7 @@ use lib.Dec.{eqb}
 use borrow.Author.Tests.{eq-eqb, ne-eqb}
 use Rattle.theory_sums.specs.Sums.{indicator, sumBelow}
 use Rattle.theory_sums.proofs.Sums.{sumBelow-same, sumBelow-add, sumBelow-ones, sumBelow-masks, sumBelow-first}
-use Rattle.theory_sets.specs.Masks.{has, size, meet}
+use Rattle.theory_sets.specs.Masks.{has, size, meet, inside}
 use Rattle.theory_sets.proofs.Masks.{has-zero, has-suc, has-add, has-above, has-meet, add-below}
 
 low-bit : (a : ℕ) → indicator (has a 0) ≡ a % 2
@@ -66,29 +66,29 @@ size-rest n a h =
     either true = refl
     either false = refl
 
--- ---- the parts of a group outside a set
+-- ---- the parts of a group that a set lacks
 
-abbrev pub outside : ℕ → ℕ → ℕ → ℕ
-outside n group a = sumBelow (λ i. indicator (has group i && not (has a i))) n
+abbrev pub missing : ℕ → ℕ → ℕ → ℕ
+missing n group a = sumBelow (λ i. indicator (has group i && not (has a i))) n
 
-pub size-meet : (n group a : ℕ) → a < 2 ^ n → size (meet a group) ≡ sumBelow (λ i. indicator (has a i && has group i)) n
+pub size-meet : (n group a : ℕ) → a < 2 ^ n → inside group a ≡ sumBelow (λ i. indicator (has a i && has group i)) n
 size-meet n group a h =
     size-bits n (meet a group) (lt-of-le-of-lt (and-le-l a group) h)
     ∙ sumBelow-same (λ i. indicator (has (meet a group) i)) (λ i. indicator (has a i && has group i)) n (λ i l. ap indicator (has-meet a group i))
 
-pub outside-meet : (n group a : ℕ) → group < 2 ^ n → a < 2 ^ n → outside n group a + size (meet a group) ≡ size group
-outside-meet n group a hg ha =
-    ap (λ (u : ℕ). outside n group a + u) (size-meet n group a ha)
+pub missing-inside : (n group a : ℕ) → group < 2 ^ n → a < 2 ^ n → missing n group a + inside group a ≡ size group
+missing-inside n group a hg ha =
+    ap (λ (u : ℕ). missing n group a + u) (size-meet n group a ha)
     ∙ sym (sumBelow-add (λ i. indicator (has group i && not (has a i))) (λ i. indicator (has a i && has group i)) n)
     ∙ sumBelow-same (λ i. indicator (has group i && not (has a i)) + indicator (has a i && has group i)) (λ i. indicator (has group i)) n
-    (λ i l. outside-or-inside (has group i) (has a i))
+    (λ i l. missing-or-inside (has group i) (has a i))
     ∙ sym (size-bits n group hg)
   where
-    outside-or-inside : (p q : Bool) → indicator (p && not q) + indicator (q && p) ≡ indicator p
-    outside-or-inside true true = refl
-    outside-or-inside true false = refl
-    outside-or-inside false true = refl
-    outside-or-inside false false = refl
+    missing-or-inside : (p q : Bool) → indicator (p && not q) + indicator (q && p) ≡ indicator p
+    missing-or-inside true true = refl
+    missing-or-inside true false = refl
+    missing-or-inside false true = refl
+    missing-or-inside false false = refl
 
 -- ---- the last part
 
@@ -103,13 +103,13 @@ module _ (n a : ℕ) (h : a < 2 ^ n) where
   size-last = size-add a n (has-above a n n h (le-refl n))
 
   -- it is outside a set of the others, and inside that set with it
-  pub outside-last : (group : ℕ) → outside (suc n) group a ≡ outside n group a + indicator (has group n)
+  pub missing-last : (group : ℕ) → missing (suc n) group a ≡ missing n group a + indicator (has group n)
   unfolding sumBelow
-  outside-last group = rw (has-above a n n h (le-refl n), and-true (has group n))
+  missing-last group = rw (has-above a n n h (le-refl n), and-true (has group n))
 
-  pub outside-with : (group : ℕ) → outside (suc n) group (a + 2 ^ n) ≡ outside n group a
+  pub missing-with : (group : ℕ) → missing (suc n) group (a + 2 ^ n) ≡ missing n group a
   unfolding sumBelow
-  outside-with group =
+  missing-with group =
       rw (has-last, and-false (has group n)) (add-zero _
       ∙ sumBelow-same (λ i. indicator (has group i && not (has (a + 2 ^ n) i))) (λ i. indicator (has group i && not (has a i))) n
       (λ i l. ap (λ (b : Bool). indicator (has group i && not b)) (has-others i l)))

@@ -20,7 +20,7 @@ use Rattle.theory_orders.specs.Orders.{orders, mask}
 use Rattle.theory_orders.specs.Counting.{entries, stops, inGroup, count}
 use Rattle.theory_orders.proofs.Orders.{orders-length, orders-only}
 use Rattle.theory_orders.proofs.Stopping.{one-stop}
-use Rattle.theory_orders.proofs.Sizes.{outside, size-rest, size-lacking}
+use Rattle.theory_orders.proofs.Sizes.{missing, size-rest, size-lacking}
 use Rattle.theory_orders.proofs.Divisions.{AtPlace, met, leavingAfter, sum-entries}
 use Rattle.theory_orders.proofs.Counting.{stopsThere, count-met}
 
@@ -56,11 +56,11 @@ module _ (n : ℕ) (works : ℕ → Bool) (coherent : Semicoherent n works) wher
       test = not (works a) && works (2 ^ (suc i - 1) + a)
 
       kth : ℕ → Bool
-      kth k = inGroup (2 ^ n - 1) (suc i) && eqb (outside n (2 ^ n - 1) a) (k + 1)
+      kth k = inGroup (2 ^ n - 1) (suc i) && eqb (missing n (2 ^ n - 1) a) (k + 1)
 
-      outside-all : has a i ≡ false → outside n (2 ^ n - 1) a ≡ suc (n - size a - 1)
-      outside-all b =
-          let lacked : outside n (2 ^ n - 1) a ≡ sumBelow (λ j. indicator (not (has a j))) n
+      missing-all : has a i ≡ false → missing n (2 ^ n - 1) a ≡ suc (n - size a - 1)
+      missing-all b =
+          let lacked : missing n (2 ^ n - 1) a ≡ sumBelow (λ j. indicator (not (has a j))) n
           = sumBelow-same _ _ n (λ j m. rw (has-full n j m)) in
           omega (arith, size-rest n a h, size-lacking n a i h l b)
 
@@ -73,7 +73,7 @@ module _ (n : ℕ) (works : ℕ → Bool) (coherent : Semicoherent n works) wher
       cases (inl b) = rw b (zero-mul _ ∙ sym (zero-mul _))
       cases (inr b) =
           ap (λ (u : ℕ). indicator (not (has a i)) * (ways * u))
-          (rw (ap (has (2 ^ n - 1)) (sub-one (suc i)) ∙ has-full n i l, outside-all b)
+          (rw (ap (has (2 ^ n - 1)) (sub-one (suc i)) ∙ has-full n i l, missing-all b)
           (pick test (n - size a - 1) (omega (arith, size-lacking n a i h l b))))
 
 pub counts-total : (n : ℕ) (works : ℕ → Bool) → Semicoherent n works → sumBelow (λ k. count n works (2 ^ n - 1) (k + 1)) n ≡ factorial n

@@ -1,7 +1,7 @@
 -- Sets of parts as masks (01, "Structures"): the part at position i, from 1, is bit i - 1 of the mask.
 use mathlib.Core.Bool.{Bool, false, cond, _||_}
 use mathlib.Core.List.{List, [], _∷_, _++_}
-use Prim.Native.Nat.{ℕ, zero, suc, _/_, _%_, _^_, _≤_}
+use Prim.Native.Nat.{ℕ, zero, suc, _-_, _/_, _%_, _^_, _≤_}
 use lib.Bits.{bitAnd}
 use lib.Count.{ones}
 use lib.Dec.{eqb}
@@ -18,6 +18,13 @@ size a = ones a
 -- the parts that two sets share
 abbrev pub meet : ℕ → ℕ → ℕ
 meet a b = bitAnd a b
+
+-- the number of parts that a set has in a group, which is a set too, and outside it
+abbrev pub inside : ℕ → ℕ → ℕ
+inside group a = size (meet a group)
+
+abbrev pub outside : ℕ → ℕ → ℕ
+outside group a = size a - inside group a
 
 -- the set a holds the set b: the parts that they share are all of b's
 unfoldable pub holds : ℕ → ℕ → Bool

@@ -23,7 +23,8 @@ use Rattle.vector_conversion.specs.Vectors.{entryAt, unitOf, countsOf, v
 use Rattle.vector_kind.specs.declared.Kind.{Kind}
 use Rattle.vector_kind.specs.declared.Kind.the-variants.{PathCounts, Tail, Signature, Domination}
 use Rattle.vector_conversion.proofs.Scaled.{unit-pos, signature-step, scaled-figure, vector-scaled}
-use Rattle.vector_conversion.proofs.Acceptance.{AcceptedCounts, AcceptedVector, accepted-same, accepted-vector, vector-accepted}
+use Rattle.vector_conversion.specs.Accepted.{AcceptedCounts, AcceptedVector}
+use Rattle.vector_conversion.proofs.Acceptance.{accepted-same, accepted-vector, vector-accepted}
 
 -- ---- path counts and their vectors
 

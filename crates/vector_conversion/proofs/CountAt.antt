@@ -1,6 +1,6 @@
 -- The path count of a size in a vector, by the entry of that size and the path counts of the sizes below it. Assumes nothing.
 use mathlib.Core.Path.{_≡_, refl, sym, ap, ap₂, _∙_}
-use mathlib.Core.Bool.{Bool, true, false, not}
+use mathlib.Core.Bool.{Bool, true, false}
 use mathlib.Core.Logic.{_⊎_, inl, inr}
 use mathlib.Core.List.{List}
 use Prim.Native.Nat.{ℕ, suc, _+_, _-_, _*_, _^_, _≤_, _<_}
@@ -20,13 +20,13 @@ use Rattle.theory_sums.proofs.IntegerSums.{sumBelowℤ-same}
 use Rattle.theory_sets.proofs.Ranges.{below-or-above}
 use Rattle.theory_figures.specs.Figures.{sign, domination}
 use Rattle.theory_figures.proofs.Dominations.{pathCount-back}
-use Rattle.vector_conversion.specs.Vectors.{entryAt, scaledCount, unitOf, countsOf, leastCount, mostCount, isCount, wrongCount}
+use Rattle.vector_conversion.specs.Vectors.{entryAt, scaledCount, unitOf, standsFor, countsOf, wrongCount}
 use Rattle.vector_conversion.specs.Inside.{pick, countIn, countAt, cellsOf, Found}
 use Rattle.vector_conversion.specs.declared.Count.the-variants.{Of, Wrong}
 use Rattle.vector_kind.specs.declared.Kind.{Kind}
 use Rattle.vector_kind.specs.declared.Kind.the-variants.{PathCounts, Tail, Signature, Domination}
 use Rattle.vector_conversion.proofs.Scaled.{last-term, sign-last, domination-unique}
-use Rattle.vector_conversion.proofs.Acceptance.{right-count, right-count-most}
+use Rattle.vector_conversion.proofs.Acceptance.{right-count}
 use Rattle.vector_conversion.proofs.Fits.{choose-few}
 
 -- an entry as it is read
@@ -55,7 +55,7 @@ module _ (kind : Kind) (n : ℕ) (entries : List ℤ) (counts : List ℕ) (j : �
   -- what the counts found stand for
   pub found-scaled : (i : ℕ) → i < j → scaledCount kind n entries i ≡ pos (getD counts i 0 * unitOf kind n i)
   found-scaled i h =
-      right-count kind n entries i (found .right i h) .0 ∙ ap (λ (x : ℕ). pos (x * unitOf kind n i)) (sym (found .cells i h))
+      right-count n (standsFor kind n entries) i (found .right i h) .whole ∙ ap (λ (x : ℕ). pos (x * unitOf kind n i)) (sym (found .cells i h))
 
 -- a signature's entry is added to what the sizes below it stand for
 pub count-signature : (n : ℕ) (entries : List ℤ) (counts : List ℕ) (j : ℕ) → Found Signature n entries counts (suc j)
@@ -119,23 +119,21 @@ count-domination n entries counts j added taken h found sums =
 
 module _ (kind : Kind) (n : ℕ) (entries : List ℤ) (j : ℕ) where
   -- a count that is found, and one that is wrong
-  pub count-of : (x : ℕ) → countAt kind n entries j ≡ Of x → (wrongCount kind n entries j ≡ false) × (x ≡ countsOf kind n entries j)
+  pub count-of : (x : ℕ) → countAt kind n entries j ≡ Of x → (wrongCount n (standsFor kind n entries) j ≡ false) × (x ≡ countsOf kind n entries j)
   unfolding countAt wrongCount
-  count-of x h =
-      cases (isCount (leastCount n j) (mostCount n j) (unitOf kind n j) (scaledCount kind n entries j)) h
+  count-of x h = cases _ h
     where
-      cases : (t : Bool) → pick t (Of (countsOf kind n entries j)) Wrong ≡ Of x → (not t ≡ false) × (x ≡ countsOf kind n entries j)
-      cases true e = (refl, cc)
-      cases false e = absurd (let clash : _≡_ {A = ℕ} 0 1 = cc in omega arith)
-
-  pub count-wrong : countAt kind n entries j ≡ Wrong → wrongCount kind n entries j ≡ true
-  unfolding countAt wrongCount
-  count-wrong h =
-      cases (isCount (leastCount n j) (mostCount n j) (unitOf kind n j) (scaledCount kind n entries j)) h
-    where
-      cases : (t : Bool) → pick t (Of (countsOf kind n entries j)) Wrong ≡ Wrong → not t ≡ true
+      cases : (t : Bool) → pick t Wrong (Of (countsOf kind n entries j)) ≡ Of x → (t ≡ false) × (x ≡ countsOf kind n entries j)
       cases true e = absurd (let clash : _≡_ {A = ℕ} 0 1 = cc in omega arith)
-      cases false e = refl
+      cases false e = (refl, cc)
+
+  pub count-wrong : countAt kind n entries j ≡ Wrong → wrongCount n (standsFor kind n entries) j ≡ true
+  unfolding countAt wrongCount
+  count-wrong h = cases _ h
+    where
+      cases : (t : Bool) → pick t Wrong (Of (countsOf kind n entries j)) ≡ Wrong → t ≡ true
+      cases true e = refl
+      cases false e = absurd (let clash : _≡_ {A = ℕ} 0 1 = cc in omega arith)
 
   -- the counts with one more
   pub found-more : (counts : List ℕ) (x : ℕ) → n ≤ 16 → j < length counts → Found kind n entries counts j → countAt kind n entries j ≡ Of x
@@ -147,7 +145,7 @@ module _ (kind : Kind) (n : ℕ) (entries : List ℤ) (j : ℕ) where
         cells = λ i l. cell i (up i l);
       }
     where
-      told : (wrongCount kind n entries j ≡ false) × (x ≡ countsOf kind n entries j)
+      told : (wrongCount n (standsFor kind n entries) j ≡ false) × (x ≡ countsOf kind n entries j)
       told = count-of x e
 
       same-or-not : (i k : ℕ) → (i ≡ k) ⊎ (i ≡ k → ⊥)
@@ -167,11 +165,11 @@ module _ (kind : Kind) (n : ℕ) (entries : List ℤ) (j : ℕ) where
       small : (i : ℕ) → (i ≡ j) ⊎ (i ≡ j → ⊥) → getD (set counts j x) i 0 ≤ 12870
       small i (inl q) =
           le-trans (le-of-eq (ap (λ (k : ℕ). getD (set counts j x) k 0) q ∙ here ∙ told .1))
-          (le-trans (right-count-most kind n entries j (told .0)) (choose-few n j few))
+          (le-trans (right-count n (standsFor kind n entries) j (told .0) .most) (choose-few n j few))
       small i (inr q) = le-trans (le-of-eq (getD-set-other counts j i x 0 q)) (found .few i)
 
-      right : (i : ℕ) → (i ≡ j) ⊎ (i < j) → wrongCount kind n entries i ≡ false
-      right i (inl q) = ap (wrongCount kind n entries) q ∙ told .0
+      right : (i : ℕ) → (i ≡ j) ⊎ (i < j) → wrongCount n (standsFor kind n entries) i ≡ false
+      right i (inl q) = ap (wrongCount n (standsFor kind n entries)) q ∙ told .0
       right i (inr l) = found .right i l
 
       cell : (i : ℕ) → (i ≡ j) ⊎ (i < j) → getD (set counts j x) i 0 ≡ countsOf kind n entries i

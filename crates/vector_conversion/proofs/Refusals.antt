@@ -18,7 +18,7 @@ use Rattle.theory_sets.specs.Masks.{any, least}
 use Rattle.theory_sets.proofs.Bools.{and-left, and-right, and-both, clash, false-of}
 use Rattle.theory_sets.proofs.Ranges.{any-intro, any-false, least-found}
 use Rattle.vector_kind.specs.Kinds.{lengthOf}
-use Rattle.vector_conversion.specs.Vectors.{countsOf, wrongCount, falls, countsRefusal, vectorRefusal}
+use Rattle.vector_conversion.specs.Vectors.{standsFor, countsOf, wrongCount, falls, pathCountsRefusal, countsRefusal, vectorRefusal}
 use Rattle.vector_conversion.specs.Inside.{cellsOf, FoundAll, FirstFall}
 use Rattle.vector_kind.specs.declared.Kind.{Kind}
 
@@ -45,20 +45,20 @@ module _ (kind : Kind) (n : ℕ) (entries : List ℤ) where
 
       module _ (counts : List ℕ) (wrong : ℕ) (found : FoundAll kind n entries counts wrong) where
         pub refused-count : wrong ≤ n → Refused (at wrongPathCount wrong) ≡ vectorRefusal kind n entries
-        unfolding countsRefusal
+        unfolding countsRefusal pathCountsRefusal
         refused-count h =
             sym (passed
-            ∙ refuse-held _ wrongPathCount (least (wrongCount kind n entries) (suc n)) _ (any-intro (wrongCount kind n entries) (suc n) wrong (suc-le-suc h) (found .first h))
+            ∙ refuse-held _ wrongPathCount (least (wrongCount n (standsFor kind n entries)) (suc n)) _ (any-intro (wrongCount n (standsFor kind n entries)) (suc n) wrong (suc-le-suc h) (found .first h))
             ∙ ap (λ (place : ℕ). Refused (at wrongPathCount place))
-            (least-found (wrongCount kind n entries) (suc n) wrong (suc-le-suc h) (found .first h) (found .found .right)))
+            (least-found (wrongCount n (standsFor kind n entries)) (suc n) wrong (suc-le-suc h) (found .first h) (found .found .right)))
 
         module _ (past : n < wrong) where
           -- no count is wrong, and all are found
           pub all-found : (j : ℕ) → j ≤ n → getD counts j 0 ≡ countsOf kind n entries j
           all-found j h = found .found .cells j (omega arith)
 
-          none-wrong : any (wrongCount kind n entries) (suc n) ≡ false
-          none-wrong = any-false (wrongCount kind n entries) (suc n) (λ j h w. clash w (found .found .right j (omega arith)))
+          none-wrong : any (wrongCount n (standsFor kind n entries)) (suc n) ≡ false
+          none-wrong = any-false (wrongCount n (standsFor kind n entries)) (suc n) (λ j h w. clash w (found .found .right j (omega arith)))
 
           fall-same : (j : ℕ) → j < n → falls n (countsOf kind n entries) j ≡ falls n (cellsOf counts) j
           unfolding falls
@@ -69,18 +69,18 @@ module _ (kind : Kind) (n : ℕ) (entries : List ℤ) where
             below j h = fall-same j (omega (arith, first .within)) ∙ first .rises j h
 
             pub refused-fall : fall < n → Refused (at fallingProportion fall) ≡ vectorRefusal kind n entries
-            unfolding countsRefusal
+            unfolding countsRefusal pathCountsRefusal
             refused-fall h =
                 let here : falls n (countsOf kind n entries) fall ≡ true = fall-same fall h ∙ first .first h in
-                sym (passed ∙ refuse-passed _ wrongPathCount (least (wrongCount kind n entries) (suc n)) _ none-wrong
+                sym (passed ∙ refuse-passed _ wrongPathCount (least (wrongCount n (standsFor kind n entries)) (suc n)) _ none-wrong
                 ∙ refuse-held _ fallingProportion (least (falls n (countsOf kind n entries)) n) Accepted
                 (any-intro (falls n (countsOf kind n entries)) n fall h here)
                 ∙ ap (λ (place : ℕ). Refused (at fallingProportion place)) (least-found (falls n (countsOf kind n entries)) n fall h here below))
 
             pub passed-all : n ≤ fall → Accepted ≡ vectorRefusal kind n entries
-            unfolding countsRefusal
+            unfolding countsRefusal pathCountsRefusal
             passed-all h =
-                sym (passed ∙ refuse-passed _ wrongPathCount (least (wrongCount kind n entries) (suc n)) _ none-wrong
+                sym (passed ∙ refuse-passed _ wrongPathCount (least (wrongCount n (standsFor kind n entries)) (suc n)) _ none-wrong
                 ∙ refuse-passed _ fallingProportion (least (falls n (countsOf kind n entries)) n) Accepted
                 (any-false (falls n (countsOf kind n entries)) n (λ j l w. clash w (below j (omega arith)))))
 

@@ -14,9 +14,9 @@ use Rattle.numbers.specs.Counts.{factorial, choose}
 use Rattle.theory_sums.specs.Sums.{indicator, sumBelowℤ}
 use Rattle.theory_sums.proofs.IntegerSums.{sumBelowℤ-same, sumBelowℤ-reversed}
 use Rattle.theory_sets.proofs.Bools.{true-or-false}
-use Rattle.vector_conversion.specs.Vectors.{entryAt, scaledCount, unitOf, countsOf, leastCount, mostCount, wrongCount, vectorRefusal}
+use Rattle.vector_conversion.specs.Vectors.{entryAt, scaledCount, unitOf, standsFor, wrongCount, vectorRefusal}
 use Rattle.vector_kind.specs.declared.Kind.the-variants.{Signature}
-use Rattle.vector_conversion.proofs.Acceptance.{right-count, choose-all, accepted-vector}
+use Rattle.vector_conversion.proofs.Acceptance.{right-count, accepted-vector}
 
 module _ (n : ℕ) (entries : List ℤ) where
   -- N(1) + .. + N(n)
@@ -39,22 +39,18 @@ module _ (n : ℕ) (entries : List ℤ) where
   unit-all = ap (λ (k : ℕ). factorial n * factorial k) (sub-self n) ∙ mul-one (factorial n)
 
   -- a right φ(n) is 1
-  pub right-total : 1 ≤ n → wrongCount Signature n entries n ≡ false → total ≡ pos (factorial n)
-  right-total some right =
-      let c = right-count Signature n entries n right in
-      let least : leastCount n n ≡ 1 = ap indicator (eq-eqb n n refl) in
-      let most : mostCount n n ≡ 1 =
-      ap (λ (t : Bool). cond t 0 (choose n n)) (ne-eqb n 0 (λ e. omega arith)) ∙ choose-all n in
-      let one : countsOf Signature n entries n ≡ 1 = omega (arith, c .1, c .2) in
-      sym total-scaled ∙ c .0 ∙ ap (λ (k : ℕ). pos (k * unitOf Signature n n)) one ∙ ap pos (one-mul (unitOf Signature n n) ∙ unit-all)
+  pub right-total : wrongCount n (standsFor Signature n entries) n ≡ false → total ≡ pos (factorial n)
+  right-total right =
+      let c = right-count n (standsFor Signature n entries) n right in
+      sym total-scaled ∙ c .whole ∙ ap (λ (k : ℕ). pos (k * unitOf Signature n n)) (c .all refl) ∙ ap pos (one-mul (unitOf Signature n n) ∙ unit-all)
 
   -- so another total is refused by 13 at n, unless something is wrong before it
-  pub other-total : 1 ≤ n → (total ≡ pos (factorial n) → ⊥) → wrongCount Signature n entries n ≡ true
-  other-total some other = cases (true-or-false (wrongCount Signature n entries n))
+  pub other-total : (total ≡ pos (factorial n) → ⊥) → wrongCount n (standsFor Signature n entries) n ≡ true
+  other-total other = cases (true-or-false (wrongCount n (standsFor Signature n entries) n))
     where
-      cases : (wrongCount Signature n entries n ≡ true) ⊎ (wrongCount Signature n entries n ≡ false) → wrongCount Signature n entries n ≡ true
+      cases : (wrongCount n (standsFor Signature n entries) n ≡ true) ⊎ (wrongCount n (standsFor Signature n entries) n ≡ false) → wrongCount n (standsFor Signature n entries) n ≡ true
       cases (inl wrong) = wrong
-      cases (inr right) = absurd (other (right-total some right))
+      cases (inr right) = absurd (other (right-total right))
 
   pub accepted-total : vectorRefusal Signature n entries ≡ Accepted → total ≡ pos (factorial n)
   accepted-total accepted =

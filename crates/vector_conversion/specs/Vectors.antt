@@ -1,14 +1,15 @@
 -- Which path counts a vector stands for, when it is accepted, what it converts to, and which vectors a machine's figures are (01, "Vector sheets"
 -- and refusals 1, 12, 13 and 14).
-use mathlib.Core.Bool.{Bool, false, not, cond, _&&_}
+use mathlib.Core.Bool.{Bool, not, _&&_, _||_}
 use mathlib.Core.List.{List}
 use Prim.Native.Nat.{ℕ, suc, _-_, _*_, _/_, _%_}
-use lib.Dec.{leb, ltb, eqb}
-use lib.IntN.{ℤ, pos, negsuc, natAbs, _*ℤ_}
+use lib.Dec.{ltb, eqb}
+use lib.IntN.{ℤ, pos, natAbs, _*ℤ_}
 use lib.ListN.{length, getD}
+use lib.Signed.{ltZ}
 use Rattle.numbers.specs.Counts.{factorial, choose}
 use Rattle.numbers.specs.Tables.{tabulate}
-use Rattle.theory_sums.specs.Sums.{indicator, sumBelowℤ}
+use Rattle.theory_sums.specs.Sums.{sumBelowℤ}
 use Rattle.theory_sets.specs.Masks.{any, least}
 use Rattle.answer.specs.Outcome.{refuse}
 use Rattle.answer.specs.Refusals.{wrongVectorLength, wrongPathCount, fallingProportion}
@@ -41,38 +42,45 @@ unitOf Tail n j = factorial j * factorial (n - j)
 unitOf Signature n j = factorial j * factorial (n - j)
 unitOf Domination n j = 1
 
--- the path counts that a vector stands for, where they are whole and not negative
+-- a path count as a vector gives it: so many units
+pub record Scaled : Type 0 where
+  pub number : ℤ
+  pub unit : ℕ
+
+-- the path counts that a vector stands for, φ(j) at size j
+abbrev pub standsFor : Kind → ℕ → List ℤ → ℕ → Scaled
+standsFor kind n entries j = record { number = scaledCount kind n entries j; unit = unitOf kind n j }
+
+-- a path count by itself, where it is whole and not negative
+abbrev pub wholeCount : Scaled → ℕ
+wholeCount count = natAbs (count .number) / count .unit
+
 abbrev pub countsOf : Kind → ℕ → List ℤ → ℕ → ℕ
-countsOf kind n entries j = natAbs (scaledCount kind n entries j) / unitOf kind n j
+countsOf kind n entries j = wholeCount (standsFor kind n entries j)
 
--- ---- when it is accepted
+-- ---- when it is accepted: by its path counts alone
 
--- φ(n) = 1, and no other path count is below 0
-abbrev pub leastCount : ℕ → ℕ → ℕ
-leastCount n j = indicator (eqb j n)
-
--- φ(0) = 0, and no other path count is over C(n,j)
-abbrev pub mostCount : ℕ → ℕ → ℕ
-mostCount n j = cond (eqb j 0) 0 (choose n j)
-
--- a number is a whole count, from `low` to `high`, times its unit
-abbrev pub isCount : ℕ → ℕ → ℕ → ℤ → Bool
-isCount low high unit (negsuc v) = false
-isCount low high unit (pos v) = eqb (v % unit) 0 && leb low (v / unit) && leb (v / unit) high
-
--- 13: the path count of size j is not whole, outside 0..C(n,j), or φ(0) not 0 or φ(n) not 1
-unfoldable pub wrongCount : Kind → ℕ → List ℤ → ℕ → Bool
-wrongCount kind n entries j = not (isCount (leastCount n j) (mostCount n j) (unitOf kind n j) (scaledCount kind n entries j))
+-- 13: the path count of size j is not whole, outside 0..C(n,j), φ(0) not 0 or φ(n) not 1
+unfoldable pub wrongCount : ℕ → (ℕ → Scaled) → ℕ → Bool
+wrongCount n counts j =
+    not (eqb (natAbs (counts j .number) % counts j .unit) 0)
+    || ltZ (counts j .number) (pos 0) || ltb (choose n j) (wholeCount (counts j))
+    || eqb j 0 && not (eqb (wholeCount (counts j)) 0)
+    || eqb j n && not (eqb (wholeCount (counts j)) 1)
 
 -- 14: φ(j+1)/C(n,j+1) is below φ(j)/C(n,j)
 unfoldable pub falls : ℕ → (ℕ → ℕ) → ℕ → Bool
 falls n φ j = ltb (φ (suc j) * choose n j) (φ j * choose n (suc j))
 
--- the first refusal of a vector's path counts: all of 13 before any of 14, each at its smallest size
+-- the first refusal of path counts: all of 13 before any of 14, each at its smallest size
+unfoldable pub pathCountsRefusal : ℕ → (ℕ → Scaled) → Verdict
+pathCountsRefusal n counts =
+    refuse (any (wrongCount n counts) (suc n)) wrongPathCount (least (wrongCount n counts) (suc n))
+    (refuse (any (falls n (λ j. wholeCount (counts j))) n) fallingProportion (least (falls n (λ j. wholeCount (counts j))) n) Accepted)
+
+-- that of the path counts that a vector stands for
 unfoldable pub countsRefusal : Kind → ℕ → List ℤ → Verdict
-countsRefusal kind n entries =
-    refuse (any (wrongCount kind n entries) (suc n)) wrongPathCount (least (wrongCount kind n entries) (suc n))
-    (refuse (any (falls n (countsOf kind n entries)) n) fallingProportion (least (falls n (countsOf kind n entries)) n) Accepted)
+countsRefusal kind n entries = pathCountsRefusal n (standsFor kind n entries)
 
 -- the first refusal of a vector
 unfoldable pub vectorRefusal : Kind → ℕ → List ℤ → Verdict

@@ -3,8 +3,10 @@ use answer::Verdict;
 use answer::Written;
 use vector_kind::Kind;
 ghost use mathlib.Core.Path.{_≡_};
+ghost use mathlib.Core.Bool.{not, _&&_};
 ghost use mathlib.Core.List.{_++_};
 ghost use Prim.Native.Nat.{_+_, _-_, _*_, _^_, _≤_, _<_};
+ghost use lib.Dec.{eqb};
 ghost use lib.IntN.{pos, _+ℤ_, _-ℤ_};
 ghost use lib.ListN.{length, drop};
 ghost use Rattle.numbers.specs.Tables.{NoneOver};
@@ -12,8 +14,8 @@ ghost use Rattle.numbers.specs.Counts.{factorial};
 ghost use Rattle.answer.specs.Outcome.{at, outcome, delivered};
 ghost use Rattle.vector_kind.specs.Kinds.{lengthOf};
 ghost use Rattle.theory_figures.specs.Figures.{tail as tailOf, domination as dominationOf};
-ghost use Rattle.vector_conversion.specs.Vectors.{leastCount, mostCount, vectorRefusal, figure as figureOf, vectorOf, converted};
-ghost use Rattle.vector_conversion.specs.Inside.{countIn, countAt, cellsOf, Found, FoundAll, FirstFall, ExaminedAs, TermsOf};
+ghost use Rattle.vector_conversion.specs.Vectors.{vectorRefusal, figure as figureOf, vectorOf, converted};
+ghost use Rattle.vector_conversion.specs.Inside.{countIn, offRange, countAt, cellsOf, Found, FoundAll, FirstFall, ExaminedAs, TermsOf};
 
 // Whether a vector is accepted.
 pub fn judge(kind: Kind, n: usize, entries: &[i64]) -> Verdict
@@ -211,32 +213,31 @@ fn counted(sum: u64, taken: u64, unit: u64, n: usize, j: usize) -> Count
         return Count::Wrong;
     }
     let count = scaled / unit;
-    if count < least(n, j) {
-        return Count::Wrong;
-    }
-    if most(n, j) < count {
+    if off_range(count, n, j) {
         return Count::Wrong;
     }
     Count::Of(count)
 }
 
-// The least path count of size j.
-fn least(n: usize, j: usize) -> u64
-    ensures { λ r. ⌜ r ≡ leastCount n j ⌝ }
+// Whether a number is no path count of size j: it is over C(n,j), not 0 for size 0, or not 1 for size n.
+fn off_range(count: u64, n: usize, j: usize) -> bool
+    requires { ⌜ n ≤ 16 ⌝ }
+    ensures { λ r. ⌜ r ≡ offRange n j count ⌝ }
 {
-    if j == n { 1 } else { 0 }
+    if (numbers::binomial(n, j) as u64) < count {
+        return true;
+    }
+    if misses(j, 0, count, 0) {
+        return true;
+    }
+    misses(j, n, count, 1)
 }
 
-// The greatest path count of size j.
-fn most(n: usize, j: usize) -> u64
-    requires { ⌜ n ≤ 16 ⌝ }
-    ensures { λ r. ⌜ r ≡ mostCount n j ⌝ }
+// Whether j is a size whose path count is fixed, and the count is another.
+fn misses(j: usize, size: usize, count: u64, fixed: u64) -> bool
+    ensures { λ r. ⌜ r ≡ eqb j size && not (eqb count fixed) ⌝ }
 {
-    if j == 0 {
-        0
-    } else {
-        numbers::binomial(n, j) as u64
-    }
+    j == size && count != fixed
 }
 
 // j! × (n-j)!

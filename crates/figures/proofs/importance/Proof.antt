@@ -14,7 +14,8 @@ use Rattle.answer.specs.declared.Verdict.the-variants.{Accepted}
 use Rattle.numbers.proofs.Tables.{tabulate-length}
 use Rattle.theory_sets.specs.Tables.{inTable}
 use Rattle.structure.specs.Checks.{tableRefusal}
-use Rattle.structure.proofs.Acceptance.{AcceptedTable, accepted-table}
+use Rattle.structure.specs.Accepted.{AcceptedTable}
+use Rattle.structure.proofs.Acceptance.{accepted-table}
 use Rattle.theory_figures.specs.Figures.{importance, importances}
 use Rattle.answer.proofs.Deliveries.{refused-kept, delivered-short, delivered-whole}
 use Rattle.figures.proofs.Machines.{table-rows, table-importances}

@@ -17,7 +17,8 @@ use Rattle.answer.proofs.Deliveries.{refused-kept}
 use Rattle.numbers.proofs.Tables.{tabulate-length}
 use Rattle.theory_sets.specs.Tables.{inTable}
 use Rattle.structure.specs.Checks.{tableRefusal}
-use Rattle.structure.proofs.Acceptance.{AcceptedTable, accepted-table}
+use Rattle.structure.specs.Accepted.{AcceptedTable}
+use Rattle.structure.proofs.Acceptance.{accepted-table}
 use Rattle.vector_kind.specs.declared.Kind.the-variants.{PathCounts}
 use Rattle.vector_conversion.specs.Vectors.{vectorRefusal, converted, figuresOf}
 use Rattle.theory_figures.specs.Figures.{pathCounts}

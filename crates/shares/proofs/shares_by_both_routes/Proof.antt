@@ -2,16 +2,19 @@
 -- own, and by the claim of demand 3 either writes the counts.
 -- Assumes nothing.
 use mathlib.Core.Path.{_≡_, sym, _∙_}
+use Prim.Native.Nat.{_≤_}
 use native.Mathlib.Omega.{arith}
 use denote.Ref.{now}
 use lib.ListN.{length}
 use borrow.Author.Needs.{needs}
 use Rattle.theory_sets.specs.Tables.{inTable}
-use Rattle.shares_claim.specs.Shares.{sharesBySets, sharesByReliability, groupCounts}
+use Rattle.shares_claim.specs.SetBySet.{sharesBySets}
+use Rattle.shares_claim.specs.Reliability.{sharesByReliability}
+use Rattle.shares_claim.specs.Claim.{groupCounts}
 use Rattle.shares_claim.specs.Refusals.{sharesRefusal}
-use Rattle.shares_claim.proofs.Claim.{accepted-group, by-sets-counts, by-reliability-counts}
+use Rattle.shares_claim.proofs.Claim.{counts-length, given-counts, shares-are-counts}
 use Rattle.shares_group.proofs.Answers.{roomy}
-use Rattle.shares.proofs.TwoBuffers.{counts-length, route-written, both-unwritten, both-written}
+use Rattle.shares.proofs.TwoBuffers.{route-written, both-unwritten, both-written}
 use Rattle.shares.proofs.shares_by_both_routes.Statement.{statement}
 use Rattle.shares.proofs.shares_by_both_routes.Tie as tie
 
@@ -71,14 +74,15 @@ returns-2 c =
     let refusal = sharesRefusal (a .n) (now (a .table)) (a .group) in
     let result = groupCounts (a .n) works (a .group) in
     let room = roomy refusal (sized .size .result) (roomed .smaller .result) _ (told .before .judged2 .given .1) (judged .judge .ensures) in
-    let group = accepted-group (a .n) (now (a .table)) (a .group) (room .accepted) in
+    let first-fits : sized .size .result ≤ length (now (a .first)) = omega (arith, room .fits, roomed .smaller .ensures) in
+    let second-fits : sized .size .result ≤ length (now (a .second)) = omega (arith, room .fits, roomed .smaller .ensures) in
+    let claim = shares-are-counts (a .n) (now (a .table)) (a .group) (now (a .first)) (now (a .second)) (room .accepted)
+    (rw (sized .size .ensures) at first-fits) (rw (sized .size .ensures) at second-fits) in
     both-written refusal result (sized .size .result) (long sized) (now (a .first)) (now (a .second)) (roomed .smaller .result) (roomed .smaller .ensures) _ room _ _
     (route-written refusal result (sized .size .result) (long sized) (sharesBySets (a .n) works (a .group)) (now (a .first)) _ (earlier .shares-by-sets .result)
-    (by-sets-counts (a .n) works (group .coherent) (a .group) (group .within)) (room .accepted)
-    (omega (arith, room .fits, roomed .smaller .ensures)) (earlier .shares-by-sets .ensures))
+    (given-counts (a .n) works (a .group) refusal _ (now (a .first)) (claim .0)) (room .accepted) first-fits (earlier .shares-by-sets .ensures))
     (route-written refusal result (sized .size .result) (long sized) (sharesByReliability (a .n) works (a .group)) (now (a .second)) _ (later .shares-by-reliability .result)
-    (by-reliability-counts (a .n) works (group .coherent) (a .group) (group .within)) (room .accepted)
-    (omega (arith, room .fits, roomed .smaller .ensures)) (later .shares-by-reliability .ensures))
+    (given-counts (a .n) works (a .group) refusal _ (now (a .second)) (claim .1)) (room .accepted) second-fits (later .shares-by-reliability .ensures))
 
 pub shares-by-both-routes-spec : {M : Type 1} → statement M
 shares-by-both-routes-spec =

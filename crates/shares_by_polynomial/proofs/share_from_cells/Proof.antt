@@ -17,7 +17,7 @@ use Rattle.numbers.specs.Counts.{factorial}
 use Rattle.numbers.proofs.Counts.{upTo16-given}
 use Rattle.integers.proofs.Differences.{difference-small}
 use Rattle.theory_sums.specs.Sums.{sumBelow, sumBelowℤ}
-use Rattle.shares_claim.specs.Shares.{rowLength, inCells}
+use Rattle.shares_claim.specs.Polynomials.{rowLength, inCells}
 use Rattle.shares_claim.specs.Inside.{common}
 use Rattle.theory_sums.proofs.Sums.{sumBelow-prefix}
 use Rattle.shares_by_polynomial.specs.Inside.{above, below, cellWeight, shareOfCells}

@@ -11,7 +11,7 @@ use borrow.Author.Needs.{needs}
 use Rattle.answer.specs.Outcome.{delivered}
 use Rattle.answer.specs.declared.Verdict.{Verdict}
 use Rattle.theory_sets.specs.Tables.{inTable}
-use Rattle.shares_claim.specs.Shares.{sharesByReliability}
+use Rattle.shares_claim.specs.Reliability.{sharesByReliability}
 use Rattle.shares_claim.proofs.Claim.{accepted-group}
 use Rattle.shares_by_polynomial.proofs.ThroughH.{coefficients-bounded, shares-in-range, shares-same, found-refused, found-given}
 use Rattle.shares_by_polynomial.proofs.shares_by_reliability.Statement.{statement}

@@ -12,7 +12,7 @@ use lib.ListN.{length}
 use mir.Facts.{toZ-ofZ}
 use mir.Syntax.{w64}
 use Rattle.numbers.proofs.Tables.{filled, filled-none, filled-again, filled-length}
-use Rattle.shares_claim.specs.Shares.{sharesFromCells}
+use Rattle.shares_claim.specs.Polynomials.{sharesFromCells}
 use Rattle.shares_by_polynomial.specs.Inside.{shareOfCells}
 use Rattle.shares_by_polynomial.proofs.write_from_cells.Statement.{statement}
 use Rattle.shares_by_polynomial.proofs.write_from_cells.Tie as tie

@@ -7,7 +7,7 @@ use Rattle.answer.specs.Outcome.{outcome}
 use Rattle.answer.specs.declared.Verdict.the-variants.{Accepted}
 use Rattle.answer.specs.declared.Written.{Written}
 use Rattle.answer.proofs.Deliveries.{delivered-short, delivered-whole}
-use Rattle.shares_claim.specs.Shares.{sharesFromCells}
+use Rattle.shares_claim.specs.Polynomials.{sharesFromCells}
 use Rattle.shares_by_polynomial.proofs.ThroughH.{from-cells-length}
 use Rattle.shares_by_polynomial.proofs.write_shares.Statement.{statement}
 use Rattle.shares_by_polynomial.proofs.write_shares.Tie as tie

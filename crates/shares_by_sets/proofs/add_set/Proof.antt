@@ -9,7 +9,7 @@ use denote.Ref.{now}
 use borrow.Author.Needs.{needs}
 use Rattle.theory_sets.proofs.Bools.{not-not}
 use Rattle.structure_words.specs.Words.{inWords}
-use Rattle.shares_claim.specs.Shares.{inside}
+use Rattle.theory_sets.specs.Masks.{inside}
 use Rattle.shares_group.proofs.Gathering.{gathered-skip, gathered-add}
 use Rattle.shares_by_sets.specs.Inside.{addedBy, takenBy}
 use Rattle.shares_by_sets.proofs.Sets.{inside-few, addedBy-few, takenBy-few}

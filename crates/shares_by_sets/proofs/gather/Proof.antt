@@ -13,7 +13,7 @@ use Rattle.numbers.specs.Tables.{tabulate}
 use Rattle.numbers.proofs.Counts.{upTo16-given}
 use Rattle.numbers.proofs.Tables.{tabulate-length}
 use Rattle.structure_words.specs.Words.{inWords}
-use Rattle.shares_claim.specs.Shares.{inside}
+use Rattle.theory_sets.specs.Masks.{inside}
 use Rattle.shares_group.specs.Inside.{gathered}
 use Rattle.shares_group.proofs.Gathering.{gathered-none}
 use Rattle.shares_by_sets.specs.Inside.{addedBy, takenBy}

@@ -7,7 +7,7 @@ use denote.Ref.{now}
 use lib.ListN.{length, drop}
 use borrow.Author.Needs.{needs}
 use Rattle.theory_sets.specs.Tables.{inTable}
-use Rattle.shares_claim.specs.Shares.{sharesBySets}
+use Rattle.shares_claim.specs.SetBySet.{sharesBySets}
 use Rattle.shares_claim.specs.Refusals.{sharesRefusal}
 use Rattle.shares_claim.proofs.Claim.{accepted-group}
 use Rattle.shares_group.proofs.Answers.{roomy, unwritten-delivered, whole-delivered}

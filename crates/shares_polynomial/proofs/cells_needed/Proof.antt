@@ -4,7 +4,7 @@ use mathlib.Core.Path.{ap}
 use Prim.Native.Nat.{ℕ, _+_, _*_}
 use native.Mathlib.Omega.{arith}
 use borrow.Author.Needs.{needs}
-use Rattle.shares_claim.specs.Shares.{rowLength}
+use Rattle.shares_claim.specs.Polynomials.{rowLength}
 use Rattle.shares_polynomial.proofs.Coefficients.{cells-few}
 use Rattle.shares_polynomial.proofs.cells_needed.Statement.{statement}
 use Rattle.shares_polynomial.proofs.cells_needed.Tie as tie

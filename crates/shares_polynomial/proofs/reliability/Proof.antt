@@ -10,7 +10,8 @@ use borrow.Author.Needs.{needs}
 use Rattle.answer.specs.declared.Verdict.the-variants.{Accepted}
 use Rattle.theory_sets.specs.Masks.{size}
 use Rattle.theory_sets.specs.Tables.{inTable}
-use Rattle.shares_claim.specs.Shares.{rowLength, reliabilityCells}
+use Rattle.shares_claim.specs.Polynomials.{rowLength}
+use Rattle.shares_claim.specs.Reliability.{reliabilityCells}
 use Rattle.shares_claim.specs.Refusals.{sharesRefusal}
 use Rattle.shares_claim.proofs.Claim.{accepted-group}
 use Rattle.shares_group.proofs.Answers.{roomy, unwritten-delivered, whole-delivered}

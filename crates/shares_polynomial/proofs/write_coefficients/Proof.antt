@@ -11,7 +11,7 @@ use lib.ListN.{length}
 use mir.Facts.{toZ-ofZ}
 use mir.Syntax.{w64}
 use Rattle.numbers.proofs.Tables.{filled, filled-none, filled-again, filled-length}
-use Rattle.shares_claim.specs.Shares.{rowLength}
+use Rattle.shares_claim.specs.Polynomials.{rowLength}
 use Rattle.shares_polynomial.specs.Inside.{coefficientOf}
 use Rattle.shares_claim.proofs.Sums.{row-below, place-below}
 use Rattle.shares_polynomial.proofs.Coefficients.{cells-few}

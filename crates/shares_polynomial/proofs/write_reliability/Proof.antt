@@ -7,7 +7,7 @@ use denote.Ref.{now}
 use lib.Count.{ones-le}
 use lib.ListN.{length}
 use borrow.Author.Needs.{needs}
-use Rattle.shares_claim.specs.Shares.{rowLength}
+use Rattle.shares_claim.specs.Polynomials.{rowLength}
 use Rattle.shares_polynomial.proofs.Coefficients.{counts-few, coefficients-written}
 use Rattle.shares_polynomial.proofs.write_reliability.Statement.{statement}
 use Rattle.shares_polynomial.proofs.write_reliability.Tie as tie

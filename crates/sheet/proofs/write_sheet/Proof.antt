@@ -9,7 +9,8 @@ use Rattle.answer.specs.declared.Verdict.the-variants.{Accepted}
 use Rattle.answer.specs.declared.Written.{Written}
 use Rattle.answer.proofs.Deliveries.{delivered-short}
 use Rattle.vector_conversion.specs.Vectors.{vectorRefusal}
-use Rattle.vector_conversion.proofs.Acceptance.{AcceptedVector, accepted-vector}
+use Rattle.vector_conversion.specs.Accepted.{AcceptedVector}
+use Rattle.vector_conversion.proofs.Acceptance.{accepted-vector}
 use Rattle.sheet.specs.Sheets.{sheetBytes}
 use Rattle.sheet.proofs.Codes.{length-few}
 use borrow.Author.Needs.{needs}

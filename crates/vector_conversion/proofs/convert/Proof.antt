@@ -15,7 +15,8 @@ use Rattle.vector_kind.proofs.KindNumbers.{entries-few}
 use Rattle.numbers.proofs.Tables.{tabulate-length}
 use Rattle.vector_conversion.specs.Vectors.{countsOf, vectorRefusal, figure, vectorOf, converted}
 use Rattle.vector_conversion.specs.Inside.{cellsOf}
-use Rattle.vector_conversion.proofs.Acceptance.{AcceptedVector, accepted-vector}
+use Rattle.vector_conversion.specs.Accepted.{AcceptedVector}
+use Rattle.vector_conversion.proofs.Acceptance.{accepted-vector}
 use Rattle.vector_conversion.proofs.Conversions.{vector-same}
 use borrow.Author.Needs.{needs}
 use Rattle.vector_conversion.proofs.convert.Statement.{statement}

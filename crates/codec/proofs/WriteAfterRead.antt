@@ -13,6 +13,7 @@ use lib.Dec.{ltb, leb, eqb}
 use lib.ListN.{length, getD, take, drop, take-append-drop, length-take, length-drop, List·getD-eq-default}
 use lib.Seq.{take-take, drop-drop, getD-take, getD-drop, length-take-le, take-append-seam}
 use Rattle.answer.specs.Refusals.{endOfBytes, wrongNumber}
+use Rattle.codec.specs.Bytes.{Bytes}
 use Rattle.codec.specs.declared.Field.{Field}
 use Rattle.codec.specs.declared.Reading.{Reading}
 use Rattle.codec.specs.declared.Reading.the-variants.{Number}
@@ -24,10 +25,6 @@ use Rattle.codec.proofs.ByteForms.{bytes-small, bytes-large}
 use Rattle.answer.proofs.Placing.{placed-fits}
 use Rattle.theory_sets.proofs.Ranges.{below-or-above}
 use Rattle.codec.proofs.Groups.{carried-none, carried-some}
-
--- every element is a byte, as it is in what a slice of bytes holds
-abbrev pub Bytes : List ℕ → Type 0
-Bytes bytes = (i : ℕ) → getD bytes i 0 < 256
 
 -- what an accepted number passed: the bytes in front of the window all carry but the last, its value is neither below the least number of
 -- so many groups nor over the top value, and the next position is behind it

@@ -26,7 +26,7 @@ use Rattle.codec.specs.Reading.{carried, valueOf, least, check, numberIn, numbe
 use Rattle.codec.proofs.ByteForms.{bytes-at-most}
 use Rattle.codec.proofs.ReadAfterWrite.{form-groups}
 use Rattle.codec.proofs.Window.{read-alike}
-use Rattle.codec.proofs.WriteAfterRead.{Bytes}
+use Rattle.codec.specs.Bytes.{Bytes}
 use Rattle.record_parts.specs.declared.PartList.{PartList}
 use Rattle.record_parts.specs.PartLists.{listOf}
 use Rattle.theory_sets.proofs.Bools.{clash}

@@ -13,7 +13,7 @@ use lib.ListN.{length, drop, length-append}
 use lib.Seq.{drop-length}
 use Rattle.answer.specs.Refusals.{bytesLeft}
 use Rattle.answer.specs.Outcome.{at}
-use Rattle.codec.proofs.WriteAfterRead.{Bytes}
+use Rattle.codec.specs.Bytes.{Bytes}
 use Rattle.theory_orders.specs.Antichains.{mostSets}
 use Rattle.record_head.specs.Headings.{Read, found, refused, then, Head, headAt}
 use Rattle.record.specs.Records.{setsAt, Design, design, recordAt, alone, wholeRecord}

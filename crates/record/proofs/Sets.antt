@@ -14,7 +14,7 @@ use lib.ListN.{length, drop, length-append}
 use lib.Pow.{pow-mono}
 use Rattle.answer.proofs.Outcomes.{refuse-accepted}
 use Rattle.codec.specs.ByteForm.{bytesOf}
-use Rattle.codec.proofs.WriteAfterRead.{Bytes}
+use Rattle.codec.specs.Bytes.{Bytes}
 use Rattle.theory_sets.specs.Masks.{holds, RisingFrom, Rising}
 use Rattle.theory_sets.proofs.Bools.{clash, false-of}
 use Rattle.theory_sets.proofs.Masks.{holds-le}

@@ -16,7 +16,7 @@ use Rattle.codec.specs.declared.Field.the-variants.{Record}
 use Rattle.codec.specs.declared.Reading.{Reading}
 use Rattle.codec.specs.declared.Reading.the-variants as reading
 use Rattle.codec.specs.Reading.{numberAt}
-use Rattle.codec.proofs.WriteAfterRead.{Bytes}
+use Rattle.codec.specs.Bytes.{Bytes}
 use Rattle.record.specs.declared.Contents.{Contents}
 use Rattle.record.specs.declared.Step.the-variants.{Set, End}
 use Rattle.record_head.specs.Headings.{Read, found, refused, then, fieldAt, Head, headAt}

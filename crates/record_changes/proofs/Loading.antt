@@ -9,7 +9,7 @@ use native.Mathlib.Omega.{arith}
 use lib.ListN.{set, replicate, length-replicate}
 use lib.Pow.{pow-mono}
 use Rattle.answer.proofs.Outcomes.{InFront, in-front-none, in-front-one}
-use Rattle.codec.proofs.WriteAfterRead.{Bytes}
+use Rattle.codec.specs.Bytes.{Bytes}
 use Rattle.theory_orders.specs.Antichains.{mostSets}
 use Rattle.record.specs.declared.Contents.{Contents}
 use Rattle.record.specs.declared.Cursor.{Cursor}

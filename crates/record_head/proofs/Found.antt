@@ -18,7 +18,8 @@ use Rattle.codec.specs.Fields.{top}
 use Rattle.codec.specs.ByteForm.{bytesOf}
 use Rattle.codec.specs.Reading.{numberAt}
 use Rattle.codec.proofs.ReadAfterWrite.{form-read}
-use Rattle.codec.proofs.WriteAfterRead.{Bytes, read-form}
+use Rattle.codec.specs.Bytes.{Bytes}
+use Rattle.codec.proofs.WriteAfterRead.{read-form}
 use Rattle.record_head.specs.Headings.{Read, found, refused, then, unless, judged, fieldAt}
 
 -- what is found after something is found after what that is

@@ -15,7 +15,7 @@ use Rattle.answer.specs.declared.Refusal.{Refusal}
 use Rattle.answer.specs.declared.Verdict.the-variants.{Accepted}
 use Rattle.answer.proofs.Outcomes.{refuse-accepted}
 use Rattle.codec.specs.ByteForm.{bytesOf}
-use Rattle.codec.proofs.WriteAfterRead.{Bytes}
+use Rattle.codec.specs.Bytes.{Bytes}
 use Rattle.record_parts.specs.declared.PartList.{PartList}
 use Rattle.record_numbers.specs.Numbering.{mostParts, topNumber, RisingWithin, Rules}
 use Rattle.record_parts.specs.PartLists.{listOf, numbersOf, WellFormed}

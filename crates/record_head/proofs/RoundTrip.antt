@@ -10,7 +10,7 @@ use borrow.Author.Tests.{eqb-false, ltb-false, ne-eqb, le-ltb}
 use lib.ListN.{length, drop, length-append}
 use Rattle.answer.proofs.Outcomes.{refuse-accepted}
 use Rattle.codec.specs.ByteForm.{bytesOf}
-use Rattle.codec.proofs.WriteAfterRead.{Bytes}
+use Rattle.codec.specs.Bytes.{Bytes}
 use Rattle.theory_orders.specs.Antichains.{mostSets}
 use Rattle.record_parts.specs.declared.PartList.{PartList}
 use Rattle.record_parts.specs.PartLists.{WellFormed}

@@ -12,7 +12,7 @@ use native.Mathlib.Omega.{arith}
 use Rattle.answer.specs.declared.Verdict.the-variants.{Accepted}
 use Rattle.answer.specs.declared.Written.{Written}
 use Rattle.answer.specs.declared.Written.the-variants as written
-use Rattle.codec.proofs.WriteAfterRead.{Bytes}
+use Rattle.codec.specs.Bytes.{Bytes}
 use Rattle.record_parts.specs.PartLists.{numbersOf}
 use Rattle.record_parts.specs.Lines.{In, Line}
 use Rattle.record_parts.specs.Lines as lines

@@ -10,7 +10,7 @@ use Rattle.answer.specs.declared.Verdict.the-variants as verdict
 use Rattle.answer.specs.declared.Written.{Written}
 use Rattle.answer.specs.declared.Written.the-variants as written
 use Rattle.answer.proofs.Deliveries.{given}
-use Rattle.codec.proofs.WriteAfterRead.{Bytes}
+use Rattle.codec.specs.Bytes.{Bytes}
 use Rattle.structure.specs.Checks.{listRefusal}
 use Rattle.record_head.specs.Headings.{Read, found, refused}
 use Rattle.record.specs.Records.{Design, wholeRecord}

@@ -17,7 +17,8 @@ use Rattle.codec.specs.ByteForm.{bytesOf}
 use Rattle.codec.specs.Reading.{numberAt}
 use Rattle.codec.proofs.Walk.{walked-none, walked-short}
 use Rattle.codec.proofs.ReadAfterWrite.{form-read}
-use Rattle.codec.proofs.WriteAfterRead.{Bytes, read-form}
+use Rattle.codec.specs.Bytes.{Bytes}
+use Rattle.codec.proofs.WriteAfterRead.{read-form}
 use Rattle.record.specs.declared.Contents.{Contents}
 use Rattle.record_head.specs.Headings.{found}
 use Rattle.record.specs.Records.{Design, wholeRecord}

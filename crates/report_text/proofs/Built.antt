@@ -14,7 +14,7 @@ use Rattle.answer.specs.declared.Verdict.the-variants as verdict
 use Rattle.answer.specs.declared.Written.{Written}
 use Rattle.answer.specs.declared.Written.the-variants.{Length, Refused}
 use Rattle.answer.proofs.Deliveries.{Given, given, refused-by}
-use Rattle.codec.proofs.WriteAfterRead.{Bytes}
+use Rattle.codec.specs.Bytes.{Bytes}
 use Rattle.theory_sets.specs.Structures.{listed}
 use Rattle.theory_sets.specs.Tables.{tableOf}
 use Rattle.theory_sets.proofs.Ranges.{below-or-above}

@@ -13,7 +13,7 @@ use Rattle.answer.specs.declared.Refusal.{Refusal}
 use Rattle.answer.specs.declared.Verdict.the-variants.{Accepted}
 use Rattle.answer.specs.declared.Written.the-variants.{Length, Refused}
 use Rattle.answer.proofs.Outcomes.{in-front-delivered}
-use Rattle.codec.proofs.WriteAfterRead.{Bytes}
+use Rattle.codec.specs.Bytes.{Bytes}
 use Rattle.record_head.specs.Headings.{Read, found, refused}
 use Rattle.record.specs.Records.{Design, wholeRecord}
 use Rattle.record.specs.Contents.{designIn}

@@ -10,7 +10,7 @@ use Rattle.answer.specs.Outcome.{refuse, delivered}
 use Rattle.answer.specs.Refusals.{wrongVectorLength}
 use Rattle.answer.specs.declared.Verdict.{Verdict}
 use Rattle.answer.specs.declared.Verdict.the-variants.{Accepted}
-use Rattle.codec.proofs.WriteAfterRead.{Bytes}
+use Rattle.codec.specs.Bytes.{Bytes}
 use Rattle.structure.specs.Checks.{partsRefusal}
 use Rattle.vector.specs.InStruct.{vectorHolding, entriesOf, structRefusal}
 use Rattle.vector_kind.specs.Kinds.{lengthOf}

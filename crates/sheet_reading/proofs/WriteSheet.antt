@@ -18,7 +18,8 @@ use Rattle.codec.specs.Reading.{numberAt}
 use Rattle.codec.specs.declared.Field.the-variants as field
 use Rattle.codec.specs.declared.Reading.{Reading}
 use Rattle.codec.specs.declared.Reading.the-variants as reading
-use Rattle.codec.proofs.WriteAfterRead.{Bytes, ReadForm, read-form}
+use Rattle.codec.specs.Bytes.{Bytes}
+use Rattle.codec.proofs.WriteAfterRead.{ReadForm, read-form}
 use Rattle.vector_kind.specs.Kinds.{kindNumber, lengthOf, isKind, kindOf}
 use Rattle.vector_conversion.specs.Vectors.{countsRefusal, vectorRefusal}
 use Rattle.vector_kind.specs.declared.Kind.{Kind}

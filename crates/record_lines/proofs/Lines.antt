@@ -5,7 +5,7 @@
 use mathlib.Core.Path.{_≡_, refl, sym, ap, _∙_, subst}
 use mathlib.Core.List.{List, [], _∷_, _++_, List·Memᴰ, List·Memᴰ·head, List·Memᴰ·cases-cons, List·Memᴰ·not-nil, List·Memᴰ·append-cases, List·Memᴰ·eq-of-singleton, Memᴰ·append-left, Memᴰ·append-right}
 use mathlib.Core.Logic.{_⊎_, inl, inr, ⊎-elim}
-use mathlib.Core.Bool.{not}
+use mathlib.Core.Bool.{false, not}
 use Prim.Native.Nat.{ℕ, _≤_}
 use native.Mathlib.Nat.{le-trans}
 use native.Mathlib.Omega.{arith}
@@ -13,23 +13,26 @@ use Rattle.answer.specs.declared.Verdict.the-variants.{Accepted}
 use Rattle.answer.specs.declared.Written.{Written}
 use Rattle.answer.specs.declared.Written.the-variants as written
 use Rattle.codec.proofs.WriteAfterRead.{Bytes}
+use Rattle.record_numbers.specs.Numbering.{named}
 use Rattle.record_parts.specs.PartLists.{numbersOf}
+use Rattle.record_parts.specs.Changes.{single}
+use Rattle.record_parts.proofs.LeftOut.{in-named}
 use Rattle.record_parts.specs.Lines.{In, Line}
 use Rattle.record_parts.specs.Lines as lines
 use Rattle.record_parts.proofs.Numbers.{rising-in}
-use Rattle.record_parts.proofs.OneChange.{line-none, line-one}
+use Rattle.record_parts.proofs.OneChange.{line-none, line-one, line-without}
 use Rattle.record_parts.proofs.Lines.{line-append}
 use Rattle.record_head.specs.Headings.{found}
 use Rattle.record.specs.Records.{Design, wholeRecord}
 use Rattle.record.specs.RecordBytes.{DesignRules}
 use Rattle.record.proofs.RoundTrip.{whole-written}
-use Rattle.record_lines.specs.Changes.{Change, addPart, takeOut, addSet, changeRefusal, changed}
-use Rattle.record_lines.specs.Names.{named, namedSets, partNumberAt, names}
+use Rattle.masks.specs.Groups.{meets}
+use Rattle.record_lines.specs.Changes.{Change, addPart, takeOut, addSet, every, designWithout, changeRefusal, changed}
+use Rattle.record_lines.specs.Names.{namedSets, namesSome}
 use Rattle.record_lines.specs.Lines.{Call, outcomeOf, recordAfter, after, lastOf, unlessRefused, madeBy, designAfter, issuedIn, leftIn, givenIn, along, lastDesign, issuedBy, leftBy, givenBy, DesignLine, GivenInUse}
 use Rattle.record_lines.proofs.Keeping.{keep-elim}
-use Rattle.record_lines.proofs.Names.{named-in}
-use Rattle.record_lines.proofs.NamedChanges.{added-names, taken-out-names, with-set-names, named-in-use}
-use Rattle.record_lines.proofs.Rules.{changed-rules}
+use Rattle.record_lines.proofs.NamedChanges.{added-names, without-named, with-set-names, named-in-use}
+use Rattle.record_lines.proofs.Rules.{changed-rules, without-rules, take-out-accepted}
 use Rattle.record_lines.proofs.Written.{made-read}
 
 -- a line of part lists, and where each minimal set comes from, are a line of designs: minimal sets name numbers in use only
@@ -46,14 +49,20 @@ line {first} {last} rules parts origin =
 design-line-none : (d : Design) → DesignRules d → DesignLine d d [] [] []
 design-line-none d r = line r (line-none (d .parts) (r .parts)) (λ set m. inl m)
 
+-- a group taken out is a line along which its numbers leave
+pub design-line-without : (group : ℕ) (d : Design) → DesignRules d → every (meets group) (d .sets) ≡ false
+    → DesignLine d (designWithout group d) [] (named (numbersOf (d .parts)) group) []
+design-line-without group d r left =
+    let rules = without-rules group d r left in
+    line rules (line-without (d .parts) (r .parts) group (rules .parts .rules .some)) (λ set m.
+    inl (keep-elim (λ set. not (namesSome (named (numbersOf (d .parts)) group) set)) (namedSets d) (rw (without-named group d r) at m) .0))
+
 -- each change that is not refused is a line
 design-line-one : (change : Change) (d : Design) → DesignRules d → changeRefusal change d ≡ Accepted
     → DesignLine d (changed change d) (issuedIn change d) (leftIn change d) (givenIn change d)
 design-line-one addPart d r accepted =
     line (changed-rules addPart d r accepted) (line-one lines.addPart (d .parts) (r .parts)) (λ set m. inl (rw (added-names d r accepted) at m))
-design-line-one (takeOut position) d r accepted =
-    line (changed-rules (takeOut position) d r accepted) (line-one (lines.takeOut position) (d .parts) (r .parts)) (λ set m.
-    inl (keep-elim (λ set. not (names (partNumberAt d position) set)) (namedSets d) (rw (taken-out-names position d r accepted) at m) .0))
+design-line-one (takeOut position) d r accepted = design-line-without (single position) d r (take-out-accepted position d r accepted .left)
 design-line-one (addSet set) d r accepted =
     line (changed-rules (addSet set) d r accepted) (line-none (d .parts) (r .parts)) (λ names m.
     ⊎-elim
@@ -196,7 +205,7 @@ given-in-use (change ∷ changes) d set m = ⊎-elim (here change) (λ k. behind
           later = changes;
           at = refl;
           same = same;
-          in-use = λ number i. named-in (numbersOf (d .parts)) mask (rw same at i);
+          in-use = λ number i. in-named (numbersOf (d .parts)) mask (rw same at i);
         }
 
     behind : GivenInUse changes (changed change d) set → GivenInUse (change ∷ changes) d set

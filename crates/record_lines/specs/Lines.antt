@@ -7,13 +7,14 @@ use lib.ListN.{take}
 use Rattle.answer.specs.Outcome.{Outcome}
 use Rattle.answer.specs.declared.Written.{Written}
 use Rattle.answer.specs.declared.Written.the-variants as written
+use Rattle.record_numbers.specs.Numbering.{named}
 use Rattle.record_parts.specs.PartLists.{numbersOf}
 use Rattle.record_parts.specs.Lines.{In, Line, givenNumber}
-use Rattle.record_parts.specs.Changes.{partAdded, takenOut}
+use Rattle.record_parts.specs.Changes.{partAdded, single}
 use Rattle.record.specs.Records.{Design}
 use Rattle.record.specs.RecordBytes.{DesignRules}
 use Rattle.record_lines.specs.Changes.{Change, addPart, takeOut, addSet, changed}
-use Rattle.record_lines.specs.Names.{named, namedSets}
+use Rattle.record_lines.specs.Names.{namedSets}
 use Rattle.record_lines.specs.Records.{changedRecord}
 
 -- ---- on record bytes
@@ -55,7 +56,7 @@ abbrev pub designAfter : List Change → Design → Design
 designAfter [] d = d
 designAfter (change ∷ changes) d = designAfter changes (changed change d)
 
--- the number issued in a change, the number that left in it, and the set that it gave, by the part numbers then in use; if any
+-- the number issued in a change, the numbers that left in it, and the set that it gave, by the part numbers then in use; if any
 abbrev pub issuedIn : Change → Design → List ℕ
 issuedIn addPart d = givenNumber (partAdded (d .parts) .answer)
 issuedIn (takeOut position) d = []
@@ -63,7 +64,7 @@ issuedIn (addSet set) d = []
 
 abbrev pub leftIn : Change → Design → List ℕ
 leftIn addPart d = []
-leftIn (takeOut position) d = givenNumber (takenOut (d .parts) position .answer)
+leftIn (takeOut position) d = named (numbersOf (d .parts)) (single position)
 leftIn (addSet set) d = []
 
 abbrev pub givenIn : Change → Design → List (List ℕ)

@@ -3,13 +3,12 @@
 use mathlib.Core.Path.{_≡_, refl, sym, ap, _∙_}
 use mathlib.Core.Bool.{Bool, true, false, cond}
 use mathlib.Core.List.{List, [], _∷_, _++_}
-use Prim.Native.Nat.{ℕ, zero, suc, _+_, _/_, _≤_, _<_}
+use Prim.Native.Nat.{ℕ, zero, suc, _+_, _/_, _<_}
 use native.Mathlib.Nat.{le-of-suc-le-suc}
 use native.Mathlib.Omega.{arith}
 use lib.ListN.{length, take, getD}
 use Rattle.theory_sets.specs.Masks.{has}
 use Rattle.theory_sets.proofs.Masks.{has-suc}
-use Rattle.theory_sets.proofs.Bools.{clash}
 use Rattle.record_numbers.specs.Numbering.{named, others}
 
 -- each number is one of the set's or one of the others

@@ -1,20 +1,18 @@
 -- `record_numbers::cells` meets its contract: each number that the group does not have fills the first spare cell.
 -- Assumes nothing.
-use mathlib.Core.Path.{_≡_, refl, sym, ap, ap₂, _∙_}
-use mathlib.Core.Bool.{true, false}
+use mathlib.Core.Path.{_≡_, refl, sym, ap, _∙_}
 use mathlib.Core.List.{List, [], _∷_, _++_}
 use mathlib.Core.Logic.{⊎-elim}
-use Prim.Native.Nat.{ℕ, suc, _+_, _-_, _/_, _%_, _^_, _≤_, _<_}
-use native.Mathlib.Nat.{div-one, le-refl}
+use Prim.Native.Nat.{ℕ, _+_, _-_, _/_, _%_, _^_, _≤_, _<_}
+use native.Mathlib.Nat.{div-one}
 use native.Mathlib.Numerals.{add-one}
 use native.Mathlib.Omega.{arith}
 use denote.Ref.{now}
 use lib.ListN.{length, take, getD, set, length-append}
 use lib.Seq.{take-all, length-take-le}
 use Rattle.answer.proofs.FixedCells.{cells-more}
-use Rattle.theory_sets.specs.Masks.{has}
 use Rattle.theory_sets.proofs.Masks.{quotient-half, bit-of-odd, bit-of-even}
-use Rattle.record_numbers.specs.Numbering.{mostParts, cellsOf, named, others}
+use Rattle.record_numbers.specs.Numbering.{mostParts, cellsOf, others}
 use Rattle.record_numbers.proofs.Others.{named-or-others, others-same, others-more}
 use Rattle.record_numbers.proofs.cells.Statement.{statement}
 use Rattle.record_numbers.proofs.cells.Tie as tie

@@ -3,13 +3,13 @@
 -- Assumes nothing.
 use mathlib.Core.Path.{_≡_, refl, sym, ap, ap₂, _∙_, subst}
 use mathlib.Core.List.{List, []}
-use Prim.Native.Nat.{ℕ, _-_, _≤_}
+use Prim.Native.Nat.{ℕ, _≤_}
 use native.Mathlib.Omega.{arith}
 use borrow.Author.Tests.{ne-eqb, le-ltb}
 use lib.ListN.{length, take, drop, length-replicate}
 use lib.Seq.{take-append-seam}
 use Rattle.answer.specs.Refusals.{inEverySet}
-use Rattle.answer.specs.Outcome.{at, outcome, refuse, andThen, delivered}
+use Rattle.answer.specs.Outcome.{at, outcome, andThen, delivered}
 use Rattle.answer.specs.declared.Refusal.{Refusal}
 use Rattle.answer.specs.declared.Verdict.{Verdict}
 use Rattle.answer.specs.declared.Verdict.the-variants.{Accepted, Refused}
@@ -19,16 +19,16 @@ use Rattle.codec.specs.Bytes.{Bytes}
 use Rattle.record_parts.specs.declared.PartList.{PartList}
 use Rattle.record_parts.specs.declared.Changed.{Changed}
 use Rattle.record_parts.specs.declared.Numbered.the-variants as numbered
-use Rattle.record_parts.specs.Changes.{addRefusal, partAdded, takenOut, withPart, withoutPart}
+use Rattle.record_parts.specs.Changes.{addRefusal, partAdded, takenOut, withPart, single, listWithout, withoutPart}
 use Rattle.record_parts.specs.Changes as parts
 use Rattle.record_parts.proofs.OneChange.{added-whole, taken-out-whole, take-out-accepted}
-use Rattle.theory_sets.specs.Masks.{has}
+use Rattle.masks.specs.Groups.{meets}
 use Rattle.record_head.specs.Headings.{Read, found, refused}
 use Rattle.record.specs.Records.{Design, design, wholeRecord}
 use Rattle.record.specs.RecordBytes.{recordBytes, DesignRules}
 use Rattle.record.proofs.RoundTrip.{whole-written}
 use Rattle.record.proofs.MinimalSets.{design-list}
-use Rattle.record_lines.specs.Changes.{Change, addPart, takeOut, addSet, every, setsWithout, changeRefusal, changed}
+use Rattle.record_lines.specs.Changes.{Change, addPart, takeOut, addSet, every, setsWithout, withoutRefusal, changeRefusal, changed}
 use Rattle.record_lines.specs.Records.{changedRead, changedRecord}
 use Rattle.record_lines.proofs.TakenOut.{without-none, without-some}
 use Rattle.record_lines.proofs.Rules.{changed-rules, take-out-agrees}
@@ -157,25 +157,34 @@ module _ (d : Design) (r : DesignRules d) where
         (unless-refused (parts.takeOutRefusal (d .parts) position) (d .parts) (withoutPart (d .parts) position) _ refl why
         (sym (ap (λ (c : Changed). c .answer) (taken-out-whole (d .parts) (r .parts) position)) ∙ e))
 
-    -- the position is there, and whether every set names the part is left to be asked
-    pub out-left : (k : ℕ) → takenOut (d .parts) position .answer ≡ numbered.Number k
-        → (1 ≤ position) × (position ≤ 16) × (changeRefusal (takeOut position) d ≡ refuse (every (λ s. has s (position - 1)) (d .sets)) inEverySet 0 Accepted)
-    out-left k e =
-        let accepted : parts.takeOutRefusal (d .parts) position ≡ Accepted =
+    -- the position is there
+    out-inside : (k : ℕ) → takenOut (d .parts) position .answer ≡ numbered.Number k → parts.takeOutRefusal (d .parts) position ≡ Accepted
+    out-inside k e =
         unless-made (parts.takeOutRefusal (d .parts) position) (d .parts) (withoutPart (d .parts) position) _ refl k
-        (sym (ap (λ (c : Changed). c .answer) (taken-out-whole (d .parts) (r .parts) position)) ∙ e) in
-        let a = take-out-accepted (d .parts) position (r .parts .rules) accepted in
+        (sym (ap (λ (c : Changed). c .answer) (taken-out-whole (d .parts) (r .parts) position)) ∙ e)
+
+    -- the list is without the part at it
+    pub out-list : (k : ℕ) → takenOut (d .parts) position .answer ≡ numbered.Number k → takenOut (d .parts) position .list ≡ listWithout (single position) (d .parts)
+    out-list k e =
+        ap (λ (c : Changed). c .list) (taken-out-whole (d .parts) (r .parts) position)
+        ∙ ap (λ (v : Verdict). parts.unless v (d .parts) (withoutPart (d .parts) position) .list) (out-inside k e)
+
+    -- and whether every set names the part is left to be asked
+    pub out-left : (k : ℕ) → takenOut (d .parts) position .answer ≡ numbered.Number k
+        → (1 ≤ position) × (position ≤ 16) × (changeRefusal (takeOut position) d ≡ withoutRefusal (single position) d)
+    out-left k e =
+        let a = take-out-accepted (d .parts) position (r .parts .rules) (out-inside k e) in
         (a .0, omega (arith, a .1, r .parts .rules .few), simp (ne-eqb position 0 (λ z. omega (arith, a .0)), le-ltb (d .parts .count) position (a .1)))
 
     -- 18 is said exactly where no set is left
     module _ (k : ℕ) (e : takenOut (d .parts) position .answer ≡ numbered.Number k) where
-      pub out-none : length (setsWithout (position - 1) (d .sets)) ≡ 0 → changeRefusal (takeOut position) d ≡ Refused (at inEverySet 0)
+      pub out-none : length (setsWithout (single position) (d .sets)) ≡ 0 → changeRefusal (takeOut position) d ≡ Refused (at inEverySet 0)
       out-none none =
-          out-left k e .2 ∙ refuse-held (every (λ s. has s (position - 1)) (d .sets)) inEverySet 0 Accepted (without-none (position - 1) (d .sets) none)
+          out-left k e .2 ∙ refuse-held (every (meets (single position)) (d .sets)) inEverySet 0 Accepted (without-none (single position) (d .sets) none)
 
-      pub out-some : (length (setsWithout (position - 1) (d .sets)) ≡ 0 → ⊥) → changeRefusal (takeOut position) d ≡ Accepted
+      pub out-some : (length (setsWithout (single position) (d .sets)) ≡ 0 → ⊥) → changeRefusal (takeOut position) d ≡ Accepted
       out-some some =
-          out-left k e .2 ∙ refuse-passed (every (λ s. has s (position - 1)) (d .sets)) inEverySet 0 Accepted (without-some (position - 1) (d .sets) some)
+          out-left k e .2 ∙ refuse-passed (every (meets (single position)) (d .sets)) inEverySet 0 Accepted (without-some (single position) (d .sets) some)
 
   -- the sets of a design are a list that nothing refuses, so 4 and 5 of the new one are what is left
   pub with-set : (value : ℕ) → withSetRefusal (d .parts .count) (d .sets) value ≡ changeRefusal (addSet value) d

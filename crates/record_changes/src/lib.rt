@@ -68,7 +68,8 @@ pub fn take_out(bytes: &[u8], position: usize, buffer: &mut [u8]) -> Written
     let sets = opened.sets;
     let count = opened.count;
     let mut kept = [0u16; 12870];
-    let left = sets_without(&sets[..count], position - 1, &mut kept);
+    let group = numbers::power_of_two(position - 1);
+    let left = sets_left(&sets[..count], group, &mut kept);
     if left == 0 {
         return answer::unwritten(answer::IN_EVERY_SET, 0);
     }
@@ -157,12 +158,12 @@ fn load_sets(bytes: &[u8], first: Cursor) -> [u16; 12870]
     sets
 }
 
-// The sets that do not name the part at an index, with higher positions moved down by one, into a local array, and how many they are.
-fn sets_without(sets: &[u16], index: usize, kept: &mut [u16]) -> usize
+// The sets that have no part of a group, with higher positions moved down, into a local array, and how many they are.
+fn sets_left(sets: &[u16], group: usize, kept: &mut [u16]) -> usize
     requires { ⌜ length (now sets) ≤ length (now kept) ⌝ }
-    ensures { λ r. ⌜ outcome (Written.Length r) (now (kept .exit)) ≡ delivered Verdict.Accepted (setsWithout index (now (sets .entry))) (now (kept .entry)) ⌝ }
+    ensures { λ r. ⌜ outcome (Written.Length r) (now (kept .exit)) ≡ delivered Verdict.Accepted (setsWithout group (now (sets .entry))) (now (kept .entry)) ⌝ }
 {
-    let written = record_sets::sets_without(sets, index, kept);
+    let written = record_sets::sets_without(sets, group, kept);
     match written {
         Written::Refused(_) => 0,
         Written::Length(left) => left,

@@ -1,6 +1,6 @@
 -- Laws of the entries of a list that pass a test: which are kept, whether all of them pass, and whether some do.
 -- Assumes nothing.
-use mathlib.Core.Path.{_≡_, refl, sym, ap, _∙_}
+use mathlib.Core.Path.{_≡_, refl, sym, ap, ap₂, _∙_}
 use mathlib.Core.Bool.{Bool, true, false, not, cond, _&&_, _||_}
 use mathlib.Core.List.{List, [], _∷_, List·Memᴰ, List·Memᴰ·head, List·Memᴰ·tail, List·Memᴰ·not-nil, List·Memᴰ·cases-cons}
 use mathlib.Core.Logic.{_⊎_, inl, inr}
@@ -84,3 +84,9 @@ module _ {A : Type 0} (test : A → Bool) where
       cases : (test x ≡ true) ⊎ (some test xs ≡ true) → (some test xs ≡ true → (a : A) × List·Memᴰ a xs × (test a ≡ true)) → (a : A) × List·Memᴰ a (x ∷ xs) × (test a ≡ true)
       cases (inl here) rest = (x, List·Memᴰ·head refl, here)
       cases (inr later) rest = let found = rest later in (found .0, List·Memᴰ·tail (found .1), found .2)
+
+-- tests that agree on the entries keep the same ones
+pub keep-same : {A : Type 0} (f g : A → Bool) (xs : List A) → ((a : A) → List·Memᴰ a xs → f a ≡ g a) → keep f xs ≡ keep g xs
+keep-same f g [] h = refl
+keep-same {A} f g (x ∷ xs) h =
+    ap₂ (λ (p : Bool) (rest : List A). cond p (x ∷ rest) rest) (h x (List·Memᴰ·head refl)) (keep-same f g xs (λ a m. h a (List·Memᴰ·tail m)))

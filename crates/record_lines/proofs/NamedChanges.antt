@@ -4,25 +4,30 @@ use mathlib.Core.Path.{_≡_, refl, sym, ap, ap₂, _∙_, subst}
 use mathlib.Core.Bool.{Bool, true, false, not, cond}
 use mathlib.Core.List.{List, [], _∷_, _++_, map, List·Memᴰ, List·Memᴰ·head, List·Memᴰ·tail, Memᴰ·map, Memᴰ·of-map}
 use mathlib.Core.Logic.{_↔_}
-use Prim.Native.Nat.{ℕ, _+_, _-_, _^_, _<_}
+use Prim.Native.Nat.{ℕ, _+_, _-_, _^_, _≤_, _<_}
 use native.Mathlib.Omega.{arith}
-use lib.ListN.{length, getD}
+use lib.ListN.{length}
 use Rattle.answer.specs.declared.Verdict.the-variants.{Accepted}
 use Rattle.record_parts.specs.declared.Changed.{Changed}
-use Rattle.record_numbers.specs.Numbering.{RisingWithin, without}
+use Rattle.record_numbers.specs.Numbering.{mostParts, RisingWithin, named, others}
 use Rattle.record_parts.specs.PartLists.{numbersOf}
 use Rattle.record_parts.specs.Lines.{In}
-use Rattle.record_parts.proofs.OneChange.{added-given, added-above, taken-out-given}
+use Rattle.record_parts.specs.Changes.{single}
+use Rattle.record_parts.proofs.LeftOut.{in-named, named-single}
+use Rattle.record_parts.proofs.OneChange.{added-given, added-above}
 use Rattle.record_parts.proofs.WellFormed.{numbers-of-list, well-formed-counted}
-use Rattle.theory_sets.specs.Masks.{has, holds}
+use Rattle.theory_sums.specs.Sums.{some}
+use Rattle.theory_sets.specs.Masks.{holds}
 use Rattle.theory_sets.specs.Structures.{listed, minimalSets}
-use Rattle.theory_sets.proofs.Bools.{same-test}
+use Rattle.theory_sets.proofs.Bools.{or-false}
 use Rattle.record.specs.Records.{Design}
 use Rattle.record.specs.RecordBytes.{DesignRules}
-use Rattle.record_lines.specs.Changes.{addPart, takeOut, addSet, keep, lowered, setsWithout, changeRefusal, changed}
-use Rattle.record_lines.specs.Names.{named, namedSets, partNumberAt, names, LeastNamed}
+use Rattle.masks.specs.Groups.{meets, squeezed}
+use Rattle.record_lines.specs.Changes.{addPart, takeOut, addSet, keep, setsWithout, designWithout, changeRefusal, changed}
+use Rattle.record_lines.specs.Names.{namedSets, partNumberAt, names, namesSome, LeastNamed}
 use Rattle.record_lines.proofs.MinimalSets.{Least, minimal-exactly}
-use Rattle.record_lines.proofs.Names.{named-more, named-without, named-in, named-at, named-has, holds-names, names-hold, named-once, names-intro, names-elim}
+use Rattle.record_lines.proofs.Names.{named-more, holds-names, names-hold, named-once, names-meet, others-kept}
+use Rattle.record_lines.proofs.MovedDown.{named-squeezed}
 use Rattle.record_lines.proofs.Rules.{add-accepted, take-out-accepted, with-set-within}
 
 -- ---- add part
@@ -54,7 +59,7 @@ added-names d r accepted =
 pub named-in-use : (d : Design) (set : List ℕ) → List·Memᴰ set (namedSets d) → (number : ℕ) → In number set → In number (numbersOf (d .parts))
 named-in-use d set m number i =
     let found = Memᴰ·of-map (named (numbersOf (d .parts))) (d .sets) m in
-    named-in (numbersOf (d .parts)) (found .0) (subst (λ (s : List ℕ). In number s) (sym (found .2)) i)
+    in-named (numbersOf (d .parts)) (found .0) (subst (λ (s : List ℕ). In number s) (sym (found .2)) i)
 
 -- and the new part is in none of them.
 pub added-idle : (d : Design) → DesignRules d → changeRefusal addPart d ≡ Accepted → (set : List ℕ) → List·Memᴰ set (namedSets (changed addPart d)) → In (d .parts .mark + 1) set → ⊥
@@ -65,46 +70,62 @@ added-idle d r accepted set m i =
 
 -- ---- take out
 
-module _ (low high : ℕ) (numbers : List ℕ) (rising : RisingWithin low high numbers) (index : ℕ) (inside : index < length numbers) where
-  names-is-has : (set : ℕ) → names (getD numbers index 0) (named numbers set) ≡ has set index
-  names-is-has set =
-      same-test (names (getD numbers index 0) (named numbers set)) (has set index)
-      (λ h. named-has low high numbers rising set index inside (names-elim (getD numbers index 0) (named numbers set) h))
-      (λ h. names-intro (getD numbers index 0) (named numbers set) (named-at numbers set index inside h))
+-- sets named by what is left: those that share no part with the group, by the same numbers as before
+module _ (low high : ℕ) (numbers : List ℕ) (rising : RisingWithin low high numbers) (few : length numbers ≤ mostParts) (group : ℕ) where
+  abbrev gone : List ℕ
+  gone = named numbers group
 
-  without-names : (sets : List ℕ) → map (named (without index numbers)) (setsWithout index sets) ≡ keep (λ set. not (names (getD numbers index 0) set)) (map (named numbers) sets)
+  without-names : (sets : List ℕ) → ((a : ℕ) → List·Memᴰ a sets → a < 2 ^ length numbers)
+      → map (named (others numbers group)) (setsWithout group sets) ≡ keep (λ set. not (namesSome gone set)) (map (named numbers) sets)
   unfolding setsWithout
-  without-names [] = refl
-  without-names (x ∷ xs) = cases (has x index) refl (names-is-has x) (without-names xs)
+  without-names [] small = refl
+  without-names (x ∷ xs) small =
+      cases (meets group x) refl (names-meet low high numbers rising group x (small x (List·Memᴰ·head refl))) (without-names xs (λ a m. small a (List·Memᴰ·tail m)))
     where
       kept : List ℕ
-      kept = keep (λ set. not (has set index)) xs
+      kept = keep (λ set. not (meets group set)) xs
 
       rest : List (List ℕ)
-      rest = keep (λ set. not (names (getD numbers index 0) set)) (map (named numbers) xs)
+      rest = keep (λ set. not (namesSome gone set)) (map (named numbers) xs)
 
-      cases : (p : Bool) → has x index ≡ p → names (getD numbers index 0) (named numbers x) ≡ has x index → map (named (without index numbers)) (map (lowered index) kept) ≡ rest
-          → map (named (without index numbers)) (map (lowered index) (cond (not p) (x ∷ kept) kept))
-          ≡ cond (not (names (getD numbers index 0) (named numbers x))) (named numbers x ∷ rest) rest
+      cases : (p : Bool) → meets group x ≡ p → namesSome gone (named numbers x) ≡ meets group x → map (named (others numbers group)) (map (squeezed mostParts group) kept) ≡ rest
+          → map (named (others numbers group)) (map (squeezed mostParts group) (cond (not p) (x ∷ kept) kept))
+          ≡ cond (not (namesSome gone (named numbers x))) (named numbers x ∷ rest) rest
       cases true e same later = rw (same, e) later
       cases false e same later =
-          rw (same, e) (ap₂ (λ (s : List ℕ) (ss : List (List ℕ)). s ∷ ss) (named-without index numbers x e) later)
+          rw (same, e) (ap₂ (λ (s : List ℕ) (ss : List (List ℕ)). s ∷ ss) (named-squeezed mostParts numbers group x few e) later)
 
-pub taken-out-numbers : (position : ℕ) (d : Design) → DesignRules d → changeRefusal (takeOut position) d ≡ Accepted
-    → numbersOf (changed (takeOut position) d .parts) ≡ without (position - 1) (numbersOf (d .parts))
-taken-out-numbers position d r accepted =
+-- Taking a group out leaves exactly the numbers in use that are not of the group, in order,
+pub without-numbers : (group : ℕ) (d : Design) → DesignRules d
+    → numbersOf (designWithout group d .parts) ≡ keep (λ number. not (names number (named (numbersOf (d .parts)) group))) (numbersOf (d .parts))
+without-numbers group d r =
+    let numbers = numbersOf (d .parts) in
+    numbers-of-list (d .parts .mark) (others numbers group) ∙ others-kept 0 (d .parts .mark) numbers (r .parts .rules .rising) group
+
+-- and exactly the named minimal sets that name none of the group's numbers, in order.
+pub without-named : (group : ℕ) (d : Design) → DesignRules d
+    → namedSets (designWithout group d) ≡ keep (λ set. not (namesSome (named (numbersOf (d .parts)) group) set)) (namedSets d)
+without-named group d r =
+    let numbers = numbersOf (d .parts) in
+    let counted = well-formed-counted (d .parts) (r .parts) in
+    ap (λ (left : List ℕ). map (named left) (setsWithout group (d .sets))) (numbers-of-list (d .parts .mark) (others numbers group))
+    ∙ without-names 0 (d .parts .mark) numbers (r .parts .rules .rising) (omega (arith, r .parts .rules .few)) group (d .sets)
+    (λ a m. within-numbers d r a (r .sets .within a m .0))
+
+-- a part is taken out at a position of its own
+pub position-inside : (position : ℕ) (d : Design) → DesignRules d → changeRefusal (takeOut position) d ≡ Accepted → position - 1 < length (numbersOf (d .parts))
+position-inside position d r accepted =
     let a = take-out-accepted position d r accepted in
-    ap (λ (c : Changed). numbersOf (c .list)) (taken-out-given (d .parts) (r .parts) position (a .from) (a .to) (a .two))
-    ∙ numbers-of-list (d .parts .mark) (without (position - 1) (numbersOf (d .parts)))
+    omega (arith, well-formed-counted (d .parts) (r .parts), a .from, a .to)
 
--- Taking out the part with number p leaves exactly the named minimal sets that do not name p, in order.
+-- So taking out the part with number p leaves exactly the named minimal sets that do not name p.
 pub taken-out-names : (position : ℕ) (d : Design) → DesignRules d → changeRefusal (takeOut position) d ≡ Accepted
     → namedSets (changed (takeOut position) d) ≡ keep (λ set. not (names (partNumberAt d position) set)) (namedSets d)
+unfolding some
 taken-out-names position d r accepted =
-    let a = take-out-accepted position d r accepted in
-    let inside : position - 1 < length (numbersOf (d .parts)) = omega (arith, well-formed-counted (d .parts) (r .parts), a .from, a .to) in
-    ap (λ (numbers : List ℕ). map (named numbers) (setsWithout (position - 1) (d .sets))) (taken-out-numbers position d r accepted)
-    ∙ without-names 0 (d .parts .mark) (numbersOf (d .parts)) (r .parts .rules .rising) (position - 1) inside (d .sets)
+    without-named (single position) d r
+    ∙ ap (λ (gone : List ℕ). keep (λ set. not (namesSome gone set)) (namedSets d)) (named-single (position - 1) (numbersOf (d .parts)) (position-inside position d r accepted))
+    ∙ simp or-false
 
 -- ---- add set
 

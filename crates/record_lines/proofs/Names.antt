@@ -1,29 +1,30 @@
 -- Laws of the part numbers of a set: which they are, that they decide the set, and that one set holds another exactly if it names all that the
 -- other names.
 -- Assumes nothing.
-use mathlib.Core.Path.{_≡_, refl, sym, ap, ap₂, _∙_, subst}
-use mathlib.Core.Bool.{Bool, true, false, cond, _||_}
+use mathlib.Core.Path.{_≡_, refl, sym, ap, _∙_, subst}
+use mathlib.Core.Bool.{Bool, true, false, not, cond, _||_}
 use mathlib.Core.List.{List, [], _∷_, _++_, List·Memᴰ·head, List·Memᴰ·tail, List·Memᴰ·not-nil, List·Memᴰ·cases-cons}
 use mathlib.Core.Logic.{_⊎_, inl, inr}
 use Prim.Native.Nat.{ℕ, zero, suc, _/_, _^_, _≤_, _<_}
 use native.Mathlib.Nat.{pow-succ', le-of-suc-le-suc}
 use native.Mathlib.Omega.{arith}
-use borrow.Author.Tests.{eqb-true, eq-eqb}
+use borrow.Author.Tests.{eqb-true, eq-eqb, ne-eqb}
 use lib.Dec.{eqb}
 use lib.ListN.{length, getD}
-use lib.Seq.{take-nil}
 use Rattle.theory_sums.specs.Sums.{some}
-use Rattle.record_numbers.specs.Numbering.{RisingWithin, without}
+use Rattle.record_numbers.specs.Numbering.{RisingWithin, named, others}
 use Rattle.record_parts.specs.Lines.{In}
-use Rattle.record_parts.proofs.LeftOut.{in-at}
+use Rattle.record_parts.proofs.LeftOut.{in-at, in-named}
 use Rattle.record_parts.proofs.Numbers.{rising-in}
 use Rattle.theory_sets.specs.Masks.{has, holds}
-use Rattle.theory_sets.proofs.Bools.{clash, or-cases, or-left, or-right}
+use Rattle.theory_sets.proofs.Bools.{clash, or-cases, or-left, or-right, same-test, false-of}
 use Rattle.theory_sets.proofs.Masks.{has-suc, has-even, has-above, holds-part, holds-of-parts, holds-antisym}
 use Rattle.theory_sets.proofs.Ranges.{below-or-above}
-use Rattle.record_lines.specs.Changes.{lowered}
-use Rattle.record_lines.specs.Names.{named, names}
-use Rattle.record_lines.proofs.MovedDown.{lowered-zero, lowered-low, lowered-half}
+use Rattle.masks.specs.Groups.{meets}
+use Rattle.masks.proofs.Groups.{meets-part, shared-part}
+use Rattle.record_lines.specs.Changes.{keep}
+use Rattle.record_lines.specs.Names.{names, namesSome}
+use Rattle.record_lines.proofs.Keeping.{keep-same, some-intro, some-elim}
 
 -- the numbers of a set by its lowest bit and the rest
 abbrev picked : Bool → ℕ → List ℕ → List ℕ
@@ -35,15 +36,6 @@ unfolding named
 named-more [] number set h = ap (λ (p : Bool). picked p number []) (has-even set (omega arith))
 named-more (p ∷ ps) number set h =
     ap (picked (has set 0) p) (named-more ps number (set / 2) (omega (arith, pow-succ' 2 (length ps))))
-
--- a part left out that the set lacks, where higher positions move down, changes no names
-pub named-without : (index : ℕ) (numbers : List ℕ) (set : ℕ) → has set index ≡ false → named (without index numbers) (lowered index set) ≡ named numbers set
-unfolding named
-named-without index [] set lacks = simp take-nil
-named-without zero (p ∷ ps) set lacks = ap (named ps) (lowered-zero set) ∙ ap (λ (q : Bool). picked q p (named ps (set / 2))) (sym lacks)
-named-without (suc i) (p ∷ ps) set lacks =
-    ap₂ (λ (q : Bool) (rest : List ℕ). picked q p rest) (lowered-low i set)
-    (ap (named (without i ps)) (lowered-half i set) ∙ named-without i ps (set / 2) (sym (has-suc set i) ∙ lacks))
 
 -- each is one of the numbers, at a position whose bit is set
 pub record Position (numbers : List ℕ) (set number : ℕ) : Type 0 where
@@ -69,11 +61,6 @@ named-position (p ∷ ps) set {number} i = cases (has set 0) refl (named-positio
         first (inl same) = record { index = 0; inside = omega arith; member = e; same = same }
         first (inr i) = later (rest i)
     cases false e rest i = later (rest i)
-
-pub named-in : (numbers : List ℕ) (set : ℕ) {number : ℕ} → In number (named numbers set) → In number numbers
-named-in numbers set {number} i =
-    let at = named-position numbers set i in
-    subst (λ (x : ℕ). In x numbers) (sym (at .same)) (in-at (at .index) numbers (at .inside))
 
 pub named-at : (numbers : List ℕ) (set index : ℕ) → index < length numbers → has set index ≡ true → In (getD numbers index 0) (named numbers set)
 unfolding named
@@ -136,3 +123,48 @@ names-elim number (x ∷ xs) h = cases (or-cases (eqb number x) (names number xs
     cases : (eqb number x ≡ true) ⊎ (names number xs ≡ true) → (names number xs ≡ true → In number xs) → In number (x ∷ xs)
     cases (inl e) rest = List·Memᴰ·head (eqb-true number x e)
     cases (inr later) rest = List·Memᴰ·tail (rest later)
+
+-- ---- by part numbers
+
+module _ (low high : ℕ) (numbers : List ℕ) (rising : RisingWithin low high numbers) (group : ℕ) where
+  -- a set names a number of the group exactly if it shares a part with it
+  pub names-meet : (set : ℕ) → set < 2 ^ length numbers → namesSome (named numbers group) (named numbers set) ≡ meets group set
+  names-meet set small =
+      same-test (namesSome (named numbers group) (named numbers set)) (meets group set)
+      (λ h.
+      let found = some-elim (λ number. names number (named numbers set)) (named numbers group) h in
+      let at = named-position numbers group (found .1) in
+      let inside = subst (λ (x : ℕ). In x (named numbers set)) (at .same) (names-elim (found .0) (named numbers set) (found .2)) in
+      meets-part group set (at .index) (named-has low high numbers rising set (at .index) (at .inside) inside) (at .member))
+      (λ h.
+      let found = shared-part (length numbers) group set small h in
+      let i = found .0 in
+      some-intro (λ number. names number (named numbers set)) (named numbers group) (named-at numbers group i (found .1) (found .3))
+      (names-intro (getD numbers i 0) (named numbers set) (named-at numbers set i (found .1) (found .2))))
+
+-- the others are the numbers that are not of the group
+pub others-kept : (low high : ℕ) (numbers : List ℕ) → RisingWithin low high numbers → (group : ℕ)
+    → others numbers group ≡ keep (λ number. not (names number (named numbers group))) numbers
+unfolding named others some
+others-kept low high [] rising group = refl
+others-kept low high (p ∷ ps) rising group = cases (has group 0) (others-kept p high ps (rising .2) (group / 2))
+  where
+    gone : List ℕ
+    gone = named ps (group / 2)
+
+    -- the first number is none of those behind it
+    apart : (number : ℕ) → In number ps → eqb number p ≡ false
+    apart number i = ne-eqb number p (λ e. let b = rising-in p high ps (rising .2) i in omega (arith, b .0))
+
+    absent : names p gone ≡ false
+    absent = false-of (names p gone) (λ h. clash (eq-eqb p p refl) (apart p (in-named ps (group / 2) (names-elim p gone h))))
+
+    more : ℕ → Bool
+    more number = not (names number (p ∷ gone))
+
+    cases : (q : Bool) → others ps (group / 2) ≡ keep (λ number. not (names number gone)) ps
+        → cond q (others ps (group / 2)) (p ∷ others ps (group / 2)) ≡ keep (λ number. not (names number (cond q (p ∷ gone) gone))) (p ∷ ps)
+    cases true rest =
+        rest ∙ keep-same (λ number. not (names number gone)) more ps (λ number i. ap (λ (q : Bool). not (q || names number gone)) (sym (apart number i)))
+        ∙ ap (λ (q : Bool). picked (not (q || names p gone)) p (keep more ps)) (sym (eq-eqb p p refl))
+    cases false rest = ap (λ (l : List ℕ). p ∷ l) rest ∙ ap (λ (q : Bool). picked (not q) p (keep (λ number. not (names number gone)) ps)) (sym absent)

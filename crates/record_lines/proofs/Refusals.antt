@@ -1,7 +1,7 @@
 -- Each change is refused exactly where 01 says so: 17 for a position that is not there, 18 if every set names the part, 19 for the seventeenth
 -- part, 20 if no number is left, 4 and 5 for a set; and nothing else refuses it but a buffer that is too short.
 -- Assumes nothing.
-use mathlib.Core.Path.{_≡_, ap, _∙_}
+use mathlib.Core.Path.{_≡_, sym, ap, _∙_}
 use mathlib.Core.Bool.{false}
 use mathlib.Core.List.{List, List·Memᴰ}
 use mathlib.Core.Logic.{_↔_}
@@ -15,6 +15,9 @@ use Rattle.answer.specs.declared.Verdict.the-variants.{Accepted}
 use Rattle.answer.specs.declared.Written.the-variants.{Length}
 use Rattle.record_numbers.specs.Numbering.{mostParts, topNumber}
 use Rattle.theory_sets.specs.Masks.{has}
+use Rattle.masks.specs.Groups.{meets}
+use Rattle.masks.proofs.Groups.{meets-single}
+use Rattle.record_parts.specs.Changes.{single}
 use Rattle.theory_sets.proofs.Bools.{clash, false-of}
 use Rattle.record_head.specs.Headings.{Read, found}
 use Rattle.record.specs.Records.{Design, wholeRecord}
@@ -35,10 +38,14 @@ add-part-exactly d r = (
 pub take-out-exactly : (position : ℕ) (d : Design) → DesignRules d → (changeRefusal (takeOut position) d ≡ Accepted)
     ↔ ((1 ≤ position) × (position ≤ d .parts .count) × ((set : ℕ) × List·Memᴰ set (d .sets) × (has set (position - 1) ≡ false)))
 take-out-exactly position d r = (
-  λ accepted. let a = take-out-accepted position d r accepted in (a .from, a .to, every-fails (λ set. has set (position - 1)) (d .sets) (a .left)),
+  λ accepted.
+      let a = take-out-accepted position d r accepted in
+      let found = every-fails (meets (single position)) (d .sets) (a .left) in
+      (a .from, a .to, (found .0, found .1, sym (meets-single (position - 1) (found .0)) ∙ found .2)),
   λ good.
-      let left : every (λ set. has set (position - 1)) (d .sets) ≡ false =
-      false-of (every (λ set. has set (position - 1)) (d .sets)) (λ all. clash (every-elim (λ set. has set (position - 1)) (d .sets) all (good .2 .1)) (good .2 .2)) in
+      let left : every (meets (single position)) (d .sets) ≡ false =
+      false-of (every (meets (single position)) (d .sets)) (λ all.
+      clash (sym (meets-single (position - 1) (good .2 .0)) ∙ every-elim (meets (single position)) (d .sets) all (good .2 .1)) (good .2 .2)) in
       simp (ne-eqb position 0 (λ e. omega (arith, good .0)), le-ltb (d .parts .count) position (good .1), left),
 )
 

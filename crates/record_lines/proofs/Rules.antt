@@ -3,7 +3,7 @@
 -- Assumes nothing.
 use mathlib.Core.Path.{_≡_, refl, sym, ap, _∙_, subst}
 use mathlib.Core.Bool.{Bool, true, false}
-use mathlib.Core.List.{List, [], _∷_, List·Memᴰ, List·Memᴰ·cases-cons}
+use mathlib.Core.List.{List, [], _∷_, List·Memᴰ, List·Memᴰ·head, List·Memᴰ·cases-cons}
 use mathlib.Core.Logic.{_⊎_, inl, inr, ⊎-elim}
 use Prim.Native.Nat.{ℕ, zero, suc, _+_, _-_, _^_, _≤_, _<_}
 use native.Mathlib.Nat.{pow-succ', pos-of-ne-zero}
@@ -20,16 +20,16 @@ use Rattle.numbers.specs.Tables.{tabulate}
 use Rattle.numbers.proofs.Tables.{tabulate-length, tabulate-suc}
 use Rattle.record_parts.specs.declared.PartList.{PartList}
 use Rattle.record_parts.specs.declared.Changed.{Changed}
-use Rattle.record_numbers.specs.Numbering.{mostParts, topNumber, RisingWithin}
+use Rattle.record_numbers.specs.Numbering.{mostParts, topNumber, RisingWithin, others}
 use Rattle.record_parts.specs.PartLists.{numbersOf, WellFormed}
-use Rattle.record_parts.specs.Changes.{partAdded, takenOut, addRefusal}
+use Rattle.record_parts.specs.Changes.{partAdded, addRefusal, single}
 use Rattle.record_parts.specs.Changes as parts
 use Rattle.record_parts.specs.Lines as lines
-use Rattle.record_parts.proofs.LeftOut.{length-without}
 use Rattle.record_parts.proofs.Numbers.{rising-append}
-use Rattle.record_parts.proofs.OneChange.{line-one, added-given, taken-out-given}
+use Rattle.record_parts.proofs.OneChange.{line-one, line-without, added-given}
 use Rattle.record_parts.proofs.WellFormed.{list-well-formed, well-formed-counted}
-use Rattle.theory_sets.specs.Masks.{has}
+use Rattle.masks.specs.Groups.{meets}
+use Rattle.masks.proofs.Groups.{meets-single}
 use Rattle.theory_sets.specs.Structures.{listed, minimalSets}
 use Rattle.theory_sets.proofs.Bools.{clash}
 use Rattle.theory_sets.proofs.Masks.{has-odd}
@@ -39,10 +39,10 @@ use Rattle.structure.specs.Checks.{listRefusal}
 use Rattle.structure.proofs.Acceptance.{AcceptedList, accepted-list}
 use Rattle.record.specs.Records.{Design}
 use Rattle.record.specs.RecordBytes.{SetRules, DesignRules}
-use Rattle.record_lines.specs.Changes.{Change, addPart, takeOut, addSet, every, takeOutRefusal, addSetRefusal, changeRefusal, changed, firstDesign}
+use Rattle.record_lines.specs.Changes.{Change, addPart, takeOut, addSet, every, setsWithout, designWithout, takeOutRefusal, addSetRefusal, changeRefusal, changed, firstDesign}
 use Rattle.record_lines.proofs.Keeping.{every-intro}
 use Rattle.record_lines.proofs.MinimalSets.{minimal-set-rules}
-use Rattle.record_lines.proofs.TakenOut.{without-rules}
+use Rattle.record_lines.proofs.TakenOut.{sets-without-rules}
 
 -- ---- what an accepted change may rest on
 
@@ -53,33 +53,33 @@ add-accepted list w accepted =
     (omega (arith, eqb-false (list .count) mostParts (s .0), w .rules .few), omega (arith, eqb-false (list .mark) topNumber (t .0), w .rules .top))
 
 -- every set of a machine of one part names it
-pub one-part : (sets : List ℕ) → SetRules 1 sets → every (λ set. has set 0) sets ≡ true
+pub one-part : (sets : List ℕ) → SetRules 1 sets → every (meets 1) sets ≡ true
 one-part sets r =
-    every-intro (λ set. has set 0) sets (λ a m. let w = r .within a m in has-odd a (omega (arith, w .0, w .1)))
+    every-intro (meets 1) sets (λ a m. let w = r .within a m in meets-single 0 a ∙ has-odd a (omega (arith, w .0, w .1)))
 
 pub record TakeOutAccepted (position : ℕ) (d : Design) : Type 0 where
   pub from : 1 ≤ position
   pub to : position ≤ d .parts .count
   pub two : 2 ≤ d .parts .count
-  pub left : every (λ set. has set (position - 1)) (d .sets) ≡ false
+  pub left : every (meets (single position)) (d .sets) ≡ false
 
 pub take-out-accepted : (position : ℕ) (d : Design) → DesignRules d → takeOutRefusal position d ≡ Accepted → TakeOutAccepted position d
 take-out-accepted position d r accepted =
     let n : ℕ = d .parts .count in
     let s = refuse-accepted (eqb position 0) unknownPosition 0 _ accepted in
     let t = refuse-accepted (ltb n position) unknownPosition 0 _ (s .1) in
-    let u = refuse-accepted (every (λ set. has set (position - 1)) (d .sets)) inEverySet 0 Accepted (t .1) in
+    let u = refuse-accepted (every (meets (single position)) (d .sets)) inEverySet 0 Accepted (t .1) in
     let from : 1 ≤ position = pos-of-ne-zero (eqb-false position 0 (s .0)) in
     let to : position ≤ n = ltb-false n position (t .0) in
     record { from = from; to = to; two = several from to (u .0) (below-or-above 1 n); left = u .0 }
   where
-    several : 1 ≤ position → position ≤ d .parts .count → every (λ set. has set (position - 1)) (d .sets) ≡ false → (1 < d .parts .count) ⊎ (d .parts .count ≤ 1)
+    several : 1 ≤ position → position ≤ d .parts .count → every (meets (single position)) (d .sets) ≡ false → (1 < d .parts .count) ⊎ (d .parts .count ≤ 1)
         → 2 ≤ d .parts .count
     several from to left (inl more) = more
     several from to left (inr one) =
-        let single : d .parts .count ≡ 1 = omega (arith, r .parts .rules .some) in
+        let only : d .parts .count ≡ 1 = omega (arith, r .parts .rules .some) in
         let index : position - 1 ≡ 0 = omega arith in
-        clash (one-part (d .sets) (rw single at (r .sets))) (rw index at left)
+        clash (one-part (d .sets) (rw only at (r .sets))) (rw index at left)
 
 -- what parts refuse, the record refuses by the same number; 18 for the only part among it
 pub take-out-agrees : (position : ℕ) (d : Design) → DesignRules d → (refusal : Refusal) → parts.takeOutRefusal (d .parts) position ≡ Refused refusal
@@ -87,23 +87,23 @@ pub take-out-agrees : (position : ℕ) (d : Design) → DesignRules d → (refus
 take-out-agrees position d r refusal = first (eqb position 0) refl
   where
     third : ltb (d .parts .count) position ≡ false → eqb position 0 ≡ false → (p : Bool) → eqb (d .parts .count) 1 ≡ p → refuse p inEverySet 0 Accepted ≡ Refused refusal
-        → refuse (every (λ set. has set (position - 1)) (d .sets)) inEverySet 0 Accepted ≡ Refused refusal
+        → refuse (every (meets (single position)) (d .sets)) inEverySet 0 Accepted ≡ Refused refusal
     third within some true e refused =
-        let single : d .parts .count ≡ 1 = eqb-true (d .parts .count) 1 e in
+        let only : d .parts .count ≡ 1 = eqb-true (d .parts .count) 1 e in
         let index : position - 1 ≡ 0 = omega (arith, ltb-false (d .parts .count) position within) in
-        let whole : every (λ set. has set (position - 1)) (d .sets) ≡ true = rw index (one-part (d .sets) (rw single at (r .sets))) in
+        let whole : every (meets (single position)) (d .sets) ≡ true = rw index (one-part (d .sets) (rw only at (r .sets))) in
         rw whole refused
     third within some false e refused = let z : _≡_ {A = ℕ} 0 1 = cc in absurd (omega arith)
 
     second : eqb position 0 ≡ false → (p : Bool) → ltb (d .parts .count) position ≡ p
         → refuse p unknownPosition 0 (refuse (eqb (d .parts .count) 1) inEverySet 0 Accepted) ≡ Refused refusal
-        → refuse p unknownPosition 0 (refuse (every (λ set. has set (position - 1)) (d .sets)) inEverySet 0 Accepted) ≡ Refused refusal
+        → refuse p unknownPosition 0 (refuse (every (meets (single position)) (d .sets)) inEverySet 0 Accepted) ≡ Refused refusal
     second some true e refused = refused
     second some false e refused = third e some (eqb (d .parts .count) 1) refl refused
 
     first : (p : Bool) → eqb position 0 ≡ p
         → refuse p unknownPosition 0 (refuse (ltb (d .parts .count) position) unknownPosition 0 (refuse (eqb (d .parts .count) 1) inEverySet 0 Accepted)) ≡ Refused refusal
-        → refuse p unknownPosition 0 (refuse (ltb (d .parts .count) position) unknownPosition 0 (refuse (every (λ set. has set (position - 1)) (d .sets)) inEverySet 0 Accepted)) ≡ Refused refusal
+        → refuse p unknownPosition 0 (refuse (ltb (d .parts .count) position) unknownPosition 0 (refuse (every (meets (single position)) (d .sets)) inEverySet 0 Accepted)) ≡ Refused refusal
     first true e refused = refused
     first false e refused = second e (ltb (d .parts .count) position) refl refused
 
@@ -143,12 +143,22 @@ added-count list w accepted =
     let issued = list .mark + 1 in
     ap (λ (c : Changed). c .list .count) (added-given list w (a .0) (a .1)) ∙ length-append (numbersOf list) (issued ∷ []) ∙ omega (arith, well-formed-counted list w)
 
-pub taken-out-count : (position : ℕ) (d : Design) → DesignRules d → takeOutRefusal position d ≡ Accepted → suc (takenOut (d .parts) position .list .count) ≡ d .parts .count
-taken-out-count position d r accepted =
-    let a = take-out-accepted position d r accepted in
+-- what is left without a group keeps the rules, as long as some set names none of its parts
+pub without-rules : (group : ℕ) (d : Design) → DesignRules d → every (meets group) (d .sets) ≡ false → DesignRules (designWithout group d)
+without-rules group d r left =
+    let numbers = numbersOf (d .parts) in
     let counted = well-formed-counted (d .parts) (r .parts) in
-    ap (λ (c : Changed). suc (c .list .count)) (taken-out-given (d .parts) (r .parts) position (a .from) (a .to) (a .two))
-    ∙ length-without (position - 1) (numbersOf (d .parts)) (omega (arith, a .from, a .to)) ∙ counted
+    let sets = sets-without-rules numbers group (d .sets) (omega (arith, r .parts .rules .few)) (rw counted (r .sets)) left in
+    record {
+      parts = line-without (d .parts) (r .parts) group (some-part (length (others numbers group)) (setsWithout group (d .sets)) sets) .well-formed;
+      sets = sets;
+    }
+  where
+    -- a machine that has a set has a part
+    some-part : (n : ℕ) (sets : List ℕ) → SetRules n sets → 1 ≤ n
+    some-part n [] r = absurd (omega (arith, r .some))
+    some-part zero (x ∷ xs) r = let w = r .within x (List·Memᴰ·head refl) in absurd (omega (arith, w .0, w .1))
+    some-part (suc n) (x ∷ xs) r = omega arith
 
 pub changed-rules : (change : Change) (d : Design) → DesignRules d → changeRefusal change d ≡ Accepted → DesignRules (changed change d)
 changed-rules addPart d r accepted =
@@ -156,14 +166,7 @@ changed-rules addPart d r accepted =
       parts = line-one lines.addPart (d .parts) (r .parts) .well-formed;
       sets = rw (added-count (d .parts) (r .parts) accepted) (sets-more (d .parts .count) (d .sets) (r .sets));
     }
-changed-rules (takeOut position) d r accepted =
-    let a = take-out-accepted position d r accepted in
-    let count = takenOut (d .parts) position .list .count in
-    let counted : suc count ≡ d .parts .count = taken-out-count position d r accepted in
-    record {
-      parts = line-one (lines.takeOut position) (d .parts) (r .parts) .well-formed;
-      sets = without-rules count (position - 1) (d .sets) (omega (arith, a .to)) (rw counted (r .sets)) (a .left);
-    }
+changed-rules (takeOut position) d r accepted = without-rules (single position) d r (take-out-accepted position d r accepted .left)
 changed-rules (addSet set) d r accepted =
     record {
       parts = r .parts;

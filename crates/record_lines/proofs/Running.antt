@@ -1,24 +1,26 @@
 -- The structure by part numbers is the one that the sets give by positions; and what each change does to it: a new part is idle, a part taken
 -- out is held failed, and a set that is added is one more way to run.
 -- Assumes nothing.
-use mathlib.Core.Path.{_≡_, refl, sym, ap, ap₂, _∙_, subst}
+use mathlib.Core.Path.{_≡_, refl, sym, ap, ap₂, _∙_}
 use mathlib.Core.Bool.{Bool, true, false, not, cond, _&&_, _||_}
 use mathlib.Core.List.{List, [], _∷_, map, List·Memᴰ, List·Memᴰ·head, List·Memᴰ·tail, Memᴰ·map, Memᴰ·of-map}
 use mathlib.Core.Logic.{_⊎_, inl, inr}
-use Prim.Native.Nat.{ℕ, _^_, _≤_, _<_}
+use Prim.Native.Nat.{ℕ, _-_, _^_, _≤_, _<_}
 use native.Mathlib.Nat.{lt-of-le-of-lt}
-use borrow.Author.Tests.{eqb-true, eq-eqb, not-true}
+use borrow.Author.Tests.{not-true}
 use lib.Dec.{eqb}
 use lib.ListN.{length, getD}
 use Rattle.answer.specs.declared.Verdict.the-variants.{Accepted}
 use Rattle.theory_sums.specs.Sums.{some}
+use Rattle.record_numbers.specs.Numbering.{named}
 use Rattle.record_parts.specs.PartLists.{numbersOf}
-use Rattle.record_parts.specs.Lines.{In}
+use Rattle.record_parts.specs.Changes.{single}
+use Rattle.record_parts.proofs.LeftOut.{named-single}
 use Rattle.record_parts.proofs.WellFormed.{well-formed-counted}
 use Rattle.theory_sets.specs.Masks.{has, holds}
 use Rattle.theory_sets.specs.Structures.{listed, minimal, minimalSets}
 use Rattle.theory_sets.specs.Tables.{packed}
-use Rattle.theory_sets.proofs.Bools.{and-left, and-right, and-both, clash, same-test, false-of}
+use Rattle.theory_sets.proofs.Bools.{and-left, and-right, and-both, or-false, clash, same-test, false-of}
 use Rattle.theory_sets.proofs.Ranges.{below-or-above, those-intro}
 use Rattle.theory_sets.proofs.Lists.{listed-intro}
 use Rattle.theory_sets.proofs.Masks.{has-above, holds-part, holds-of-parts, holds-refl}
@@ -26,12 +28,12 @@ use Rattle.theory_sets.proofs.Structures.{minimal-below}
 use Rattle.theory_sets.proofs.Tables.{has-packed}
 use Rattle.record.specs.Records.{Design}
 use Rattle.record.specs.RecordBytes.{DesignRules}
-use Rattle.record_lines.specs.Changes.{addPart, takeOut, addSet, keep, every, changeRefusal, changed}
-use Rattle.record_lines.specs.Names.{named, namedSets, partNumberAt, names, runs}
+use Rattle.record_lines.specs.Changes.{addPart, takeOut, addSet, keep, every, designWithout, changeRefusal, changed}
+use Rattle.record_lines.specs.Names.{namedSets, partNumberAt, names, namesSome, runs}
 use Rattle.record_lines.proofs.Keeping.{every-intro, every-elim, some-intro, some-elim}
 use Rattle.record_lines.proofs.MinimalSets.{minimal-exactly}
 use Rattle.record_lines.proofs.Names.{named-position, named-at, holds-names, names-intro, names-elim}
-use Rattle.record_lines.proofs.NamedChanges.{added-names, taken-out-names}
+use Rattle.record_lines.proofs.NamedChanges.{added-names, without-named, position-inside}
 use Rattle.record_lines.proofs.Rules.{with-set-within}
 
 -- the set by positions of those that work among the parts with these numbers
@@ -69,38 +71,52 @@ runs-listed d r working =
 pub added-runs : (d : Design) → DesignRules d → changeRefusal addPart d ≡ Accepted → (working : ℕ → Bool) → runs (changed addPart d) working ≡ runs d working
 added-runs d r accepted working = ap (some (every working)) (added-names d r accepted)
 
--- all parts of a set that does not name p work exactly if they do with p failed; those of one that names p then do not
-module _ (p : ℕ) (working : ℕ → Bool) where
-  abbrev others : ℕ → Bool
-  others number = working number && not (eqb number p)
+-- all parts of a set that names none of the numbers that are gone work exactly if they do with these failed; those of one that names one do not
+module _ (gone : List ℕ) (working : ℕ → Bool) where
+  abbrev left : ℕ → Bool
+  left number = working number && not (names number gone)
 
-  failed-naming : (set : List ℕ) → names p set ≡ true → every others set ≡ false
+  failed-naming : (set : List ℕ) → namesSome gone set ≡ true → every left set ≡ false
   failed-naming set h =
-      false-of (every others set) (λ all.
-      clash (eq-eqb p p refl) (not-true (eqb p p) (and-right (working p) (not (eqb p p)) (every-elim others set all (names-elim p set h)))))
+      false-of (every left set) (λ all.
+      let found = some-elim (λ number. names number set) gone h in
+      let p = found .0 in
+      clash (names-intro p gone (found .1)) (not-true (names p gone) (and-right (working p) (not (names p gone)) (every-elim left set all (names-elim p set (found .2))))))
 
-  failed-other : (set : List ℕ) → names p set ≡ false → every working set ≡ every others set
+  failed-other : (set : List ℕ) → namesSome gone set ≡ false → every working set ≡ every left set
   failed-other set h =
-      same-test (every working set) (every others set)
-      (λ all. every-intro others set (λ number i. and-both (every-elim working set all i)
-      (ap not (false-of (eqb number p) (λ e. clash (names-intro p set (subst (λ (x : ℕ). In x set) (eqb-true number p e) i)) h)))))
-      (λ all. every-intro working set (λ number i. and-left (working number) (not (eqb number p)) (every-elim others set all i)))
+      same-test (every working set) (every left set)
+      (λ all. every-intro left set (λ number i. and-both (every-elim working set all i)
+      (ap not (false-of (names number gone) (λ e. clash (some-intro (λ number. names number set) gone (names-elim number gone e) (names-intro number set i)) h)))))
+      (λ all. every-intro working set (λ number i. and-left (working number) (not (names number gone)) (every-elim left set all i)))
 
-  held-failed : (sets : List (List ℕ)) → some (every working) (keep (λ set. not (names p set)) sets) ≡ some (every others) sets
+  held-failed : (sets : List (List ℕ)) → some (every working) (keep (λ set. not (namesSome gone set)) sets) ≡ some (every left) sets
   unfolding some
   held-failed [] = refl
-  held-failed (x ∷ xs) = cases (names p x) refl (held-failed xs)
+  held-failed (x ∷ xs) = cases (namesSome gone x) refl (held-failed xs)
     where
-      cases : (q : Bool) → names p x ≡ q → some (every working) (keep (λ set. not (names p set)) xs) ≡ some (every others) xs
-          → some (every working) (cond (not q) (x ∷ keep (λ set. not (names p set)) xs) (keep (λ set. not (names p set)) xs)) ≡ every others x || some (every others) xs
+      kept : List (List ℕ)
+      kept = keep (λ set. not (namesSome gone set)) xs
+
+      cases : (q : Bool) → namesSome gone x ≡ q → some (every working) kept ≡ some (every left) xs
+          → some (every working) (cond (not q) (x ∷ kept) kept) ≡ every left x || some (every left) xs
       cases true e rest = rw (failed-naming x e) rest
       cases false e rest = ap₂ (λ (a b : Bool). a || b) (failed-other x e) rest
 
--- the structure after the part with number p is taken out is the old one with p held failed
+-- the structure without a group is the old one with the group's parts held failed
+pub without-runs : (group : ℕ) (d : Design) → DesignRules d → (working : ℕ → Bool)
+    → runs (designWithout group d) working ≡ runs d (λ number. working number && not (names number (named (numbersOf (d .parts)) group)))
+without-runs group d r working =
+    ap (some (every working)) (without-named group d r) ∙ held-failed (named (numbersOf (d .parts)) group) working (namedSets d)
+
+-- so the structure after the part with number p is taken out is the old one with p held failed
 pub taken-out-runs : (position : ℕ) (d : Design) → DesignRules d → changeRefusal (takeOut position) d ≡ Accepted → (working : ℕ → Bool)
     → runs (changed (takeOut position) d) working ≡ runs d (λ number. working number && not (eqb number (partNumberAt d position)))
+unfolding some
 taken-out-runs position d r accepted working =
-    ap (some (every working)) (taken-out-names position d r accepted) ∙ held-failed (partNumberAt d position) working (namedSets d)
+    without-runs (single position) d r working
+    ∙ ap (λ (gone : List ℕ). runs d (λ number. working number && not (names number gone))) (named-single (position - 1) (numbersOf (d .parts)) (position-inside position d r accepted))
+    ∙ simp or-false
 
 -- and after a set is added the machine runs also while all parts of it work
 pub with-set-runs : (set : ℕ) (d : Design) → DesignRules d → changeRefusal (addSet set) d ≡ Accepted → (working : ℕ → Bool)

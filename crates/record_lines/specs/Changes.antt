@@ -1,7 +1,7 @@
 -- Changes of a design (01, "Records on disk"): add part, take out the part at a position, add set; and a first design.
 use mathlib.Core.Bool.{Bool, true, not, cond, _&&_}
 use mathlib.Core.List.{List, [], _∷_, map}
-use Prim.Native.Nat.{ℕ, suc, _+_, _-_, _*_, _/_, _%_, _^_}
+use Prim.Native.Nat.{ℕ, _+_, _^_}
 use lib.Dec.{leb, ltb, eqb}
 use Rattle.answer.specs.Refusals.{unknownPart, emptySet, unknownPosition, inEverySet}
 use Rattle.answer.specs.Outcome.{refuse}
@@ -9,8 +9,9 @@ use Rattle.answer.specs.declared.Verdict.{Verdict}
 use Rattle.answer.specs.declared.Verdict.the-variants as verdict
 use Rattle.numbers.specs.Tables.{tabulate}
 use Rattle.record_parts.specs.PartLists.{listOf}
-use Rattle.record_parts.specs.Changes.{addRefusal, partAdded, takenOut}
-use Rattle.theory_sets.specs.Masks.{has}
+use Rattle.record_numbers.specs.Numbering.{mostParts}
+use Rattle.record_parts.specs.Changes.{addRefusal, partAdded, single, listWithout}
+use Rattle.masks.specs.Groups.{meets, squeezed}
 use Rattle.theory_sets.specs.Structures.{listed, minimalSets}
 use Rattle.record.specs.Records.{Design, design}
 
@@ -20,7 +21,7 @@ pub data Change : Type 0 where
   takeOut : ℕ → Change
   addSet : ℕ → Change
 
--- ---- sets without a part
+-- ---- without a group of parts
 
 -- those of a list that pass a test, in order
 abbrev pub keep : {A : Type 0} → (A → Bool) → List A → List A
@@ -32,22 +33,25 @@ abbrev pub every : {A : Type 0} → (A → Bool) → List A → Bool
 every test [] = true
 every test (x ∷ xs) = test x && every test xs
 
--- "higher positions move down by one": the bits above the index move down, those below it stay, and the bit at the index is gone
-unfoldable pub lowered : ℕ → ℕ → ℕ
-lowered index set = set / 2 ^ suc index * 2 ^ index + set % 2 ^ index
-
--- the part with this bit is held failed: "Sets naming it go, higher positions move down by one"
+-- the parts of a group are held failed: "Sets naming it go, higher positions move down by one"
 unfoldable pub setsWithout : ℕ → List ℕ → List ℕ
-setsWithout index sets = map (lowered index) (keep (λ set. not (has set index)) sets)
+setsWithout group sets = map (squeezed mostParts group) (keep (λ set. not (meets group set)) sets)
+
+-- a design without the parts of a group; "part numbers and mark stay"
+abbrev pub designWithout : ℕ → Design → Design
+designWithout group d = design (listWithout group (d .parts)) (setsWithout group (d .sets))
 
 -- ---- what refuses a change, at place 0
 
--- 17: the position is not 1 to n; 18: every set names that part
+-- 18: every set names a part of the group
+abbrev pub withoutRefusal : ℕ → Design → Verdict
+withoutRefusal group d = refuse (every (meets group) (d .sets)) inEverySet 0 verdict.Accepted
+
+-- 17: the position is not 1 to n; then 18 for the part at it
 abbrev pub takeOutRefusal : ℕ → Design → Verdict
 takeOutRefusal position d =
     refuse (eqb position 0) unknownPosition 0
-    (refuse (ltb (d .parts .count) position) unknownPosition 0
-    (refuse (every (λ set. has set (position - 1)) (d .sets)) inEverySet 0 verdict.Accepted))
+    (refuse (ltb (d .parts .count) position) unknownPosition 0 (withoutRefusal (single position) d))
 
 -- a set that is added to a machine of n parts, 4: bit n or above; 5: mask 0
 abbrev pub newSetRefusal : ℕ → ℕ → Verdict
@@ -67,7 +71,7 @@ changeRefusal (addSet set) d = addSetRefusal set d
 -- add part: the sets stay; take out: the part is held failed; add set: the minimal sets of the old ones and the new one
 abbrev pub changed : Change → Design → Design
 changed addPart d = design (partAdded (d .parts) .list) (d .sets)
-changed (takeOut position) d = design (takenOut (d .parts) position .list) (setsWithout (position - 1) (d .sets))
+changed (takeOut position) d = designWithout (single position) d
 changed (addSet set) d = design (d .parts) (minimalSets (d .parts .count) (listed (set ∷ d .sets)))
 
 -- a first design, of n parts and a list of sets as in the list form: part numbers 1 to n, mark n, the minimal sets

@@ -1,19 +1,21 @@
 -- Lines of changes (01, "Records on disk"): a line starts from one record, and each change is applied to what the last one gave.
+use mathlib.Core.Bool.{Bool, true}
 use mathlib.Core.List.{List, [], _∷_, _++_, List·Memᴰ}
 use mathlib.Core.Logic.{_⊎_}
 use mathlib.Core.Path.{_≡_}
-use Prim.Native.Nat.{ℕ}
+use Prim.Native.Nat.{ℕ, _^_, _<_}
 use lib.ListN.{take}
 use Rattle.answer.specs.Outcome.{Outcome}
 use Rattle.answer.specs.declared.Written.{Written}
 use Rattle.answer.specs.declared.Written.the-variants as written
+use Rattle.record_numbers.specs.Numbering.{named}
 use Rattle.record_parts.specs.PartLists.{numbersOf}
 use Rattle.record_parts.specs.Lines.{In, Line, givenNumber}
-use Rattle.record_parts.specs.Changes.{partAdded, takenOut}
+use Rattle.record_parts.specs.Changes.{partAdded, single}
 use Rattle.record.specs.Records.{Design}
 use Rattle.record.specs.RecordBytes.{DesignRules}
-use Rattle.record_lines.specs.Changes.{Change, addPart, takeOut, addSet, changed}
-use Rattle.record_lines.specs.Names.{named, namedSets}
+use Rattle.record_lines.specs.Changes.{Change, addPart, takeOut, addSet, every, changed}
+use Rattle.record_lines.specs.Names.{namedSets, runs}
 use Rattle.record_lines.specs.Records.{changedRecord}
 
 -- ---- on record bytes
@@ -55,7 +57,7 @@ abbrev pub designAfter : List Change → Design → Design
 designAfter [] d = d
 designAfter (change ∷ changes) d = designAfter changes (changed change d)
 
--- the number issued in a change, the number that left in it, and the set that it gave, by the part numbers then in use; if any
+-- the number issued in a change, the numbers that left in it, and the set that it gave, by the part numbers then in use; if any
 abbrev pub issuedIn : Change → Design → List ℕ
 issuedIn addPart d = givenNumber (partAdded (d .parts) .answer)
 issuedIn (takeOut position) d = []
@@ -63,7 +65,7 @@ issuedIn (addSet set) d = []
 
 abbrev pub leftIn : Change → Design → List ℕ
 leftIn addPart d = []
-leftIn (takeOut position) d = givenNumber (takenOut (d .parts) position .answer)
+leftIn (takeOut position) d = named (numbersOf (d .parts)) (single position)
 leftIn (addSet set) d = []
 
 abbrev pub givenIn : Change → Design → List (List ℕ)
@@ -99,12 +101,17 @@ pub record DesignLine (first last : Design) (issued left : List ℕ) (given : Li
   pub origin : (set : List ℕ) → List·Memᴰ set (namedSets last) → List·Memᴰ set (namedSets first) ⊎ List·Memᴰ set given
   -- and names no number that left
   pub clean : (set : List ℕ) → List·Memᴰ set (namedSets last) → (number : ℕ) → In number set → In number left → ⊥
+  -- a set of the first design, or one given along the line, that names no number that left is still a path set: if all its parts work, the
+  -- machine runs
+  pub stays : (set : List ℕ) → List·Memᴰ set (namedSets first) ⊎ List·Memᴰ set given → ((number : ℕ) → In number set → In number left → ⊥)
+      → (working : ℕ → Bool) → every working set ≡ true → runs last working ≡ true
 
--- a set, by part numbers, was given by an add-set while all its parts were in use
+-- a set, by part numbers, was given by an add-set, as a mask of the parts of the design at that moment, which were all in use
 pub record GivenInUse (changes : List Change) (d : Design) (set : List ℕ) : Type 0 where
   pub earlier : List Change
   pub mask : ℕ
   pub later : List Change
   pub at : changes ≡ earlier ++ (addSet mask ∷ later)
+  pub within : mask < 2 ^ (designAfter earlier d .parts .count)
   pub same : set ≡ named (numbersOf (designAfter earlier d .parts)) mask
   pub in-use : (number : ℕ) → In number set → In number (numbersOf (designAfter earlier d .parts))

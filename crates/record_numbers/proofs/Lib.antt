@@ -1,4 +1,4 @@
 pub mod Refusals
 pub mod Rules
 pub mod Marks
-pub mod InCells
+pub mod Others

@@ -1,13 +1,14 @@
 -- The part numbers and the mark of a part list (01, "Records on disk"): the rules that they keep, and what refuses them.
 use mathlib.Core.Bool.{Bool, true, cond}
 use mathlib.Core.List.{List, [], _∷_, _++_}
-use Prim.Native.Nat.{ℕ, suc, _-_, _^_, _≤_, _<_, max}
+use Prim.Native.Nat.{ℕ, suc, _-_, _/_, _^_, _≤_, _<_, max}
 use lib.Dec.{leb, ltb, eqb}
-use lib.ListN.{length, take, drop, replicate}
+use lib.ListN.{length, replicate}
 use Rattle.answer.specs.Refusals.{wrongPartCount, wrongPartNumber}
 use Rattle.answer.specs.Outcome.{refuse}
 use Rattle.answer.specs.declared.Verdict.{Verdict}
 use Rattle.answer.specs.declared.Verdict.the-variants.{Accepted}
+use Rattle.theory_sets.specs.Masks.{has}
 
 -- the most parts of a machine
 abbrev pub mostParts : ℕ
@@ -50,9 +51,15 @@ abbrev pub highest : List ℕ → ℕ
 highest [] = 0
 highest (number ∷ numbers) = max number (highest numbers)
 
--- numbers without the one at an index, in order
-abbrev pub without : ℕ → List ℕ → List ℕ
-without index numbers = take index numbers ++ drop (suc index) numbers
+-- where these are the numbers by position: the numbers of a set of positions, each of which the bit is set,
+unfoldable pub named : List ℕ → ℕ → List ℕ
+named [] set = []
+named (number ∷ numbers) set = cond (has set 0) (number ∷ named numbers (set / 2)) (named numbers (set / 2))
+
+-- and the others, in order
+unfoldable pub others : List ℕ → ℕ → List ℕ
+others [] set = []
+others (number ∷ numbers) set = cond (has set 0) (others numbers (set / 2)) (number ∷ others numbers (set / 2))
 
 -- the cells of a list of these numbers: the spare ones behind the last number hold 0
 abbrev pub cellsOf : List ℕ → List ℕ

@@ -2,7 +2,7 @@
 use answer::Verdict;
 ghost use mathlib.Core.Path.{_≡_};
 ghost use lib.ListN.{length, take};
-ghost use Rattle.record_numbers.specs.Numbering.{mostParts, cellsOf, misnumbered, partListRefusal, highest, without};
+ghost use Rattle.record_numbers.specs.Numbering.{mostParts, cellsOf, misnumbered, partListRefusal, highest, others};
 
 // The most parts of a machine, and the top part number.
 pub const MOST_PARTS: usize = 16;
@@ -65,15 +65,24 @@ pub fn highest(numbers: &[u64]) -> u64
     most
 }
 
-// The cells of a list of these numbers, the first 16 of them, without the one at an index, or of all of them where the index is none of
-// theirs.
-pub fn cells(numbers: &[u64], left_out: usize) -> [u64; MOST_PARTS]
-    ensures { λ r. ⌜ r ≡ take mostParts (cellsOf (without «left_out» (now (numbers .entry)))) ⌝ }
+// The cells of a list of these numbers, the first 16 of them, without those at the positions of a group.
+pub fn cells(numbers: &[u64], group: usize) -> [u64; MOST_PARTS]
+    ensures { λ r. ⌜ r ≡ cellsOf (others (take mostParts (now (numbers .entry))) group) ⌝ }
 {
     let mut cells = [0; MOST_PARTS];
-    for next in 0..MOST_PARTS {
-        let index = if next < left_out { next } else { next + 1 };
-        cells[next] = numbers::cell(numbers, index);
+    let count = if numbers.len() < MOST_PARTS {
+        numbers.len()
+    } else {
+        MOST_PARTS
+    };
+    let mut next = 0;
+    let mut left_out = group;
+    for index in 0..count {
+        if left_out % 2 == 0 {
+            cells[next] = numbers[index];
+            next += 1;
+        }
+        left_out /= 2;
     }
     cells
 }

@@ -9,7 +9,8 @@ use Rattle.answer.specs.Outcome.{at}
 use Rattle.answer.specs.declared.Verdict.the-variants as verdict
 use Rattle.record_parts.specs.declared.PartList.{PartList}
 use Rattle.record_parts.specs.declared.Numbered.the-variants as numbered
-use Rattle.record_numbers.specs.Numbering.{topNumber, partListRefusal, highest}
+use Rattle.theory_sets.specs.Masks.{has}
+use Rattle.record_numbers.specs.Numbering.{topNumber, partListRefusal, highest, others}
 use Rattle.record_parts.specs.PartLists.{listOf, made}
 use Rattle.record_parts.specs.Changes.{partAdded, takenOut}
 use Rattle.record_parts.specs.Lines.{addPart, takeOut, lastOf, issuedBy, leftBy}
@@ -66,11 +67,11 @@ abbrev bridge : PartList
 bridge = listOf 5 (1 ∷ 2 ∷ 3 ∷ 4 ∷ 5 ∷ [])
 
 highest-leaves : takenOut bridge 5 .list ≡ listOf 5 (1 ∷ 2 ∷ 3 ∷ 4 ∷ [])
-unfolding partListRefusal made partAdded takenOut
+unfolding partListRefusal made partAdded takenOut others has
 highest-leaves = refl
 
 next-is-six : lastOf (takeOut 5 ∷ addPart ∷ []) bridge ≡ listOf 6 (1 ∷ 2 ∷ 3 ∷ 4 ∷ 6 ∷ [])
-unfolding partListRefusal made partAdded takenOut
+unfolding partListRefusal made partAdded takenOut others has
 next-is-six = refl
 
 -- mark+1, and not one more than the highest part
@@ -118,9 +119,9 @@ falling = refl
 
 -- a refused change inside a line leaves the list, and the line goes on
 line-issued : issuedBy (addPart ∷ takeOut 9 ∷ takeOut 2 ∷ addPart ∷ []) bridge ≡ 6 ∷ 7 ∷ []
-unfolding partListRefusal made partAdded takenOut
+unfolding partListRefusal made partAdded takenOut others has
 line-issued = refl
 
 line-left : leftBy (addPart ∷ takeOut 9 ∷ takeOut 2 ∷ takeOut 2 ∷ []) bridge ≡ 2 ∷ 3 ∷ []
-unfolding partListRefusal made partAdded takenOut
+unfolding partListRefusal made partAdded takenOut others has
 line-left = refl

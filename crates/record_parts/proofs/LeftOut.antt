@@ -1,26 +1,18 @@
--- Laws of some numbers with the one at an index left out: how many they are, and which they are.
+-- Laws of the numbers of a group of positions and of the others: how many they are, and which they are.
 -- Assumes nothing.
 use mathlib.Core.Path.{_≡_, refl, ap}
+use mathlib.Core.Bool.{Bool, true, false, cond}
 use mathlib.Core.List.{List, [], _∷_, List·Memᴰ·head, List·Memᴰ·tail, List·Memᴰ·cases-cons, List·Memᴰ·not-nil}
 use mathlib.Core.Logic.{_⊎_, inl, inr, ⊎-elim}
-use Prim.Native.Nat.{ℕ, zero, suc, _≤_, _<_}
+use Prim.Native.Nat.{ℕ, zero, suc, _/_, _^_, _<_}
+use native.Mathlib.Nat.{pow-succ', le-of-suc-le-suc}
 use native.Mathlib.Omega.{arith}
 use lib.ListN.{length, getD}
-use lib.Seq.{take-nil}
-use Rattle.record_numbers.specs.Numbering.{without}
+use Rattle.theory_sets.specs.Masks.{has}
+use Rattle.theory_sets.proofs.Masks.{has-odd, has-even}
+use Rattle.record_numbers.specs.Numbering.{named, others}
+use Rattle.record_numbers.proofs.Others.{named-or-others}
 use Rattle.record_parts.specs.Lines.{In}
-
--- leaving an index out that is behind all numbers leaves them as they are
-pub without-none : (index : ℕ) (numbers : List ℕ) → length numbers ≤ index → without index numbers ≡ numbers
-without-none index [] h = simp take-nil
-without-none zero (n ∷ ns) h = absurd (omega arith)
-without-none (suc i) (n ∷ ns) h = ap (λ (l : List ℕ). n ∷ l) (without-none i ns (omega arith))
-
--- one number fewer
-pub length-without : (index : ℕ) (numbers : List ℕ) → index < length numbers → suc (length (without index numbers)) ≡ length numbers
-length-without index [] h = absurd (omega arith)
-length-without zero (n ∷ ns) h = refl
-length-without (suc i) (n ∷ ns) h = ap suc (length-without i ns (omega arith))
 
 -- the number at an index is one of them
 pub in-at : (index : ℕ) (numbers : List ℕ) → index < length numbers → In (getD numbers index 0) numbers
@@ -28,26 +20,65 @@ in-at index [] h = absurd (omega arith)
 in-at zero (n ∷ ns) h = List·Memᴰ·head refl
 in-at (suc i) (n ∷ ns) h = List·Memᴰ·tail (in-at i ns (omega arith))
 
--- what is left is some of the numbers
-pub in-without : (index : ℕ) (numbers : List ℕ) {number : ℕ} → In number (without index numbers) → In number numbers
-in-without index [] i = rw (take-nil index) at i
-in-without zero (n ∷ ns) i = List·Memᴰ·tail i
-in-without (suc k) (n ∷ ns) {number} i =
-    ⊎-elim
-    (λ (e : number ≡ n). List·Memᴰ·head e)
-    (λ (i : In number (without k ns)). List·Memᴰ·tail (in-without k ns i))
-    (List·Memᴰ·cases-cons i)
+-- ---- some of the numbers, and the others
 
--- all of them but the one at the index
-pub without-in : (index : ℕ) (numbers : List ℕ) {number : ℕ} → In number numbers → In number (without index numbers) ⊎ (number ≡ getD numbers index 0)
-without-in index [] i = absurd (List·Memᴰ·not-nil i)
-without-in zero (n ∷ ns) {number} i =
-    ⊎-elim
-    (λ (e : number ≡ n). inr e)
-    (λ (i : In number ns). inl i)
-    (List·Memᴰ·cases-cons i)
-without-in (suc k) (n ∷ ns) {number} i =
-    ⊎-elim
-    (λ (e : number ≡ n). inl (List·Memᴰ·head e))
-    (λ (i : In number ns). ⊎-elim (λ (j : In number (without k ns)). inl (List·Memᴰ·tail j)) (λ (e : number ≡ getD ns k 0). inr e) (without-in k ns i))
-    (List·Memᴰ·cases-cons i)
+-- both are numbers of the list
+pub in-named : (numbers : List ℕ) (set : ℕ) {number : ℕ} → In number (named numbers set) → In number numbers
+unfolding named
+in-named [] set i = absurd (List·Memᴰ·not-nil i)
+in-named (n ∷ ns) set {number} i = cases (has set 0) (in-named ns (set / 2)) i
+  where
+    cases : (p : Bool) → (In number (named ns (set / 2)) → In number ns) → In number (cond p (n ∷ named ns (set / 2)) (named ns (set / 2))) → In number (n ∷ ns)
+    cases true rest i = ⊎-elim (λ (e : number ≡ n). List·Memᴰ·head e) (λ j. List·Memᴰ·tail (rest j)) (List·Memᴰ·cases-cons i)
+    cases false rest i = List·Memᴰ·tail (rest i)
+
+pub in-others : (numbers : List ℕ) (set : ℕ) {number : ℕ} → In number (others numbers set) → In number numbers
+unfolding others
+in-others [] set i = absurd (List·Memᴰ·not-nil i)
+in-others (n ∷ ns) set {number} i = cases (has set 0) (in-others ns (set / 2)) i
+  where
+    cases : (p : Bool) → (In number (others ns (set / 2)) → In number ns) → In number (cond p (others ns (set / 2)) (n ∷ others ns (set / 2))) → In number (n ∷ ns)
+    cases true rest i = List·Memᴰ·tail (rest i)
+    cases false rest i = ⊎-elim (λ (e : number ≡ n). List·Memᴰ·head e) (λ j. List·Memᴰ·tail (rest j)) (List·Memᴰ·cases-cons i)
+
+-- and each number is one of these or one of those
+pub in-either : (numbers : List ℕ) (set : ℕ) {number : ℕ} → In number numbers → In number (others numbers set) ⊎ In number (named numbers set)
+unfolding named others
+in-either [] set i = absurd (List·Memᴰ·not-nil i)
+in-either (n ∷ ns) set {number} i = cases (has set 0) (in-either ns (set / 2)) (List·Memᴰ·cases-cons i)
+  where
+    cases : (p : Bool) → (In number ns → In number (others ns (set / 2)) ⊎ In number (named ns (set / 2))) → (number ≡ n) ⊎ In number ns
+        → In number (cond p (others ns (set / 2)) (n ∷ others ns (set / 2))) ⊎ In number (cond p (n ∷ named ns (set / 2)) (named ns (set / 2)))
+    cases true rest (inl e) = inr (List·Memᴰ·head e)
+    cases true rest (inr i) = ⊎-elim (λ j. inl j) (λ j. inr (List·Memᴰ·tail j)) (rest i)
+    cases false rest (inl e) = inl (List·Memᴰ·head e)
+    cases false rest (inr i) = ⊎-elim (λ j. inl (List·Memᴰ·tail j)) (λ j. inr j) (rest i)
+
+-- ---- no number, and a single one
+
+named-none : (numbers : List ℕ) → named numbers 0 ≡ []
+unfolding named
+named-none [] = refl
+named-none (n ∷ ns) = rw (has-even 0 refl) (named-none ns)
+
+-- without a group all stay
+pub others-all : (numbers : List ℕ) → others numbers 0 ≡ numbers
+unfolding others
+others-all [] = refl
+others-all (n ∷ ns) = rw (has-even 0 refl) (ap (λ (l : List ℕ). n ∷ l) (others-all ns))
+
+-- the group of a single position has the number at it
+pub named-single : (index : ℕ) (numbers : List ℕ) → index < length numbers → named numbers (2 ^ index) ≡ getD numbers index 0 ∷ []
+unfolding named
+named-single index [] h = absurd (omega arith)
+named-single zero (n ∷ ns) h = rw (has-odd 1 refl) (ap (λ (l : List ℕ). n ∷ l) (named-none ns))
+named-single (suc i) (n ∷ ns) h =
+    let even : has (2 ^ suc i) 0 ≡ false = has-even (2 ^ suc i) (omega (arith, pow-succ' 2 i)) in
+    let half : 2 ^ suc i / 2 ≡ 2 ^ i = omega (arith, pow-succ' 2 i) in
+    rw (even, half) (named-single i ns (le-of-suc-le-suc h))
+
+-- and leaves one number fewer
+pub others-single : (index : ℕ) (numbers : List ℕ) → index < length numbers → suc (length (others numbers (2 ^ index))) ≡ length numbers
+others-single index numbers h =
+    let one = ap length (named-single index numbers h) in
+    omega (arith, named-or-others numbers (2 ^ index))

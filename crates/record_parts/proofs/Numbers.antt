@@ -1,15 +1,15 @@
--- Laws of rising numbers: their bounds, numbers joined behind others, and one left out.
+-- Laws of rising numbers: their bounds, numbers joined behind others, and some left out.
 -- Assumes nothing.
 use mathlib.Core.Path.{_≡_}
+use mathlib.Core.Bool.{Bool, true, false, cond}
 use mathlib.Core.List.{List, [], _∷_, _++_, List·Memᴰ·cases-cons, List·Memᴰ·not-nil}
 use mathlib.Core.Logic.{⊎-elim}
-use Prim.Native.Nat.{ℕ, zero, suc, _≤_, _<_}
+use Prim.Native.Nat.{ℕ, _/_, _≤_, _<_}
 use native.Mathlib.Omega.{arith}
-use lib.ListN.{length, getD}
-use lib.Seq.{take-nil}
-use Rattle.record_numbers.specs.Numbering.{RisingWithin, without}
+use Rattle.theory_sets.specs.Masks.{has}
+use Rattle.record_numbers.specs.Numbering.{RisingWithin, named, others}
 use Rattle.record_parts.specs.Lines.{In}
-use Rattle.record_parts.proofs.LeftOut.{in-at}
+use Rattle.record_parts.proofs.LeftOut.{in-named, in-others}
 
 -- each is within the bounds
 pub rising-in : (low high : ℕ) (numbers : List ℕ) → RisingWithin low high numbers → {number : ℕ} → In number numbers → (low < number) × (number ≤ high)
@@ -32,18 +32,28 @@ rising-append low middle high [] behind l h f b = rising-wider middle high low h
 rising-append low middle high (n ∷ ns) behind l h f b =
     (f .0, omega (arith, f .1), rising-append n middle high ns behind (f .1) h (f .2) b)
 
--- one left out
-pub rising-without : (index low high : ℕ) (numbers : List ℕ) → RisingWithin low high numbers → RisingWithin low high (without index numbers)
-rising-without index low high [] r = rw (take-nil index) tt
-rising-without zero low high (n ∷ ns) r = rising-wider n high low high ns (omega (arith, r .0)) (omega arith) (r .2)
-rising-without (suc i) low high (n ∷ ns) r = (r .0, r .1, rising-without i n high ns (r .2))
+-- some left out
+pub rising-others : (set low high : ℕ) (numbers : List ℕ) → RisingWithin low high numbers → RisingWithin low high (others numbers set)
+unfolding others
+rising-others set low high [] r = tt
+rising-others set low high (n ∷ ns) r = cases (has set 0) (rising-others (set / 2) n high ns (r .2))
+  where
+    cases : (p : Bool) → RisingWithin n high (others ns (set / 2)) → RisingWithin low high (cond p (others ns (set / 2)) (n ∷ others ns (set / 2)))
+    cases true rest = rising-wider n high low high (others ns (set / 2)) (omega (arith, r .0)) (omega arith) rest
+    cases false rest = (r .0, r .1, rest)
 
--- since they rise, the one left out is not among the others
-pub without-gone : (index low high : ℕ) (numbers : List ℕ) → RisingWithin low high numbers → index < length numbers → In (getD numbers index 0) (without index numbers) → ⊥
-without-gone index low high [] r h i = absurd (omega arith)
-without-gone zero low high (n ∷ ns) r h i = let b = rising-in n high ns (r .2) i in omega (arith, b .0)
-without-gone (suc k) low high (n ∷ ns) r h i =
-    ⊎-elim
-    (λ (e : getD ns k 0 ≡ n). let b = rising-in n high ns (r .2) (in-at k ns (omega arith)) in omega (arith, b .0))
-    (λ (i : In (getD ns k 0) (without k ns)). without-gone k n high ns (r .2) (omega arith) i)
-    (List·Memᴰ·cases-cons i)
+-- since they rise, those left out are not among the others
+pub others-gone : (set low high : ℕ) (numbers : List ℕ) → RisingWithin low high numbers → {number : ℕ} → In number (named numbers set) → In number (others numbers set) → ⊥
+unfolding named others
+others-gone set low high [] r i j = List·Memᴰ·not-nil i
+others-gone set low high (n ∷ ns) r {number} i j = cases (has set 0) (others-gone (set / 2) n high ns (r .2)) i j
+  where
+    apart : number ≡ n → In number ns → ⊥
+    apart e i = let b = rising-in n high ns (r .2) i in omega (arith, b .0)
+
+    cases : (p : Bool) → (In number (named ns (set / 2)) → In number (others ns (set / 2)) → ⊥)
+        → In number (cond p (n ∷ named ns (set / 2)) (named ns (set / 2))) → In number (cond p (others ns (set / 2)) (n ∷ others ns (set / 2))) → ⊥
+    cases true rest i j =
+        ⊎-elim (λ (e : number ≡ n). apart e (in-others ns (set / 2) j)) (λ k. rest k j) (List·Memᴰ·cases-cons i)
+    cases false rest i j =
+        ⊎-elim (λ (e : number ≡ n). apart e (in-named ns (set / 2) i)) (λ k. rest i k) (List·Memᴰ·cases-cons j)

@@ -1,7 +1,7 @@
 -- One change of a well-formed part list, as a line of its own: a part more, a part taken out, or nothing where it is refused.
 -- Assumes nothing.
-use mathlib.Core.Path.{_≡_, refl, sym, ap, _∙_}
-use mathlib.Core.List.{[], _∷_, _++_, List·Memᴰ·head, List·Memᴰ·eq-of-singleton, List·Memᴰ·not-nil, Memᴰ·cast, Memᴰ·append-left, Memᴰ·append-right, List·Memᴰ·append-cases}
+use mathlib.Core.Path.{_≡_, refl, ap, _∙_, subst}
+use mathlib.Core.List.{List, [], _∷_, _++_, List·Memᴰ·not-nil, Memᴰ·append-left, Memᴰ·append-right, List·Memᴰ·append-cases}
 use mathlib.Core.Logic.{inl, inr, ⊎-elim}
 use Prim.Native.Nat.{ℕ, _+_, _-_, _≤_, _<_}
 use native.Mathlib.Nat.{le-refl}
@@ -14,19 +14,20 @@ use Rattle.answer.specs.declared.Verdict.the-variants.{Accepted, Refused}
 use Rattle.record_parts.specs.declared.PartList.{PartList}
 use Rattle.record_parts.specs.declared.Changed.{Changed}
 use Rattle.record_parts.specs.declared.Numbered.the-variants as numbered
-use Rattle.record_numbers.specs.Numbering.{mostParts, topNumber, Rules, without}
+use Rattle.record_numbers.specs.Numbering.{mostParts, topNumber, Rules, named, others}
 use Rattle.record_parts.specs.PartLists.{numbersOf, listOf, WellFormed}
-use Rattle.record_parts.specs.Changes.{changed, unless, brokenRefusal, change, addRefusal, withPart, partAdded, takeOutRefusal, withoutPart, takenOut}
+use Rattle.record_parts.specs.Changes.{changed, unless, brokenRefusal, change, addRefusal, withPart, partAdded, takeOutRefusal, single, listWithout, withoutPart, takenOut}
 use Rattle.record_parts.specs.Lines.{PartChange, addPart, takeOut, apply, givenNumber, issuedIn, leftIn, In, Line}
-use Rattle.record_parts.proofs.LeftOut.{length-without, in-at, in-without, without-in}
+use Rattle.record_numbers.proofs.Others.{named-or-others}
+use Rattle.record_parts.proofs.LeftOut.{in-named, in-others, in-either, named-single, others-single}
 use Rattle.record_parts.proofs.InCells.{numbers-counted}
-use Rattle.record_parts.proofs.Numbers.{rising-in, rising-append, rising-without, without-gone}
+use Rattle.record_parts.proofs.Numbers.{rising-in, rising-append, rising-others, others-gone}
 use Rattle.answer.proofs.Outcomes.{refuse-accepted}
 use Rattle.record_numbers.proofs.Rules.{accepted-rules, rules-accepted}
 use Rattle.record_parts.proofs.Changing.{change-broken}
 use Rattle.record_parts.proofs.WellFormed.{numbers-of-list, list-well-formed, well-formed-counted}
 
--- Numbers that keep the rules keep them with mark+1 behind them, and without any one of them.
+-- Numbers that keep the rules keep them with mark+1 behind them, and without a group of them that leaves one.
 module _ (list : PartList) (rules : Rules (list .count) (list .mark) (numbersOf list)) (counted : length (numbersOf list) ≡ list .count) where
   with-part-well-formed : list .count < mostParts → list .mark < topNumber → WellFormed (withPart list .list)
   with-part-well-formed few low =
@@ -40,18 +41,21 @@ module _ (list : PartList) (rules : Rules (list .count) (list .mark) (numbersOf 
         top = omega arith;
       })
 
-  without-part-well-formed : (position : ℕ) → 1 ≤ position → position ≤ list .count → 2 ≤ list .count → WellFormed (withoutPart list position .list)
-  without-part-well-formed position low high two =
+  without-well-formed : (group : ℕ) → 1 ≤ length (others (numbersOf list) group) → WellFormed (listWithout group list)
+  without-well-formed group left =
       let ns = numbersOf list in
-      let index = position - 1 in
-      let shorter = length-without index ns (omega arith) in
-      list-well-formed (list .mark) (without index ns)
+      let fewer = named-or-others ns group in
+      list-well-formed (list .mark) (others ns group)
       (record {
-        some = omega arith;
+        some = left;
         few = omega (arith, rules .few);
-        rising = rising-without index 0 (list .mark) ns (rules .rising);
+        rising = rising-others group 0 (list .mark) ns (rules .rising);
         top = rules .top;
       })
+
+-- the part at a position is one of two or more, so some are left without it
+some-left : (list : PartList) → length (numbersOf list) ≡ list .count → (position : ℕ) → 1 ≤ position → position ≤ list .count → 2 ≤ list .count → 1 ≤ length (others (numbersOf list) (single position))
+some-left list counted position low high two = omega (arith, others-single (position - 1) (numbersOf list) (omega arith))
 
 -- what is refused changes nothing
 pub line-none : (list : PartList) → WellFormed list → Line list list [] []
@@ -82,30 +86,30 @@ module _ (list : PartList) (w : WellFormed list) where
         gone = λ number i. absurd (List·Memᴰ·not-nil i);
       }
 
-  -- a part taken out: its number leaves, and the others are in use in their order
-  line-without-part : (position : ℕ) → 1 ≤ position → position ≤ list .count → 2 ≤ list .count → Line list (withoutPart list position .list) [] (getD (numbersOf list) (position - 1) 0 ∷ [])
-  line-without-part position low high two =
+  -- a group taken out: its numbers leave, and the others are in use in their order
+  pub line-without : (group : ℕ) → 1 ≤ length (others (numbersOf list) group) → Line list (listWithout group list) [] (named (numbersOf list) group)
+  line-without group left =
       let ns = numbersOf list in
-      let index = position - 1 in
-      let same = numbers-of-list (list .mark) (without index ns) in
-      let counted = well-formed-counted list w in
-      let within : index < length ns = omega arith in
+      let same = numbers-of-list (list .mark) (others ns group) in
       record {
-        well-formed = without-part-well-formed list (w .rules) counted position low high two;
+        well-formed = without-well-formed list (w .rules) (well-formed-counted list w) group left;
         mark = le-refl (list .mark);
         rising = tt;
-        origin = λ number i. inl (in-without index ns (rw same at i));
+        origin = λ number i. inl (in-others ns group (rw same at i));
         account = λ number i.
             ⊎-elim
-            (λ (j : In number ns). ⊎-elim (λ (k : In number (without index ns)). inl (rw same k)) (λ (e : number ≡ getD ns index 0). inr (List·Memᴰ·head e)) (without-in index ns j))
+            (λ (j : In number ns). ⊎-elim (λ (k : In number (others ns group)). inl (rw same k)) (λ (k : In number (named ns group)). inr k) (in-either ns group j))
             (λ (j : In number []). absurd (List·Memᴰ·not-nil j))
             i;
-        gone = λ number i.
-            let e : number ≡ getD ns index 0 = List·Memᴰ·eq-of-singleton i in (
-              inl (Memᴰ·cast e (in-at index ns within)),
-              λ j. without-gone index 0 (list .mark) ns (w .rules .rising) within (Memᴰ·cast (sym e) (rw same at j)),
-            );
+        gone = λ number i. (inl (in-named ns group i), λ j. others-gone group 0 (list .mark) ns (w .rules .rising) i (rw same at j));
       }
+
+  -- so for the group of a single part
+  line-without-part : (position : ℕ) → 1 ≤ position → position ≤ list .count → 2 ≤ list .count → Line list (withoutPart list position .list) [] (getD (numbersOf list) (position - 1) 0 ∷ [])
+  line-without-part position low high two =
+      let counted = well-formed-counted list w in
+      subst (λ (left : List ℕ). Line list (listWithout (single position) list) [] left) (named-single (position - 1) (numbersOf list) (omega arith))
+      (line-without (single position) (some-left list counted position low high two))
 
   -- the list is not broken, so the change's own refusals decide
   whole : (refusal : Verdict) (result : Changed) → change list refusal result ≡ unless refusal list result
@@ -129,7 +133,7 @@ module _ (list : PartList) (w : WellFormed list) where
   added-above number i = omega (arith, rising-in 0 (list .mark) (numbersOf list) (w .rules .rising) i .1)
 
   -- From a list of two or more, the number at a position goes and the others stay, in order.
-  pub taken-out-given : (position : ℕ) → 1 ≤ position → position ≤ list .count → 2 ≤ list .count → takenOut list position ≡ changed (listOf (list .mark) (without (position - 1) (numbersOf list))) (numbered.Number (getD (numbersOf list) (position - 1) 0))
+  pub taken-out-given : (position : ℕ) → 1 ≤ position → position ≤ list .count → 2 ≤ list .count → takenOut list position ≡ changed (listWithout (single position) list) (numbered.Number (getD (numbersOf list) (position - 1) 0))
   taken-out-given position low high two =
       taken-out-whole position
       ∙ simp (ne-eqb position 0 (λ e. omega arith), le-ltb (list .count) position high, ne-eqb (list .count) 1 (λ e. omega arith))
@@ -183,7 +187,8 @@ given-well-formed (takeOut position) list all number =
     by-change (λ r. r .answer ≡ numbered.Number number → WellFormed (r .list)) list (takeOutRefusal list position) (withoutPart list position)
     (λ rules accepted e.
     let a = take-out-accepted list position rules accepted in
-    without-part-well-formed list rules (numbers-counted list all (rules .few)) position (a .0) (a .1) (a .2))
+    let counted = numbers-counted list all (rules .few) in
+    without-well-formed list rules counted (single position) (some-left list counted position (a .0) (a .1) (a .2)))
     (λ r e. let z : _≡_ {A = ℕ} 0 1 = cc in absurd (omega arith))
 
 -- taking out leaves the mark, whatever the list

@@ -1,6 +1,6 @@
 -- Changes of a part list (01, "Records on disk"): add part, and take out the part at a position.
 use mathlib.Core.List.{[], _∷_, _++_}
-use Prim.Native.Nat.{ℕ, _+_, _-_}
+use Prim.Native.Nat.{ℕ, _+_, _-_, _^_}
 use lib.Dec.{ltb, eqb}
 use lib.ListN.{getD}
 use Rattle.answer.specs.Refusals.{unknownPosition, inEverySet, fullMachine, numbersSpent}
@@ -11,7 +11,7 @@ use Rattle.record_parts.specs.declared.PartList.{PartList}
 use Rattle.record_parts.specs.declared.Changed.{Changed}
 use Rattle.record_parts.specs.declared.Numbered.{Numbered}
 use Rattle.record_parts.specs.declared.Numbered.the-variants as numbered
-use Rattle.record_numbers.specs.Numbering.{mostParts, topNumber, partListRefusal, without}
+use Rattle.record_numbers.specs.Numbering.{mostParts, topNumber, partListRefusal, others}
 use Rattle.record_parts.specs.PartLists.{numbersOf, listOf}
 
 -- what a change hands back: the list, and the part number that it issued or took out, or the refusal
@@ -52,10 +52,18 @@ takeOutRefusal list position =
     refuse (eqb position 0) unknownPosition 0
     (refuse (ltb (list .count) position) unknownPosition 0 (refuse (eqb (list .count) 1) inEverySet 0 verdict.Accepted))
 
--- the part at a position left out: higher positions move down by one, part numbers and mark stay
+-- the group of the single part at a position, counted from 1
+abbrev pub single : ℕ → ℕ
+single position = 2 ^ (position - 1)
+
+-- a list without the parts of a group: higher positions move down, part numbers and mark stay
+abbrev pub listWithout : ℕ → PartList → PartList
+listWithout group list = listOf (list .mark) (others (numbersOf list) group)
+
+-- the part at a position left out
 abbrev pub withoutPart : PartList → ℕ → Changed
 withoutPart list position =
-    changed (listOf (list .mark) (without (position - 1) (numbersOf list))) (numbered.Number (getD (numbersOf list) (position - 1) 0))
+    changed (listWithout (single position) list) (numbered.Number (getD (numbersOf list) (position - 1) 0))
 
 -- take out the part at a position, counted from 1
 unfoldable pub takenOut : PartList → ℕ → Changed

@@ -61,7 +61,7 @@ impl PartList {
                 verdict: Verdict::Refused(refusal),
             },
             Verdict::Accepted => {
-                let cells = record_numbers::cells(numbers, numbers.len());
+                let cells = record_numbers::cells(numbers, 0);
                 Listed {
                     list: PartList {
                         count: numbers.len(),
@@ -92,7 +92,7 @@ impl PartList {
         }
         let issued = self.next_number();
         let numbers = self.numbers;
-        let mut cells = record_numbers::cells(&numbers[..count], count);
+        let mut cells = record_numbers::cells(&numbers[..count], 0);
         cells[count] = issued;
         Changed {
             list: PartList {
@@ -124,7 +124,8 @@ impl PartList {
         }
         let numbers = self.numbers;
         let taken = numbers[position - 1];
-        let cells = record_numbers::cells(&numbers[..count], position - 1);
+        let group = numbers::power_of_two(position - 1);
+        let cells = record_numbers::cells(&numbers[..count], group);
         Changed {
             list: PartList {
                 count: count - 1,

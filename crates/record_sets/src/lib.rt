@@ -1,5 +1,5 @@
 // Lists of sets (01, "Structures" and "Records on disk"): the minimal sets of one, also with a set added, and what is left of one without a
-// part.
+// group of parts.
 use answer::Verdict;
 use answer::Written;
 ghost use mathlib.Core.Path.{_≡_};
@@ -7,11 +7,10 @@ ghost use mathlib.Core.List.{[], _∷_, _++_};
 ghost use Prim.Native.Nat.{_≤_};
 ghost use lib.ListN.{length};
 ghost use Rattle.answer.specs.Outcome.{outcome, delivered};
-ghost use Rattle.theory_sets.specs.Masks.{has};
 ghost use Rattle.theory_sets.specs.Structures.{listed, minimalSets};
 ghost use Rattle.structure_words.specs.Words.{wordsOf, among};
 ghost use Rattle.structure.specs.Checks.{listRefusal};
-ghost use Rattle.record_lines.specs.Changes.{lowered, setsWithout};
+ghost use Rattle.record_lines.specs.Changes.{setsWithout};
 ghost use Rattle.record_sets.specs.Lists.{withSetRefusal};
 ghost use Rattle.record_sets.specs.Inside.{leastOf};
 
@@ -43,28 +42,16 @@ pub fn minimal_with(n: usize, list: &[u16], set: u16, sets: &mut [u16]) -> Writt
     }
 }
 
-// The sets that do not name the part at an index, with higher positions moved down by one, into a lent buffer.
-pub fn sets_without(sets: &[u16], index: usize, kept: &mut [u16]) -> Written
-    ensures { λ r. ⌜ outcome r (now (kept .exit)) ≡ delivered Verdict.Accepted (setsWithout index (now (sets .entry))) (now (kept .entry)) ⌝ }
+// The sets that have no part of a group, with higher positions moved down, into a lent buffer.
+pub fn sets_without(sets: &[u16], group: usize, kept: &mut [u16]) -> Written
+    ensures { λ r. ⌜ outcome r (now (kept .exit)) ≡ delivered Verdict.Accepted (setsWithout group (now (sets .entry))) (now (kept .entry)) ⌝ }
 {
-    let needed = left_without(sets, index);
+    let needed = left_without(sets, group);
     if kept.len() < needed {
         return answer::short(needed);
     }
-    let left = keep_without(sets, index, kept);
+    let left = keep_without(sets, group, kept);
     Written::Length(left)
-}
-
-// A set without the part at an index: higher positions move down by one.
-pub fn lowered(set: u16, index: usize) -> u16
-    ensures { λ r. ⌜ r ≡ lowered index set ⌝ }
-{
-    if 16 <= index {
-        return set;
-    }
-    let unit = numbers::power_of_two(index);
-    let wide = set as usize;
-    (wide / (2 * unit) * unit + wide % unit) as u16
 }
 
 // The verdict on a list and one set more.
@@ -104,41 +91,31 @@ fn minimal_of_marks(n: usize, marks: &[u64], sets: &mut [u16]) -> Written
     structure_words::list(&least, sets)
 }
 
-// How many sets do not name the part at an index.
-fn left_without(sets: &[u16], index: usize) -> usize
-    ensures { λ r. ⌜ r ≡ length (setsWithout index (now (sets .entry))) ⌝ }
+// How many sets have no part of a group.
+fn left_without(sets: &[u16], group: usize) -> usize
+    ensures { λ r. ⌜ r ≡ length (setsWithout group (now (sets .entry))) ⌝ }
 {
     let mut left = 0;
     for i in 0..sets.len() {
-        if !has_part(sets[i], index) {
+        if !masks::meets(sets[i], group) {
             left += 1;
         }
     }
     left
 }
 
-// Stores these sets, lowered, where there is room for all of them, and answers how many they are.
-fn keep_without(sets: &[u16], index: usize, kept: &mut [u16]) -> usize
-    requires { ⌜ length (setsWithout index (now sets)) ≤ length (now kept) ⌝ }
-    ensures { λ r. ⌜ outcome (Written.Length r) (now (kept .exit)) ≡ delivered Verdict.Accepted (setsWithout index (now (sets .entry))) (now (kept .entry)) ⌝ }
+// Stores these sets, squeezed, where there is room for all of them, and answers how many they are.
+fn keep_without(sets: &[u16], group: usize, kept: &mut [u16]) -> usize
+    requires { ⌜ length (setsWithout group (now sets)) ≤ length (now kept) ⌝ }
+    ensures { λ r. ⌜ outcome (Written.Length r) (now (kept .exit)) ≡ delivered Verdict.Accepted (setsWithout group (now (sets .entry))) (now (kept .entry)) ⌝ }
 {
     let mut next = 0;
     for i in 0..sets.len() {
         let set = sets[i];
-        if !has_part(set, index) {
-            kept[next] = lowered(set, index);
+        if !masks::meets(set, group) {
+            kept[next] = masks::squeezed(set, group);
             next += 1;
         }
     }
     next
-}
-
-// Whether a set names the part at an index.
-fn has_part(set: u16, index: usize) -> bool
-    ensures { λ r. ⌜ r ≡ has set index ⌝ }
-{
-    if 16 <= index {
-        return false;
-    }
-    set as usize / numbers::power_of_two(index) % 2 == 1
 }

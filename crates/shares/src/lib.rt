@@ -17,7 +17,7 @@ pub fn shares_by_both_routes(
 ) -> Written
     ensures { λ r. ⌜ bothOutcome r (now (first .exit)) (now (second .exit)) ≡ bothDelivered (sharesRefusal n (now (table .entry)) group) (groupCounts n (inTable (now (table .entry))) group) (now (first .entry)) (now (second .entry)) ⌝ }
 {
-    let m = shares_group::size(group);
+    let m = masks::size(group);
     let room = smaller(first.len(), second.len());
     let judged = shares_group::judge(n, table, group, m, room);
     match judged {

@@ -39,7 +39,7 @@ const COMMON: [u64; 17] = [
 pub fn shares_by_reliability(n: usize, table: &[u8], group: usize, shares: &mut [i64]) -> Written
     ensures { λ r. ⌜ outcome r (now (shares .exit)) ≡ delivered (sharesRefusal n (now (table .entry)) group) (sharesByReliability n (inTable (now (table .entry))) group) (now (shares .entry)) ⌝ }
 {
-    let m = shares_group::size(group);
+    let m = masks::size(group);
     let mut cells = [0i64; 289];
     let found = shares_polynomial::reliability(n, table, group, &mut cells);
     match found {

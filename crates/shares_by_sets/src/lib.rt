@@ -19,7 +19,7 @@ ghost use Rattle.shares_by_sets.specs.Inside.{weight as weightOf, addedB
 pub fn shares_by_sets(n: usize, table: &[u8], group: usize, shares: &mut [i64]) -> Written
     ensures { λ r. ⌜ outcome r (now (shares .exit)) ≡ delivered (sharesRefusal n (now (table .entry)) group) (sharesBySets n (inTable (now (table .entry))) group) (now (shares .entry)) ⌝ }
 {
-    let m = shares_group::size(group);
+    let m = masks::size(group);
     let judged = shares_group::judge(n, table, group, m, shares.len());
     match judged {
         Written::Refused(refusal) => Written::Refused(refusal),
@@ -37,7 +37,7 @@ fn write_by_sets(n: usize, table: &[u8], group: usize, shares: &mut [i64])
     requires { ⌜ sizeOf group ≤ length (now shares) ⌝ }
     ensures { λ _. ⌜ now (shares .exit) ≡ sharesBySets n (inTable (now (table .entry))) group ++ drop (sizeOf group) (now (shares .entry)) ⌝ }
 {
-    let m = shares_group::size(group);
+    let m = masks::size(group);
     let words = structure_words::load(table);
     let weights = weights(n);
     let mut added = [0u64; 17];
@@ -91,7 +91,7 @@ fn add_set(
     if !structure_words::works(words, a) {
         return;
     }
-    let inside = shares_group::size(a & group);
+    let inside = masks::size(a & group);
     let gain = amount_added(n, group, weights, a);
     let loss = amount_taken(n, group, weights, a);
     shares_group::add(added, inside, gain);
@@ -106,7 +106,7 @@ fn amount_added(n: usize, group: usize, weights: &[u64; 18], a: usize) -> u64
     requires { ⌜ now weights ≡ tabulate 18 (weightOf n) ⌝ }
     ensures { λ r. ⌜ r ≡ addedBy n group a ⌝ }
 {
-    shares_group::size(a & group) as u64 * weights[shares_group::size(a)]
+    masks::size(a & group) as u64 * weights[masks::size(a)]
 }
 
 // What a path set takes from the share for k = m - i, where i of its parts are in the group.
@@ -117,8 +117,7 @@ fn amount_taken(n: usize, group: usize, weights: &[u64; 18], a: usize) -> u64
     requires { ⌜ now weights ≡ tabulate 18 (weightOf n) ⌝ }
     ensures { λ r. ⌜ r ≡ takenBy n group a ⌝ }
 {
-    (shares_group::size(group) - shares_group::size(a & group)) as u64
-        * weights[shares_group::size(a) + 1]
+    (masks::size(group) - masks::size(a & group)) as u64 * weights[masks::size(a) + 1]
 }
 
 // The weights of all sizes, from 0 on.

@@ -5,30 +5,27 @@ use mathlib.Core.Bool.{Bool}
 use mathlib.Core.List.{List, _++_}
 use Prim.Native.Nat.{ℕ, suc, _^_, _≤_, _<_}
 use native.Mathlib.Omega.{arith}
-use lib.Dec.{leb, eqb}
 use lib.IntN.{ℤ, pos}
 use lib.ListN.{length, take, drop}
 use lib.Seq.{take-append-seam}
-use borrow.Author.Tests.{leb-false, eqb-false}
-use Rattle.answer.specs.Outcome.{outcome, delivered, refuse}
-use Rattle.answer.specs.Refusals.{emptyGroup, unknownGroupPart}
+use Rattle.answer.specs.Outcome.{outcome, delivered}
 use Rattle.answer.specs.declared.Verdict.{Verdict}
 use Rattle.answer.specs.declared.Verdict.the-variants.{Accepted}
 use Rattle.answer.specs.declared.Written.{Written}
 use Rattle.answer.specs.declared.Written.the-variants.{Length}
-use Rattle.answer.proofs.Outcomes.{refuse-accepted, then-accepted}
+use Rattle.answer.proofs.Outcomes.{then-accepted}
 use Rattle.numbers.proofs.Tables.{tabulate-length, tabulate-same}
 use Rattle.theory_sets.specs.Masks.{size}
 use Rattle.theory_sets.specs.Structures.{Semicoherent}
 use Rattle.theory_sets.specs.Tables.{inTable}
 use Rattle.theory_orders.specs.Counting.{count}
 use Rattle.answer.proofs.Deliveries.{delivered-whole, given}
-use Rattle.structure.specs.Checks.{tableRefusal}
-use Rattle.structure.proofs.Acceptance.{accepted-table}
+use Rattle.structure.specs.Checks.{tableRefusal, groupRefusal}
+use Rattle.structure.proofs.Acceptance.{accepted-table, group-within}
 use Rattle.shares_claim.specs.Polynomials.{shareFrom, inCells, sharesFromCells}
 use Rattle.shares_claim.specs.SetBySet.{sharesBySets}
 use Rattle.shares_claim.specs.Reliability.{reliability, reliabilityCells, sharesByReliability}
-use Rattle.shares_claim.specs.Refusals.{groupRefusal, sharesRefusal}
+use Rattle.shares_claim.specs.Refusals.{sharesRefusal}
 use Rattle.shares_claim.specs.Claim.{groupCounts, GivesCounts}
 use Rattle.shares_claim.proofs.Routes.{share-is-count, routes-agree}
 use Rattle.shares_claim.proofs.Cells.{in-cells, shareFrom-same}
@@ -61,17 +58,15 @@ pub record AcceptedGroup (n : ℕ) (table : List ℕ) (group : ℕ) : Type 0 whe
   pub within : group < 2 ^ n
 
 pub accepted-group : (n : ℕ) (table : List ℕ) (group : ℕ) → sharesRefusal n table group ≡ Accepted → AcceptedGroup n table group
-unfolding sharesRefusal groupRefusal
+unfolding sharesRefusal
 accepted-group n table group h =
     let both = then-accepted (tableRefusal n table) (groupRefusal n group) h in
-    let checked = refuse-accepted (eqb group 0) emptyGroup 0 (refuse (leb (2 ^ n) group) unknownGroupPart 0 Accepted) (both .1) in
-    let known = refuse-accepted (leb (2 ^ n) group) unknownGroupPart 0 Accepted (checked .1) in
-    let some : group ≡ 0 → ⊥ = eqb-false group 0 (checked .0) in
+    let known = group-within n group (both .1) in
     record {
       few = accepted-table n table (both .0) .few;
       coherent = accepted-table n table (both .0) .semicoherent;
-      some = omega arith;
-      within = omega (arith, leb-false (2 ^ n) group (known .0));
+      some = known .0;
+      within = known .1;
     }
 
 -- ---- the claim

@@ -9,8 +9,8 @@ use Rattle.answer.specs.declared.Refusal.{Refusal}
 use Rattle.answer.specs.declared.Verdict.{Verdict}
 use Rattle.answer.specs.declared.Verdict.the-variants.{Accepted, Refused}
 use Rattle.answer.proofs.Outcomes.{refuse-held, refuse-passed}
-use Rattle.structure.specs.Checks.{tableRefusal}
-use Rattle.shares_claim.specs.Refusals.{groupRefusal, sharesRefusal}
+use Rattle.structure.specs.Checks.{tableRefusal, groupRefusal}
+use Rattle.shares_claim.specs.Refusals.{sharesRefusal}
 
 module _ (n : ℕ) (table : List ℕ) (group : ℕ) where
   pub table-refused : (refusal : Refusal) → tableRefusal n table ≡ Refused refusal → sharesRefusal n table group ≡ Refused refusal

@@ -1,10 +1,9 @@
-// A group of parts: what a call with a table and a group answers, the size of a group, and sums that path sets are added to.
+// A group of parts: what a call with a table and a group answers, and sums that path sets are added to.
 use answer::Verdict;
 use answer::Written;
 ghost use mathlib.Core.Path.{_≡_};
 ghost use Prim.Native.Nat.{_+_, _%_, _^_};
 ghost use lib.ListN.{getD, set};
-ghost use Rattle.theory_sets.specs.Masks.{size as sizeOf};
 ghost use Rattle.shares_claim.specs.Refusals.{sharesRefusal};
 ghost use Rattle.shares_group.specs.Answers.{answered};
 
@@ -41,13 +40,6 @@ fn group_verdict(n: usize, table: &[u8], group: usize) -> Verdict
             Verdict::Accepted
         }
     }
-}
-
-// The number of parts in a set.
-pub fn size(mask: usize) -> usize
-    ensures { λ r. ⌜ r ≡ sizeOf mask ⌝ }
-{
-    u64::count_ones(mask as u64) as usize
 }
 
 // Adds an amount to the number at an index, modulo 2^64; beyond the last number nothing is done.

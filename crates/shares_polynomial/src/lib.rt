@@ -35,7 +35,7 @@ pub fn reliability(n: usize, table: &[u8], group: usize, cells: &mut [i64]) -> W
 fn cells_needed(n: usize, group: usize) -> usize
     ensures { λ r. ⌜ (n ≤ 16 → sizeOf group ≤ n → r ≡ (sizeOf group + 1) * rowLength n (sizeOf group)) ⌝ }
 {
-    let m = shares_group::size(group);
+    let m = masks::size(group);
     if 16 < n {
         return 0;
     }
@@ -52,7 +52,7 @@ fn write_reliability(n: usize, table: &[u8], group: usize, cells: &mut [i64])
     requires { ⌜ (sizeOf group + 1) * rowLength n (sizeOf group) ≤ length (now cells) ⌝ }
     ensures { λ _. ⌜ now (cells .exit) ≡ reliabilityCells n (inTable (now (table .entry))) group ++ drop ((sizeOf group + 1) * rowLength n (sizeOf group)) (now (cells .entry)) ⌝ }
 {
-    let m = shares_group::size(group);
+    let m = masks::size(group);
     let words = structure_words::load(table);
     let counts = count_types(n, &words, group);
     write_coefficients(n, m, &counts, cells);
@@ -82,8 +82,8 @@ fn add_type(words: &[u64], group: usize, a: usize, counts: &mut [u64])
     if !structure_words::works(words, a) {
         return;
     }
-    let inside = shares_group::size(a & group);
-    let outside = shares_group::size(a) - inside;
+    let inside = masks::size(a & group);
+    let outside = masks::size(a) - inside;
     shares_group::add(counts, inside * 17 + outside, 1);
 }
 

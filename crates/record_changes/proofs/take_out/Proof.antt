@@ -1,8 +1,8 @@
 -- `record_changes::take_out` meets its contract: the part list answers for the position, and 18 is said where no set is left without the part.
 -- Assumes nothing.
-use mathlib.Core.Path.{_≡_, sym, ap, _∙_}
+use mathlib.Core.Path.{_≡_, sym, ap, ap₂, _∙_}
 use mathlib.Core.List.{List}
-use Prim.Native.Nat.{ℕ, _-_, _≤_}
+use Prim.Native.Nat.{ℕ, _-_, _^_, _≤_}
 use native.Mathlib.Omega.{arith}
 use denote.Ref.{now}
 use lib.ListN.{length, replicate, length-replicate}
@@ -14,11 +14,12 @@ use Rattle.answer.specs.declared.Written.the-variants.{Length}
 use Rattle.record_parts.specs.declared.Changed.{Changed}
 use Rattle.record_parts.specs.declared.PartList.{PartList}
 use Rattle.record_parts.specs.declared.Numbered.the-variants.{Number}
-use Rattle.record_parts.specs.Changes.{takenOut}
+use Rattle.numbers.proofs.Counts.{upTo16-given}
+use Rattle.record_parts.specs.Changes.{takenOut, single, listWithout}
 use Rattle.record_lines.specs.Changes.{takeOut, setsWithout, changeRefusal}
 use Rattle.record_lines.proofs.TakenOut.{without-fewer}
 use Rattle.answer.proofs.Deliveries.{Given, given}
-use Rattle.record_changes.proofs.Answers.{DesignOpened, opened-design, opened-refused, sets-front, sets-counted, sets-few, sets-room, change-refused, change-rules, change-made, out-refused, out-left, out-none, out-some}
+use Rattle.record_changes.proofs.Answers.{DesignOpened, opened-design, opened-refused, sets-front, sets-counted, sets-few, sets-room, change-refused, change-rules, change-made, out-refused, out-list, out-left, out-none, out-some}
 use borrow.Author.Needs.{needs}
 use Rattle.record_changes.proofs.take_out.Statement.{statement}
 use Rattle.record_changes.proofs.take_out.Tie as tie
@@ -29,40 +30,65 @@ read c =
     let w = c .before .before in
     opened-design (now (w .before .before .before .args .bytes)) (w .open-record .result) (w .open-record .ensures) (λ i. omega (arith, w .before .before .shared-slice-known .given i)) (c .enum-told .given .1)
 
--- the part list's answer is that of the design's
-list-changed : (c : tie.After-take-out) → c .take-out .result ≡ takenOut (read (c .before .before) .d .parts) (c .before .before .before .before .before .before .before .args .position)
-list-changed c = c .take-out .ensures ∙ ap (λ (l : PartList). takenOut l (c .before .before .before .before .before .before .before .args .position)) (read (c .before .before) .list)
+-- where the part list has answered
+abbrev position : tie.After-take-out → ℕ
+position c = c .before .before .before .before .before .before .before .args .position
 
-number-given : (c : tie.After-enum-told2) → takenOut (read (c .before .before .before .before) .d .parts) (c .before .before .before .before .before .before .before .before .before .args .position) .answer ≡ Number (c .enum-told2 .given .0 .0)
+-- its answer is that of the design's
+list-changed : (c : tie.After-take-out) → c .take-out .result ≡ takenOut (read (c .before .before) .d .parts) (position c)
+list-changed c = c .take-out .ensures ∙ ap (λ (l : PartList). takenOut l (position c)) (read (c .before .before) .list)
+
+-- where it has a number
+abbrev old : (c : tie.After-enum-told2) → DesignOpened (now (c .before .before .before .before .before .before .before .before .before .args .bytes)) (c .before .before .before .before .before .before .open-record .result)
+old c = read (c .before .before .before .before)
+
+number-given : (c : tie.After-enum-told2) → takenOut (old c .d .parts) (position (c .before .before)) .answer ≡ Number (c .enum-told2 .given .0 .0)
 number-given c = sym (ap (λ (x : Changed). x .answer) (list-changed (c .before .before))) ∙ c .enum-told2 .given .1
 
+inside : (c : tie.After-enum-told2) → (1 ≤ position (c .before .before)) × (position (c .before .before) ≤ 16)
+inside c = let left = out-left (old c .d) (old c .rules) (position (c .before .before)) _ (number-given c) in (left .0, left .1)
+
+list-left : (c : tie.After-enum-told2) → c .before .before .take-out .result .list ≡ listWithout (single (position (c .before .before))) (old c .d .parts)
+list-left c =
+    ap (λ (x : Changed). x .list) (list-changed (c .before .before))
+    ∙ out-list (old c .d) (old c .rules) (position (c .before .before)) _ (number-given c)
+
+-- the group of the part at the position
+group-given : (c : tie.After-power-of-two) → c .power-of-two .result ≡ single (position (c .before .before .before .before .before))
+group-given c =
+    let told = c .before .before .before in
+    let index = position (told .before .before) - 1 in
+    c .power-of-two .ensures ∙ upTo16-given index (2 ^ index) (omega (arith, inside told .1))
+
 -- the sets that are left
-abbrev told-of : tie.After-sets-without → tie.After-enum-told2
-told-of c = c .before .before .before .before .before
+abbrev told-of : tie.After-sets-left → tie.After-enum-told2
+told-of c = c .before .before .before .before .before .before
 
-abbrev left-of : tie.After-sets-without → List ℕ
-left-of c = setsWithout (c .before .before .before .before .before .before .before .before .before .before .before .before .before .before .args .position - 1) (read (told-of c .before .before .before .before) .d .sets)
+abbrev position-of : tie.After-sets-left → ℕ
+position-of c = position (told-of c .before .before)
 
-kept : (c : tie.After-sets-without) → outcome (Length (c .sets-without .result)) (c .sets-without .last .1 .1 .0) ≡ delivered Accepted (left-of c) (replicate 12870 0)
+abbrev left-of : tie.After-sets-left → List ℕ
+left-of c = setsWithout (single (position-of c)) (old (told-of c) .d .sets)
+
+kept : (c : tie.After-sets-left) → outcome (Length (c .sets-left .result)) (c .sets-left .last .1 .1 .0) ≡ delivered Accepted (left-of c) (replicate 12870 0)
 kept c =
-    c .sets-without .ensures
-    ∙ ap (λ (l : List ℕ). delivered Accepted (setsWithout (c .before .before .before .before .before .before .before .before .before .before .before .before .before .before .args .position - 1) l) (replicate 12870 0)) (sets-front (read (told-of c .before .before .before .before)))
+    c .sets-left .ensures
+    ∙ ap₂ (λ (g : ℕ) (l : List ℕ). delivered Accepted (setsWithout g l) (replicate 12870 0)) (group-given (c .before .before .before)) (sets-front (old (told-of c)))
 
-built : (c : tie.After-sets-without) → Given Accepted (left-of c) (replicate 12870 0) (c .sets-without .last .1 .1 .0) (c .sets-without .result)
-built c = given Accepted (left-of c) (replicate 12870 0) (c .sets-without .last .1 .1 .0) (c .sets-without .result) (kept c)
+built : (c : tie.After-sets-left) → Given Accepted (left-of c) (replicate 12870 0) (c .sets-left .last .1 .1 .0) (c .sets-left .result)
+built c = given Accepted (left-of c) (replicate 12870 0) (c .sets-left .last .1 .1 .0) (c .sets-left .result) (kept c)
 
-few : (c : tie.After-sets-without) → c .sets-without .result ≤ 12870
+few : (c : tie.After-sets-left) → c .sets-left .result ≤ 12870
 few c =
-    let r = read (told-of c .before .before .before .before) in
-    omega (arith, built c .counted, without-fewer (c .before .before .before .before .before .before .before .before .before .before .before .before .before .before .args .position - 1) (r .d .sets), sets-counted r, sets-few r)
+    let r = old (told-of c) in
+    omega (arith, built c .counted, without-fewer (single (position-of c)) (r .d .sets), sets-counted r, sets-few r)
 
 -- some set is left
-made : (c : tie.Else1) → changeRefusal (takeOut (c .before .before .before .before .before .before .before .before .before .before .before .before .before .before .before .before .args .position)) (read (told-of (c .before .before) .before .before .before .before) .d) ≡ Accepted
+made : (c : tie.Else1) → changeRefusal (takeOut (position-of (c .before .before))) (old (told-of (c .before .before)) .d) ≡ Accepted
 made c =
     let w = c .before .before in
-    let told = told-of w in
-    let r = read (told .before .before .before .before) in
-    out-some (r .d) (r .rules) (w .before .before .before .before .before .before .before .before .before .before .before .before .before .before .args .position) _ (number-given told) (λ none. omega (arith, c .if1 .left, built w .counted))
+    let r = old (told-of w) in
+    out-some (r .d) (r .rules) (position-of w) _ (number-given (told-of w)) (λ none. omega (arith, c .if1 .left, built w .counted))
 
 open-record-requires : tie.Need-open-record-requires
 open-record-requires c κs = search needs
@@ -82,24 +108,24 @@ enum-known-numbered c = search needs
 enum-told-2 : tie.Need-enum-told-2
 enum-told-2 c = search needs
 
+sub-power-of-two : tie.Need-sub-power-of-two
+sub-power-of-two c = inside (c .before .before) .0
+
+power-of-two-requires : tie.Need-power-of-two-requires
+power-of-two-requires c κs = search needs
+
 array-share-prefix-sets : tie.Need-array-share-prefix-sets
-array-share-prefix-sets c = let r = read (c .before .before .before .before .before .before) in omega (arith, sets-few r, sets-room r)
+array-share-prefix-sets c = let r = old (c .before .before .before) in omega (arith, sets-few r, sets-room r)
 
-slice-aggregate-sets-without : tie.Need-slice-aggregate-sets-without
-slice-aggregate-sets-without c = let r = read (c .before .before .before .before .before .before .before) in sets-counted r ∙ ap length (sym (sets-front r))
+slice-aggregate-sets-left : tie.Need-slice-aggregate-sets-left
+slice-aggregate-sets-left c = let r = old (c .before .before .before .before) in sets-counted r ∙ ap length (sym (sets-front r))
 
-sub-sets-without : tie.Need-sub-sets-without
-sub-sets-without c =
-    let told = c .before .before .before in
-    let r = read (told .before .before .before .before) in
-    out-left (r .d) (r .rules) _ _ (number-given told) .0
+slice-aggregate-sets-left-2 : tie.Need-slice-aggregate-sets-left-2
+slice-aggregate-sets-left-2 c = search needs
 
-slice-aggregate-sets-without-2 : tie.Need-slice-aggregate-sets-without-2
-slice-aggregate-sets-without-2 c = search needs
-
-sets-without-requires : tie.Need-sets-without-requires
-sets-without-requires c κs =
-    let r = read (c .before .before .before .before .before .before .before .before) in
+sets-left-requires : tie.Need-sets-left-requires
+sets-left-requires c κs =
+    let r = old (c .before .before .before .before .before) in
     omega (arith, ap length (sets-front r), sets-counted r, sets-few r, length-replicate {A = ℕ} 12870 0)
 
 unwritten-requires : tie.Need-unwritten-requires
@@ -109,11 +135,11 @@ returns-3 : tie.Need-returns-3
 returns-3 c =
     let w = c .before .before .before in
     let told = told-of w in
-    let r = read (told .before .before .before .before) in
-    let a = w .before .before .before .before .before .before .before .before .before .before .before .before .before .before .args in
-    ap (λ (x : Written). outcome x (now (a .buffer))) (c .unwritten .ensures)
-    ∙ change-refused r (takeOut (a .position)) (at inEverySet 0)
-    (out-none (r .d) (r .rules) (a .position) _ (number-given told) (omega (arith, c .before .if1 .taken, built w .counted))) (now (a .buffer))
+    let r = old told in
+    let buffer = now (told .before .before .before .before .before .before .before .before .before .args .buffer) in
+    ap (λ (x : Written). outcome x buffer) (c .unwritten .ensures)
+    ∙ change-refused r (takeOut (position-of w)) (at inEverySet 0)
+    (out-none (r .d) (r .rules) (position-of w) _ (number-given told) (omega (arith, c .before .if1 .taken, built w .counted))) buffer
 
 array-share-prefix-kept : tie.Need-array-share-prefix-kept
 array-share-prefix-kept c = omega (arith, few (c .before .before))
@@ -124,9 +150,7 @@ slice-aggregate-write-design c = let w = c .before .before .before in built w .c
 write-design-requires : tie.Need-write-design-requires
 write-design-requires c κs =
     let w = c .before .before .before .before in
-    let told = told-of w in
-    change-rules (read (told .before .before .before .before)) (takeOut (w .before .before .before .before .before .before .before .before .before .before .before .before .before .before .args .position))
-    (made (c .before .before)) _ _ (ap (λ (x : Changed). x .list) (list-changed (told .before .before))) (built w .front)
+    change-rules (old (told-of w)) (takeOut (position-of w)) (made (c .before .before)) _ _ (list-left (told-of w)) (built w .front)
 
 returns : tie.Need-returns
 returns c =
@@ -151,10 +175,9 @@ returns-4 c =
     let left = c .before .before .before .before .before in
     let w = left .before .before in
     let told = told-of w in
-    let r = read (told .before .before .before .before) in
-    let a = w .before .before .before .before .before .before .before .before .before .before .before .before .before .before .args in
+    let buffer = now (told .before .before .before .before .before .before .before .before .before .args .buffer) in
     c .before .before .write-design .ensures
-    ∙ change-made r (takeOut (a .position)) (made left) _ _ (now (a .buffer)) (ap (λ (x : Changed). x .list) (list-changed (told .before .before))) (built w .front)
+    ∙ change-made (old told) (takeOut (position-of w)) (made left) _ _ buffer (list-left told) (built w .front)
 
 pub take-out-spec : {M : Type 1} → statement M
 take-out-spec =
@@ -168,11 +191,12 @@ take-out-spec =
     enum-known-numbered
     returns-2
     enum-told-2
+    sub-power-of-two
+    power-of-two-requires
     array-share-prefix-sets
-    slice-aggregate-sets-without
-    sub-sets-without
-    slice-aggregate-sets-without-2
-    sets-without-requires
+    slice-aggregate-sets-left
+    slice-aggregate-sets-left-2
+    sets-left-requires
     unwritten-requires
     returns-3
     array-share-prefix-kept

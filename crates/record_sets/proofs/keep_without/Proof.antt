@@ -1,4 +1,4 @@
--- `record_sets::keep_without` meets its contract: each set that does not name the part is stored, lowered, behind those before it.
+-- `record_sets::keep_without` meets its contract: each set that has no part of the group is stored, squeezed, behind those before it.
 -- Assumes nothing.
 use mathlib.Core.Path.{_≡_, sym, ap, _∙_, subst}
 use mathlib.Core.Bool.{true, false}
@@ -12,25 +12,25 @@ use denote.Ref.{now}
 use lib.ListN.{length, getD, take, length-append}
 use lib.Seq.{take-all}
 use Rattle.answer.proofs.Outcomes.{InFront, in-front-none, in-front-one, in-front-length, in-front-delivered}
-use Rattle.theory_sets.specs.Masks.{has}
-use Rattle.record_lines.specs.Changes.{lowered, setsWithout}
+use Rattle.masks.specs.Groups.{meets, squeezed}
+use Rattle.record_lines.specs.Changes.{setsWithout}
 use Rattle.record_lines.proofs.TakenOut.{without-kept, without-longer, without-gone, without-part}
 use borrow.Author.Needs.{needs}
 use Rattle.record_sets.proofs.keep_without.Statement.{statement}
 use Rattle.record_sets.proofs.keep_without.Tie as tie
 
 abbrev Inv-loop : tie.InvT-loop
-Inv-loop sets index kept₀ next₀ i₀ i-end kept next i = (i ≤ length sets) × InFront kept₀ (setsWithout index (take i sets)) kept next
+Inv-loop sets group kept₀ next₀ i₀ i-end kept next i = (i ≤ length sets) × InFront kept₀ (setsWithout group (take i sets)) kept next
 
 abbrev μ-loop : tie.MeasureT-loop
-μ-loop sets index kept₀ next₀ i₀ i-end kept next i = length sets - i
+μ-loop sets group kept₀ next₀ i₀ i-end kept next i = length sets - i
 
 loop-holds : tie.Need-loop-holds Inv-loop μ-loop
 unfolding setsWithout
 loop-holds c = (omega arith, in-front-none _)
 
 -- there is a place for a set that is kept
-place : (c : tie.After-lowered Inv-loop μ-loop) → (c .before .before .before .before .before .loop .next < length (now (c .before .before .before .before .before .before .before .before .args .kept)))
+place : (c : tie.After-squeezed Inv-loop μ-loop) → (c .before .before .before .before .before .loop .next < length (now (c .before .before .before .before .before .before .before .before .args .kept)))
     × (length (c .before .before .before .before .before .loop .kept) ≡ length (now (c .before .before .before .before .before .before .before .before .args .kept)))
 place c =
     let inside = c .before .before .before .before in
@@ -38,10 +38,10 @@ place c =
     let start = inside .before .before .before .before in
     let a = start .args in
     let sets = now (a .sets) in
-    let lacks : has (getD sets (l .i) 0) (a .index) ≡ false = sym (c .before .before .has-part .ensures) ∙ not-true (c .before .before .has-part .result) (c .before .if1 .taken) in
+    let lacks : meets (a .group) (getD sets (l .i) 0) ≡ false = sym (c .before .before .meets .ensures) ∙ not-true (c .before .before .meets .result) (c .before .if1 .taken) in
     let low : l .next < length (now (a .kept)) =
-    omega (arith, l .inv .1 .ends, without-longer (a .index) (l .i) sets (inside .loop-test .taken) lacks, without-part (a .index) (suc (l .i)) sets, start .pre) in
-    (low, in-front-length (now (a .kept)) (setsWithout (a .index) (take (l .i) sets)) (l .kept) (l .next) (l .inv .1) (omega (arith, l .inv .1 .ends)))
+    omega (arith, l .inv .1 .ends, without-longer (a .group) (l .i) sets (inside .loop-test .taken) lacks, without-part (a .group) (suc (l .i)) sets, start .pre) in
+    (low, in-front-length (now (a .kept)) (setsWithout (a .group) (take (l .i) sets)) (l .kept) (l .next) (l .inv .1) (omega (arith, l .inv .1 .ends)))
 
 mul-set : tie.Need-mul-set Inv-loop μ-loop
 mul-set c = omega arith
@@ -49,11 +49,11 @@ mul-set c = omega arith
 shared-slice-read-set : tie.Need-shared-slice-read-set Inv-loop μ-loop
 shared-slice-read-set c = omega arith
 
-has-part-requires : tie.Need-has-part-requires Inv-loop μ-loop
-has-part-requires c κs = search needs
+meets-requires : tie.Need-meets-requires Inv-loop μ-loop
+meets-requires c κs = search needs
 
-lowered-requires : tie.Need-lowered-requires Inv-loop μ-loop
-lowered-requires c κs = search needs
+squeezed-requires : tie.Need-squeezed-requires Inv-loop μ-loop
+squeezed-requires c κs = search needs
 
 mul-kept : tie.Need-mul-kept Inv-loop μ-loop
 mul-kept c = omega (arith, place c .0)
@@ -80,36 +80,36 @@ loop-again c =
     let here : l .i < length sets = inside .loop-test .taken in
     ⊎-elim
     (λ w.
-    let lacks : has set (a .index) ≡ false = sym (c .before .has-part .ensures) ∙ not-true (c .before .has-part .result) (w .0 .taken) in
-    let more : setsWithout (a .index) (take (l .i + 1) sets) ≡ setsWithout (a .index) (take (l .i) sets) ++ (lowered (a .index) set ∷ []) =
-    rw (add-one (l .i)) (without-kept (a .index) (l .i) sets here lacks) in
-    let value : w .1 .result ≡ lowered (a .index) set = w .1 .ensures in
-    let stored = in-front-one (now (a .kept)) (setsWithout (a .index) (take (l .i) sets)) (l .kept) (l .next) (w .1 .result) (l .inv .1)
-    (omega (arith, ap length more, length-append (setsWithout (a .index) (take (l .i) sets)) (lowered (a .index) set ∷ []), without-part (a .index) (l .i + 1) sets, inside .before .before .before .before .pre)) in
+    let lacks : meets (a .group) set ≡ false = sym (c .before .meets .ensures) ∙ not-true (c .before .meets .result) (w .0 .taken) in
+    let more : setsWithout (a .group) (take (l .i + 1) sets) ≡ setsWithout (a .group) (take (l .i) sets) ++ (squeezed 16 (a .group) set ∷ []) =
+    rw (add-one (l .i)) (without-kept (a .group) (l .i) sets here lacks) in
+    let value : w .1 .result ≡ squeezed 16 (a .group) set = w .1 .ensures in
+    let stored = in-front-one (now (a .kept)) (setsWithout (a .group) (take (l .i) sets)) (l .kept) (l .next) (w .1 .result) (l .inv .1)
+    (omega (arith, ap length more, length-append (setsWithout (a .group) (take (l .i) sets)) (squeezed 16 (a .group) set ∷ []), without-part (a .group) (l .i + 1) sets, inside .before .before .before .before .pre)) in
     rw (w .2, w .3) (omega arith, rw (more, sym value) stored))
     (λ w.
-    let names : has set (a .index) ≡ true = sym (c .before .has-part .ensures) ∙ not-false (c .before .has-part .result) (w .0 .left) in
-    let same : setsWithout (a .index) (take (l .i + 1) sets) ≡ setsWithout (a .index) (take (l .i) sets) =
-    rw (add-one (l .i)) (without-gone (a .index) (l .i) sets here names) in
+    let names : meets (a .group) set ≡ true = sym (c .before .meets .ensures) ∙ not-false (c .before .meets .result) (w .0 .left) in
+    let same : setsWithout (a .group) (take (l .i + 1) sets) ≡ setsWithout (a .group) (take (l .i) sets) =
+    rw (add-one (l .i)) (without-gone (a .group) (l .i) sets here names) in
     rw (w .1, w .2) (omega arith, rw same (l .inv .1)))
     (c .if1 .came)
 
 -- after the last set
-whole : (c : tie.After-loop Inv-loop μ-loop) → InFront (now (c .before .before .before .before .args .kept)) (setsWithout (c .before .before .before .before .args .index) (now (c .before .before .before .before .args .sets))) (c .before .loop .kept) (c .before .loop .next)
+whole : (c : tie.After-loop Inv-loop μ-loop) → InFront (now (c .before .before .before .before .args .kept)) (setsWithout (c .before .before .before .before .args .group) (now (c .before .before .before .before .args .sets))) (c .before .loop .kept) (c .before .loop .next)
 whole c =
     let a = c .before .before .before .before .args in
     let l = c .before .loop in
-    subst (λ (s : List ℕ). InFront (now (a .kept)) (setsWithout (a .index) s) (l .kept) (l .next)) (take-all (l .i) (now (a .sets)) (c .loop-test .left)) (l .inv .1)
+    subst (λ (s : List ℕ). InFront (now (a .kept)) (setsWithout (a .group) s) (l .kept) (l .next)) (take-all (l .i) (now (a .sets)) (c .loop-test .left)) (l .inv .1)
 
 same-length : tie.Need-same-length Inv-loop μ-loop
 same-length c =
     let a = c .before .before .before .before .args in
-    in-front-length (now (a .kept)) (setsWithout (a .index) (now (a .sets))) (c .before .loop .kept) (c .before .loop .next) (whole c) (c .before .before .before .before .pre)
+    in-front-length (now (a .kept)) (setsWithout (a .group) (now (a .sets))) (c .before .loop .kept) (c .before .loop .next) (whole c) (c .before .before .before .before .pre)
 
 returns : tie.Need-returns Inv-loop μ-loop
 returns c =
     let a = c .before .before .before .before .args in
-    in-front-delivered (now (a .kept)) (setsWithout (a .index) (now (a .sets))) (c .before .loop .kept) (c .before .loop .next) (whole c) (c .before .before .before .before .pre)
+    in-front-delivered (now (a .kept)) (setsWithout (a .group) (now (a .sets))) (c .before .loop .kept) (c .before .loop .next) (whole c) (c .before .before .before .before .pre)
 
 pub keep-without-spec : {M : Type 1} → statement M
 keep-without-spec =
@@ -120,8 +120,8 @@ keep-without-spec =
     loop-holds
     mul-set
     shared-slice-read-set
-    has-part-requires
-    lowered-requires
+    meets-requires
+    squeezed-requires
     mul-kept
     slice-write-kept
     add-next

@@ -23,7 +23,7 @@ returns c =
     let counted = c .before .before in
     let a = counted .before .before .before .args in
     ap (λ (w : Written). outcome w (now (a .kept))) (c .short .ensures)
-    ∙ delivered-short Accepted (setsWithout (a .index) (now (a .sets))) (now (a .kept)) refl _ (counted .left-without .ensures) (c .before .if1 .taken)
+    ∙ delivered-short Accepted (setsWithout (a .group) (now (a .sets))) (now (a .kept)) refl _ (counted .left-without .ensures) (c .before .if1 .taken)
 
 keep-without-requires : tie.Need-keep-without-requires
 keep-without-requires c κs = omega (arith, c .before .before .left-without .ensures, c .before .if1 .left)

@@ -7,15 +7,15 @@ use Prim.Native.Nat.{ℕ, _+_, _<_}
 use native.Mathlib.Omega.{arith}
 use borrow.Author.Needs.{needs}
 use borrow.Author.Tests.{eq-eqb, ne-eqb}
-use lib.ListN.{length, take, set, length-append}
-use Rattle.record_numbers.proofs.InCells.{cells-few}
+use lib.ListN.{length, set, length-append}
 use Rattle.record_parts.specs.declared.PartList.{PartList}
 use Rattle.record_parts.specs.declared.Numbered.the-variants.{Number}
 use Rattle.answer.proofs.FixedCells.{cells-more}
 use Rattle.record_numbers.specs.Numbering.{mostParts, cellsOf}
 use Rattle.record_parts.specs.PartLists.{numbersOf}
 use Rattle.record_parts.specs.Changes.{changed, addRefusal, withPart, partAdded}
-use Rattle.record_parts.proofs.LeftOut.{without-none}
+use Rattle.record_parts.proofs.LeftOut.{others-all}
+use Rattle.record_parts.proofs.InCells.{cells-few}
 use Rattle.record_parts.proofs.Changing.{change-broken, change-refused, change-made, Usable, usable}
 use Rattle.record_parts.proofs.PartList.add.Statement.{statement}
 use Rattle.record_parts.proofs.PartList.add.Tie as tie
@@ -115,8 +115,7 @@ returns-4 c =
     let counts : list .count + 1 ≡ length (numbersOf list ++ (issued ∷ [])) =
     omega (arith, length-append (numbersOf list) (issued ∷ [])) in
     let first : c .cells .result ≡ cellsOf (numbersOf list) =
-    c .cells .ensures ∙ ap (λ (l : List ℕ). take mostParts (cellsOf l)) (without-none (list .count) (numbersOf list) (omega arith))
-    ∙ cells-few (numbersOf list) (omega (arith, spare e)) in
+    c .cells .ensures ∙ cells-few (numbersOf list) 0 (omega (arith, spare e)) ∙ ap cellsOf (others-all (numbersOf list)) in
     let stored : set (c .cells .result) (list .count) issued ≡ cellsOf (numbersOf list ++ (issued ∷ [])) =
     ap (λ (cells : List ℕ). set cells (list .count) issued) first ∙ cells-more mostParts 0 (numbersOf list) (list .count) issued counted (spare e) in
     ap (λ (number : ℕ). changed (record { count = list .count + 1; mark = number; numbers = set (c .cells .result) (list .count) number }) (Number number))

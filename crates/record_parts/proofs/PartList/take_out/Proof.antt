@@ -12,10 +12,11 @@ use lib.Seq.{getD-take}
 use Rattle.record_parts.specs.declared.PartList.{PartList}
 use Rattle.record_parts.specs.declared.Numbered.the-variants.{Number}
 use Rattle.record_parts.specs.PartLists.{numbersOf}
-use Rattle.record_numbers.proofs.InCells.{cells-few}
-use Rattle.record_numbers.specs.Numbering.{without}
-use Rattle.record_parts.specs.Changes.{changed, takeOutRefusal, withoutPart, takenOut}
-use Rattle.record_parts.proofs.LeftOut.{length-without}
+use Rattle.numbers.proofs.Counts.{upTo16-given}
+use Rattle.record_numbers.specs.Numbering.{cellsOf, others}
+use Rattle.record_parts.specs.Changes.{changed, single, takeOutRefusal, withoutPart, takenOut}
+use Rattle.record_parts.proofs.LeftOut.{others-single}
+use Rattle.record_parts.proofs.InCells.{cells-few}
 use Rattle.record_parts.proofs.Changing.{change-broken, change-refused, change-made, Usable, usable}
 use Rattle.record_parts.proofs.PartList.take_out.Statement.{statement}
 use Rattle.record_parts.proofs.PartList.take_out.Tie as tie
@@ -111,36 +112,45 @@ mul-taken c = let e = c .before in omega (arith, within e, whole e .rules .few)
 array-read-taken : tie.Need-array-read-taken
 array-read-taken c = let e = c .before in omega (arith, within e, whole e .rules .few, whole e .all)
 
+sub-power-of-two : tie.Need-sub-power-of-two
+sub-power-of-two c = search needs
+
+power-of-two-requires : tie.Need-power-of-two-requires
+power-of-two-requires c κs = search needs
+
 array-share-prefix-numbers : tie.Need-array-share-prefix-numbers
-array-share-prefix-numbers c = let e = c .before in omega (arith, whole e .rules .few, whole e .all)
+array-share-prefix-numbers c = let e = c .before .before in omega (arith, whole e .rules .few, whole e .all)
 
 slice-aggregate-cells : tie.Need-slice-aggregate-cells
-slice-aggregate-cells c = omega (arith, whole (c .before .before) .counted)
-
-sub-cells : tie.Need-sub-cells
-sub-cells c = search needs
+slice-aggregate-cells c = omega (arith, whole (c .before .before .before) .counted)
 
 cells-requires : tie.Need-cells-requires
 cells-requires c κs = search needs
 
-sub-t11 : tie.Need-sub-t11
-sub-t11 c = search needs
+sub-t12 : tie.Need-sub-t12
+sub-t12 c = search needs
 
 returns-5 : tie.Need-returns-5
 unfolding takenOut
 returns-5 c =
-    let e = c .before .before .before in
+    let p = c .before .before in
+    let e = p .before .before in
     let t = e .before .before .before in
     let j = t .before .before in
     let list = self e in
     let index = position e - 1 in
-    let counts : list .count - 1 ≡ length (without index (numbersOf list)) =
-    omega (arith, length-without index (numbersOf list) (omega (arith, within e, whole e .counted)), whole e .counted) in
+    let left = others (numbersOf list) (single (position e)) in
+    let counts : list .count - 1 ≡ length left =
+    omega (arith, others-single index (numbersOf list) (omega (arith, within e, whole e .counted)), whole e .counted) in
     let number : getD (list .numbers) index 0 ≡ getD (numbersOf list) index 0 =
     sym (getD-take (list .count) (list .numbers) index 0 (within e)) in
+    let group : p .power-of-two .result ≡ single (position e) =
+    p .power-of-two .ensures ∙ upTo16-given index (single (position e)) (omega (arith, within e, whole e .rules .few)) in
+    let cells : c .cells .result ≡ cellsOf left =
+    c .cells .ensures ∙ cells-few (numbersOf list) (p .power-of-two .result) (omega (arith, whole e .counted, whole e .rules .few))
+    ∙ ap (λ (g : ℕ). cellsOf (others (numbersOf list) g)) group in
     ap₂ (λ (count : ℕ) (taken : ℕ). changed (record { count = count; mark = list .mark; numbers = c .cells .result }) (Number taken)) counts number
-    ∙ ap (λ (cells : List ℕ). changed (record { count = length (without index (numbersOf list)); mark = list .mark; numbers = cells }) (Number (getD (numbersOf list) index 0)))
-    (c .cells .ensures ∙ cells-few (without index (numbersOf list)) (omega (arith, counts, whole e .rules .few)))
+    ∙ ap (λ (cells : List ℕ). changed (record { count = length left; mark = list .mark; numbers = cells }) (Number (getD (numbersOf list) index 0))) cells
     ∙ sym (change-made list (takeOutRefusal list (position e)) (withoutPart list (position e)) (sym (j .judged .ensures) ∙ t .enum-told .given .1)
     (simp (ne-eqb _ _ (e .before .before .if1 .left), le-ltb _ _ (e .before .if2 .left), ne-eqb _ _ (e .if3 .left))))
 
@@ -162,9 +172,10 @@ take-out-spec =
     sub-taken
     mul-taken
     array-read-taken
+    sub-power-of-two
+    power-of-two-requires
     array-share-prefix-numbers
     slice-aggregate-cells
-    sub-cells
     cells-requires
-    sub-t11
+    sub-t12
     returns-5)

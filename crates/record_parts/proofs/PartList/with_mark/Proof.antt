@@ -4,16 +4,15 @@
 use mathlib.Core.Path.{sym, ap, _∙_}
 use mathlib.Core.List.{List}
 use Prim.Native.Nat.{ℕ}
-use native.Mathlib.Nat.{le-refl}
 use denote.Ref.{now}
 use borrow.Author.Needs.{needs}
-use lib.ListN.{length, take}
+use lib.ListN.{length}
 use Rattle.answer.specs.declared.Verdict.{Verdict}
 use Rattle.answer.specs.declared.Verdict.the-variants.{Accepted}
-use Rattle.record_numbers.specs.Numbering.{mostParts, cellsOf}
+use Rattle.record_numbers.specs.Numbering.{cellsOf}
 use Rattle.record_parts.specs.PartLists.{listOf, listing, made}
-use Rattle.record_parts.proofs.LeftOut.{without-none}
-use Rattle.record_numbers.proofs.InCells.{cells-few}
+use Rattle.record_parts.proofs.LeftOut.{others-all}
+use Rattle.record_parts.proofs.InCells.{cells-few}
 use Rattle.record_numbers.proofs.Rules.{accepted-rules}
 use Rattle.record_parts.proofs.PartList.with_mark.Statement.{statement}
 use Rattle.record_parts.proofs.PartList.with_mark.Tie as tie
@@ -45,8 +44,7 @@ returns-2 c =
     let n = now (a .numbers) in
     let accepted = sym (j .judge .ensures) ∙ c .before .enum-told .given .1 in
     ap (λ (cells : List ℕ). record { list = record { count = length n; mark = a .mark; numbers = cells }; verdict = Accepted })
-    (c .cells .ensures ∙ ap (λ (l : List ℕ). take mostParts (cellsOf l)) (without-none (length n) n (le-refl _))
-    ∙ cells-few n (accepted-rules (length n) (a .mark) n accepted .few))
+    (c .cells .ensures ∙ cells-few n 0 (accepted-rules (length n) (a .mark) n accepted .few) ∙ ap cellsOf (others-all n))
     ∙ sym (ap (λ (v : Verdict). listing v (listOf (a .mark) n)) accepted)
 
 pub with-mark-spec : {M : Type 1} → statement M

@@ -1,4 +1,4 @@
--- `record_changes::sets_without` meets its contract: no more sets are kept than there are, so that the array is never short.
+-- `record_changes::sets_left` meets its contract: no more sets are kept than there are, so that the array is never short.
 -- Assumes nothing.
 use mathlib.Core.Path.{refl, sym, ap, _∙_}
 use native.Mathlib.Omega.{arith}
@@ -11,8 +11,8 @@ use Rattle.record_head.proofs.Answers.{not-both}
 use Rattle.record_lines.specs.Changes.{setsWithout}
 use Rattle.record_lines.proofs.TakenOut.{without-fewer}
 use borrow.Author.Needs.{needs}
-use Rattle.record_changes.proofs.sets_without.Statement.{statement}
-use Rattle.record_changes.proofs.sets_without.Tie as tie
+use Rattle.record_changes.proofs.sets_left.Statement.{statement}
+use Rattle.record_changes.proofs.sets_left.Tie as tie
 
 sets-without-requires : tie.Need-sets-without-requires
 sets-without-requires c κs = search needs
@@ -32,8 +32,8 @@ returns c =
     let start = w .before .before .before .before in
     let a = start .args in
     not-both refl
-    (refused-by Accepted (setsWithout (a .index) (now (a .sets))) (now (a .kept)) (w .sets-without .last .1 .1 .0) _
-    (λ e. omega (arith, without-fewer (a .index) (now (a .sets)), start .pre))
+    (refused-by Accepted (setsWithout (a .group) (now (a .sets))) (now (a .kept)) (w .sets-without .last .1 .1 .0) _
+    (λ e. omega (arith, without-fewer (a .group) (now (a .sets)), start .pre))
     (ap (λ (x : Written). outcome x (w .sets-without .last .1 .1 .0)) (sym (c .enum-told .given .1)) ∙ w .sets-without .ensures))
 
 same-length-2 : tie.Need-same-length-2
@@ -44,8 +44,8 @@ returns-2 c =
     let w = c .before .before .before .before .before in
     ap (λ (x : Written). outcome x (w .sets-without .last .1 .1 .0)) (sym (c .before .written .given .1)) ∙ w .sets-without .ensures
 
-pub sets-without-spec : {M : Type 1} → statement M
-sets-without-spec =
+pub sets-left-spec : {M : Type 1} → statement M
+sets-left-spec =
     tie.close
     (tie.spec
     sets-without-requires

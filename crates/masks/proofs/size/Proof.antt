@@ -1,10 +1,10 @@
--- `shares_group::size` meets its contract: a mask of 64 bits has at most 64 set.
+-- `masks::size` meets its contract: a mask of 64 bits has at most 64 set.
 -- Assumes nothing.
 use native.Mathlib.Omega.{arith}
 use lib.Count.{ones-le}
 use borrow.Author.Needs.{needs}
-use Rattle.shares_group.proofs.size.Statement.{statement}
-use Rattle.shares_group.proofs.size.Tie as tie
+use Rattle.masks.proofs.size.Statement.{statement}
+use Rattle.masks.proofs.size.Tie as tie
 
 cast-result : tie.Need-cast-result
 cast-result c = omega (arith, ones-le 64 (c .args .mask) (c .fits .mask .fits))

@@ -1,18 +1,20 @@
 -- Laws of a set and a group of parts: which parts they share, and that sets which share none with the group keep their order, stay apart and
 -- stay not empty when its positions are squeezed out.
 -- Assumes nothing.
-use mathlib.Core.Path.{_≡_, refl, sym, ap, _∙_, subst}
+use mathlib.Core.Path.{_≡_, refl, sym, ap, ap₂, _∙_, subst}
 use mathlib.Core.Bool.{Bool, true, false, not, cond, _||_}
 use mathlib.Core.Logic.{_⊎_, inl, inr}
 use Prim.Native.Nat.{ℕ, zero, suc, _+_, _*_, _/_, _%_, _^_, _≤_, _<_}
-use native.Mathlib.Nat.{pow-succ', lt-of-le-of-lt, zero-add}
+use native.Mathlib.Nat.{pow-succ', div-div-eq-div-mul, lt-of-le-of-lt, le-of-suc-le-suc, not-suc-le-zero, zero-add}
+use native.Mathlib.Numerals.{add-one}
 use native.Mathlib.Omega.{arith}
 use borrow.Author.Tests.{eqb-true, eqb-false, eq-eqb, not-true}
 use lib.Bits.{and-le-l}
 use lib.Dec.{eqb}
+use lib.Pow.{mod-pow-add}
 use Rattle.theory_sets.specs.Masks.{has, meet, holds}
 use Rattle.theory_sets.proofs.Bools.{clash, false-of, and-both, and-left, and-right, or-false, same-test}
-use Rattle.theory_sets.proofs.Masks.{has-suc, odd, even, has-odd, has-above, has-add, has-meet, holds-part, holds-of-parts, lacking}
+use Rattle.theory_sets.proofs.Masks.{has-suc, odd, even, has-odd, has-even, has-above, has-add, has-meet, holds-part, holds-of-parts, lacking}
 use Rattle.theory_sets.proofs.Ranges.{below-or-above}
 use Rattle.masks.specs.Groups.{meets, squeezed}
 
@@ -115,6 +117,23 @@ squeezed-all zero set h = omega arith
 squeezed-all (suc n) set h =
     let rest : squeezed n 0 (set / 2) ≡ set / 2 = squeezed-all n (set / 2) (omega (arith, pow-succ' 2 n)) in
     ap (λ (p : Bool). front p (set % 2) (squeezed n 0 (set / 2))) (no-part 0) ∙ omega arith
+
+-- Without a single position the higher ones move down by one, and the lower ones stay.
+pub squeezed-single : (n i set : ℕ) → i < n → set < 2 ^ n → squeezed n (2 ^ i) set ≡ set / 2 ^ suc i * 2 ^ i + set % 2 ^ i
+unfolding squeezed
+squeezed-single zero i set inside h = absurd (not-suc-le-zero inside)
+squeezed-single (suc n) zero set inside h =
+    let rest : squeezed n 0 (set / 2) ≡ set / 2 = squeezed-all n (set / 2) (omega (arith, pow-succ' 2 n)) in
+    ap (λ (p : Bool). front p (set % 2) (squeezed n 0 (set / 2))) (has-odd 1 refl) ∙ omega arith
+squeezed-single (suc n) (suc i) set inside h =
+    let even-group : has (2 ^ suc i) 0 ≡ false = has-even (2 ^ suc i) (omega (arith, pow-succ' 2 i)) in
+    let half : 2 ^ suc i / 2 ≡ 2 ^ i = omega (arith, pow-succ' 2 i) in
+    let rest = squeezed-single n i (set / 2) (le-of-suc-le-suc inside) (omega (arith, pow-succ' 2 n)) in
+    let quotient : set / 2 ^ suc (suc i) ≡ set / 2 / 2 ^ suc i = ap (λ (x : ℕ). set / x) (pow-succ' 2 (suc i)) ∙ sym (div-div-eq-div-mul set 2 (2 ^ suc i)) in
+    let remainder : set % 2 ^ suc i ≡ set / 2 % 2 ^ i * 2 + set % 2 = ap (λ (m : ℕ). set % 2 ^ m) (sym (add-one i)) ∙ mod-pow-add set i 1 in
+    let whole : set / 2 ^ suc (suc i) * 2 ^ suc i + set % 2 ^ suc i ≡ set / 2 / 2 ^ suc i * (2 * 2 ^ i) + (set / 2 % 2 ^ i * 2 + set % 2) =
+    ap₂ (λ (x y : ℕ). x + y) (ap₂ (λ (x y : ℕ). x * y) quotient (pow-succ' 2 i)) remainder in
+    ap₂ (λ (p : Bool) (x : ℕ). front p (set % 2) x) even-group (ap (λ (g : ℕ). squeezed n g (set / 2)) half ∙ rest) ∙ omega arith
 
 -- moving together makes a mask no larger
 pub squeezed-le : (n group set : ℕ) → squeezed n group set ≤ set

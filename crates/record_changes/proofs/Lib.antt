@@ -1,3 +1,4 @@
 mod FirstNumbers
 pub mod Loading
 pub mod Answers
+pub mod Writing

@@ -2,12 +2,12 @@
 -- Assumes nothing.
 use mathlib.Core.Path.{_≡_, refl, ap}
 use mathlib.Core.Bool.{Bool, true, false, cond}
-use mathlib.Core.List.{List, [], _∷_, List·Memᴰ·head, List·Memᴰ·tail, List·Memᴰ·cases-cons, List·Memᴰ·not-nil}
+use mathlib.Core.List.{List, [], _∷_, _++_, List·Memᴰ·head, List·Memᴰ·tail, List·Memᴰ·cases-cons, List·Memᴰ·not-nil}
 use mathlib.Core.Logic.{_⊎_, inl, inr, ⊎-elim}
 use Prim.Native.Nat.{ℕ, zero, suc, _/_, _^_, _<_}
 use native.Mathlib.Nat.{pow-succ', le-of-suc-le-suc}
 use native.Mathlib.Omega.{arith}
-use lib.ListN.{length, getD}
+use lib.ListN.{length, getD, take, drop}
 use Rattle.theory_sets.specs.Masks.{has}
 use Rattle.theory_sets.proofs.Masks.{has-odd, has-even}
 use Rattle.record_numbers.specs.Numbering.{named, others}
@@ -77,7 +77,17 @@ named-single (suc i) (n ∷ ns) h =
     let half : 2 ^ suc i / 2 ≡ 2 ^ i = omega (arith, pow-succ' 2 i) in
     rw (even, half) (named-single i ns (le-of-suc-le-suc h))
 
--- and leaves one number fewer
+-- it leaves the numbers in front of it and those behind it,
+pub others-around : (index : ℕ) (numbers : List ℕ) → index < length numbers → others numbers (2 ^ index) ≡ take index numbers ++ drop (suc index) numbers
+unfolding others
+others-around index [] h = absurd (omega arith)
+others-around zero (n ∷ ns) h = rw (has-odd 1 refl) (others-all ns)
+others-around (suc i) (n ∷ ns) h =
+    let even : has (2 ^ suc i) 0 ≡ false = has-even (2 ^ suc i) (omega (arith, pow-succ' 2 i)) in
+    let half : 2 ^ suc i / 2 ≡ 2 ^ i = omega (arith, pow-succ' 2 i) in
+    rw (even, half) (ap (λ (l : List ℕ). n ∷ l) (others-around i ns (le-of-suc-le-suc h)))
+
+-- one number fewer
 pub others-single : (index : ℕ) (numbers : List ℕ) → index < length numbers → suc (length (others numbers (2 ^ index))) ≡ length numbers
 others-single index numbers h =
     let one = ap length (named-single index numbers h) in

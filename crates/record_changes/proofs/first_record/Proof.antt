@@ -10,6 +10,7 @@ use lib.ListN.{length, take, replicate, length-replicate}
 use lib.Seq.{length-take-le}
 use Rattle.answer.specs.Outcome.{outcome, delivered}
 use Rattle.answer.specs.declared.Verdict.{Verdict}
+use Rattle.answer.specs.declared.Verdict.the-variants.{Accepted}
 use Rattle.answer.specs.declared.Written.{Written}
 use Rattle.answer.proofs.Deliveries.{refused-kept, Given, given, refused-by}
 use Rattle.theory_orders.proofs.Sperner.{minimalSets-most}
@@ -17,13 +18,11 @@ use Rattle.record_parts.specs.PartLists.{listOf}
 use Rattle.theory_sets.specs.Structures.{listed, minimalSets}
 use Rattle.structure.specs.Checks.{listRefusal}
 use Rattle.structure.proofs.Acceptance.{accepted-list}
-use Rattle.record.specs.Records.{Design, design}
+use Rattle.record.specs.Records.{design}
 use Rattle.record.specs.RecordBytes.{recordBytes}
-use Rattle.record.proofs.MinimalSets.{design-list}
 use Rattle.record_lines.specs.Changes.{firstDesign}
 use Rattle.record_lines.specs.Records.{firstRecord}
 use Rattle.record_changes.proofs.FirstNumbers.{sixteen, first-numbers}
-use Rattle.record_lines.proofs.Rules.{first-rules}
 use borrow.Author.Needs.{needs}
 use Rattle.record_changes.proofs.first_record.Statement.{statement}
 use Rattle.record_changes.proofs.first_record.Tie as tie
@@ -77,7 +76,9 @@ slice-aggregate-write-record-2 : tie.Need-slice-aggregate-write-record-2
 slice-aggregate-write-record-2 c = built (c .before .before) .counted ∙ ap length (sym (built (c .before .before) .front))
 
 write-record-requires : tie.Need-write-record-requires
-write-record-requires c κs = search needs
+write-record-requires c κs =
+    let told = c .before .before .before in
+    (omega (arith, counted told, few told), omega (arith, built told .counted, ap length (built told .front), most told))
 
 returns : tie.Need-returns
 unfolding firstRecord
@@ -100,11 +101,9 @@ returns-2 c =
     let told = c .before .before .before .before .before .before in
     let a = told .before .before .before .before .before .before .before .before .args in
     let buffer = now (a .buffer) in
-    let first : Design = firstDesign (a .n) (now (a .list)) in
     c .before .before .write-record .ensures
-    ∙ ap₂ (λ (numbers sets : List ℕ). delivered (listRefusal (length numbers) sets) (recordBytes (design (listOf (a .n) numbers) sets)) buffer) (first-numbers (a .n) (few told)) (built told .front)
-    ∙ ap (λ (v : Verdict). delivered v (recordBytes first) buffer)
-    (design-list first (first-rules (a .n) (now (a .list)) (built told .accepted)) ∙ sym (built told .accepted))
+    ∙ ap₂ (λ (numbers sets : List ℕ). delivered Accepted (recordBytes (design (listOf (a .n) numbers) sets)) buffer) (first-numbers (a .n) (few told)) (built told .front)
+    ∙ ap (λ (v : Verdict). delivered v (recordBytes (firstDesign (a .n) (now (a .list)))) buffer) (sym (built told .accepted))
 
 pub first-record-spec : {M : Type 1} → statement M
 first-record-spec =

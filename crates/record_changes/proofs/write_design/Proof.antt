@@ -1,21 +1,18 @@
--- `record_changes::write_design` meets its contract: a well-formed list is the list of its mark and its numbers, and the sets of a design are a list
--- that nothing refuses.
+-- `record_changes::write_design` meets its contract: a well-formed list is the list of its mark and its numbers.
 -- Assumes nothing.
-use mathlib.Core.Path.{_≡_, sym, ap, ap₂, _∙_}
+use mathlib.Core.Path.{_≡_, sym, ap, _∙_}
 use Prim.Native.Nat.{ℕ, _-_}
 use native.Mathlib.Omega.{arith}
 use denote.Ref.{now}
 use lib.ListN.{length, length-append, length-replicate}
 use Rattle.answer.specs.Outcome.{delivered}
-use Rattle.answer.specs.declared.Verdict.{Verdict}
+use Rattle.answer.specs.declared.Verdict.the-variants.{Accepted}
 use Rattle.record_parts.specs.declared.PartList.{PartList}
 use Rattle.record_numbers.specs.Numbering.{mostParts}
 use Rattle.record_parts.specs.PartLists.{numbersOf, WellFormed}
 use Rattle.record_parts.proofs.WellFormed.{well-formed-counted, well-formed-list}
-use Rattle.structure.specs.Checks.{listRefusal}
 use Rattle.record.specs.Records.{design}
 use Rattle.record.specs.RecordBytes.{recordBytes}
-use Rattle.record.proofs.MinimalSets.{design-list}
 use borrow.Author.Needs.{needs}
 use Rattle.record_changes.proofs.write_design.Statement.{statement}
 use Rattle.record_changes.proofs.write_design.Tie as tie
@@ -38,7 +35,10 @@ slice-aggregate-write-record c =
     sym (well-formed-counted (start .args .list) (start .pre .parts))
 
 write-record-requires : tie.Need-write-record-requires
-write-record-requires c κs = search needs
+write-record-requires c κs =
+    let start = c .before .before .before .before .before in
+    let w = start .pre .parts in
+    (omega (arith, well-formed-counted (start .args .list) w, w .rules .few), start .pre .sets .most)
 
 same-length : tie.Need-same-length
 same-length c = search needs
@@ -47,11 +47,8 @@ returns : tie.Need-returns
 returns c =
     let start = c .before .before .before .before .before .before .before .before in
     let a = start .args in
-    let sets = now (a .sets) in
-    let w = start .pre .parts in
     c .before .before .write-record .ensures
-    ∙ ap₂ (λ (n : ℕ) (l : PartList). delivered (listRefusal n sets) (recordBytes (design l sets)) (now (a .buffer))) (well-formed-counted (a .list) w) (sym (well-formed-list (a .list) w))
-    ∙ ap (λ (v : Verdict). delivered v (recordBytes (design (a .list) sets)) (now (a .buffer))) (design-list (design (a .list) sets) (start .pre))
+    ∙ ap (λ (l : PartList). delivered Accepted (recordBytes (design l (now (a .sets)))) (now (a .buffer))) (sym (well-formed-list (a .list) (start .pre .parts)))
 
 pub write-design-spec : {M : Type 1} → statement M
 write-design-spec =

@@ -1,14 +1,14 @@
--- `record_writing::record_length` meets its contract: the lengths of the record's pieces are added up.
+-- `record_changes::record_length` meets its contract: the lengths of the record's pieces are added up.
 -- Assumes nothing.
 use Prim.Native.Nat.{_≤_}
 use native.Mathlib.Omega.{arith}
 use denote.Ref.{now}
 use lib.ListN.{length}
 use Rattle.codec.proofs.ByteForms.{bytes-at-most}
-use Rattle.record_writing.proofs.Writing.{forms-most, record-length}
+use Rattle.record_changes.proofs.Writing.{forms-most, record-length}
 use borrow.Author.Needs.{needs}
-use Rattle.record_writing.proofs.record_length.Statement.{statement}
-use Rattle.record_writing.proofs.record_length.Tie as tie
+use Rattle.record_changes.proofs.record_length.Statement.{statement}
+use Rattle.record_changes.proofs.record_length.Tie as tie
 
 -- a number of 64 bits takes ten bytes at the most
 firsts : (c : tie.After-number-length2) → (c .before .number-length .result ≤ 10) × (c .number-length2 .result ≤ 10)

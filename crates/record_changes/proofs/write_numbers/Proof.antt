@@ -1,4 +1,4 @@
--- `record_writing::write_numbers` meets its contract: each part number is placed behind those before it.
+-- `record_changes::write_numbers` meets its contract: each part number is placed behind those before it.
 -- Assumes nothing.
 use mathlib.Core.Path.{_≡_}
 use Prim.Native.Nat.{_-_, _≤_}
@@ -8,10 +8,10 @@ use lib.ListN.{length, take}
 use Rattle.answer.specs.Placed.{leaves, placed}
 use Rattle.answer.proofs.Forms.{placed-length}
 use Rattle.record_head.specs.HeadingBytes.{formsOf}
-use Rattle.record_writing.proofs.Writing.{forms-none, forms-more, forms-all}
+use Rattle.record_changes.proofs.Writing.{forms-none, forms-more, forms-all}
 use borrow.Author.Needs.{needs}
-use Rattle.record_writing.proofs.write_numbers.Statement.{statement}
-use Rattle.record_writing.proofs.write_numbers.Tie as tie
+use Rattle.record_changes.proofs.write_numbers.Statement.{statement}
+use Rattle.record_changes.proofs.write_numbers.Tie as tie
 
 abbrev Inv-loop : tie.InvT-loop
 Inv-loop buffer₀ at numbers next₀ i₀ i-end buffer next i =

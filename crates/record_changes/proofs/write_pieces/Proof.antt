@@ -1,4 +1,4 @@
--- `record_writing::write_pieces` meets its contract: each piece is placed behind those before it.
+-- `record_changes::write_pieces` meets its contract: each piece is placed behind those before it.
 -- Assumes nothing.
 use mathlib.Core.Path.{_≡_, sym, ap, _∙_}
 use mathlib.Core.List.{List, _++_}
@@ -15,10 +15,10 @@ use Rattle.record_parts.specs.PartLists.{listOf}
 use Rattle.record.specs.Records.{design}
 use Rattle.record_head.specs.HeadingBytes.{formsOf}
 use Rattle.record.specs.RecordBytes.{recordBytes}
-use Rattle.record_writing.proofs.Writing.{pieces, record-pieces, record-length}
+use Rattle.record_changes.proofs.Writing.{pieces, record-pieces, record-length}
 use borrow.Author.Needs.{needs}
-use Rattle.record_writing.proofs.write_pieces.Statement.{statement}
-use Rattle.record_writing.proofs.write_pieces.Tie as tie
+use Rattle.record_changes.proofs.write_pieces.Statement.{statement}
+use Rattle.record_changes.proofs.write_pieces.Tie as tie
 
 abbrev start-of : tie.After-write-number → tie.Start
 start-of c = c .before .before .before .before .before

@@ -2,15 +2,18 @@
 -- own, and by the claim of demand 3 either writes the counts.
 -- Assumes nothing.
 use mathlib.Core.Path.{_≡_, sym, _∙_}
+use Prim.Native.Nat.{_≤_}
 use native.Mathlib.Omega.{arith}
 use denote.Ref.{now}
 use lib.ListN.{length}
 use borrow.Author.Needs.{needs}
+use Rattle.answer.specs.Outcome.{andThen, room}
+use Rattle.answer.specs.declared.Verdict.the-variants.{Accepted}
+use Rattle.answer.proofs.Outcomes.{then-accepted, room-accepted}
 use Rattle.theory_sets.specs.Tables.{inTable}
 use Rattle.shares_claim.specs.Shares.{sharesBySets, sharesByReliability, groupCounts}
 use Rattle.shares_claim.specs.Refusals.{sharesRefusal}
 use Rattle.shares_claim.proofs.Claim.{accepted-group, by-sets-counts, by-reliability-counts}
-use Rattle.shares_group.proofs.Answers.{roomy}
 use Rattle.shares.proofs.TwoBuffers.{counts-length, route-written, both-unwritten, both-written}
 use Rattle.shares.proofs.shares_by_both_routes.Statement.{statement}
 use Rattle.shares.proofs.shares_by_both_routes.Tie as tie
@@ -27,8 +30,8 @@ judge-requires c κs = search needs
 enum-known-judged : tie.Need-enum-known-judged
 enum-known-judged c = search needs
 
-enum-known-judged-2 : tie.Need-enum-known-judged-2
-enum-known-judged-2 c = search needs
+enum-told : tie.Need-enum-told
+enum-told c = search needs
 
 shares-by-sets-requires : tie.Need-shares-by-sets-requires
 shares-by-sets-requires c κs = search needs
@@ -50,7 +53,8 @@ returns c =
     let sized = roomed .before in
     let a = sized .before .before .args in
     both-unwritten (sharesRefusal (a .n) (now (a .table)) (a .group)) (groupCounts (a .n) (inTable (now (a .table))) (a .group)) (sized .size .result) (long sized)
-    (now (a .first)) (now (a .second)) (roomed .smaller .result) (roomed .smaller .ensures) _ (c .before .judged .given .1) (judged .judge .ensures)
+    (now (a .first)) (now (a .second)) (roomed .smaller .result) (roomed .smaller .ensures)
+    (sym (judged .judge .ensures) ∙ c .before .judged .given .1)
 
 same-length : tie.Need-same-length
 same-length c = search needs
@@ -63,22 +67,26 @@ returns-2 c =
     let later = c .before in
     let earlier = later .before .before .before in
     let told = earlier .before .before in
-    let judged = told .before .before .before in
+    let judged = told .before .before in
     let roomed = judged .before in
     let sized = roomed .before in
     let a = sized .before .before .args in
     let works = inTable (now (a .table)) in
     let refusal = sharesRefusal (a .n) (now (a .table)) (a .group) in
     let result = groupCounts (a .n) works (a .group) in
-    let room = roomy refusal (sized .size .result) (roomed .smaller .result) _ (told .before .judged2 .given .1) (judged .judge .ensures) in
-    let group = accepted-group (a .n) (now (a .table)) (a .group) (room .accepted) in
-    both-written refusal result (sized .size .result) (long sized) (now (a .first)) (now (a .second)) (roomed .smaller .result) (roomed .smaller .ensures) _ room _ _
-    (route-written refusal result (sized .size .result) (long sized) (sharesBySets (a .n) works (a .group)) (now (a .first)) _ (earlier .shares-by-sets .result)
-    (by-sets-counts (a .n) works (group .coherent) (a .group) (group .within)) (room .accepted)
-    (omega (arith, room .fits, roomed .smaller .ensures)) (earlier .shares-by-sets .ensures))
-    (route-written refusal result (sized .size .result) (long sized) (sharesByReliability (a .n) works (a .group)) (now (a .second)) _ (later .shares-by-reliability .result)
-    (by-reliability-counts (a .n) works (group .coherent) (a .group) (group .within)) (room .accepted)
-    (omega (arith, room .fits, roomed .smaller .ensures)) (later .shares-by-reliability .ensures))
+    let needed = sized .size .result in
+    let lent = roomed .smaller .result in
+    let passed : andThen refusal (room needed lent) ≡ Accepted = sym (judged .judge .ensures) ∙ told .enum-told .given .1 in
+    let checked = then-accepted refusal (room needed lent) passed in
+    let fits : needed ≤ lent = room-accepted needed lent (checked .1) in
+    let group = accepted-group (a .n) (now (a .table)) (a .group) (checked .0) in
+    both-written refusal result needed (long sized) (now (a .first)) (now (a .second)) lent (roomed .smaller .ensures) passed _ _
+    (route-written refusal result needed (long sized) (sharesBySets (a .n) works (a .group)) (now (a .first)) _ (earlier .shares-by-sets .result)
+    (by-sets-counts (a .n) works (group .coherent) (a .group) (group .within)) (checked .0)
+    (omega (arith, roomed .smaller .ensures)) (earlier .shares-by-sets .ensures))
+    (route-written refusal result needed (long sized) (sharesByReliability (a .n) works (a .group)) (now (a .second)) _ (later .shares-by-reliability .result)
+    (by-reliability-counts (a .n) works (group .coherent) (a .group) (group .within)) (checked .0)
+    (omega (arith, roomed .smaller .ensures)) (later .shares-by-reliability .ensures))
 
 pub shares-by-both-routes-spec : {M : Type 1} → statement M
 shares-by-both-routes-spec =
@@ -88,7 +96,7 @@ shares-by-both-routes-spec =
     smaller-requires
     judge-requires
     enum-known-judged
-    enum-known-judged-2
+    enum-told
     shares-by-sets-requires
     shares-by-reliability-requires
     returns

@@ -1,22 +1,20 @@
 -- A result for a lent buffer: what a call delivers once its verdict and the cells it needs are known, and what an answer tells of the verdict
 -- and of the buffer. Assumes nothing.
 use mathlib.Core.Path.{_≡_, refl, sym, ap, _∙_, subst}
-use mathlib.Core.Bool.{Bool, true, false, cond}
 use mathlib.Core.List.{List, _++_}
 use Prim.Native.Nat.{ℕ, _+_, _≤_, _<_}
 use native.Mathlib.Omega.{arith}
-use borrow.Author.Tests.{le-leb}
-use lib.Dec.{leb}
 use lib.ListN.{length, take, drop, length-append}
 use lib.Seq.{take-append-seam, drop-append-seam, drop-append-add, drop-drop}
 use Rattle.answer.specs.Refusals.{shortBuffer}
-use Rattle.answer.specs.Outcome.{at, Outcome, outcome, delivered}
+use Rattle.answer.specs.Outcome.{at, andThen, room, Outcome, outcome, settled, delivered}
 use Rattle.answer.specs.declared.Refusal.{Refusal}
 use Rattle.answer.specs.declared.Verdict.{Verdict}
 use Rattle.answer.specs.declared.Verdict.the-variants.{Accepted}
 use Rattle.answer.specs.declared.Verdict.the-variants as verdict
+use Rattle.answer.specs.declared.Written.{Written}
 use Rattle.answer.specs.declared.Written.the-variants.{Length, Refused}
-use Rattle.answer.proofs.Outcomes.{InFront, in-front-delivered, short-delivered}
+use Rattle.answer.proofs.Outcomes.{then-accepted, then-passed, then-same, room-enough, room-accepted, settled-refused, settled-given, InFront, in-front-delivered, short-delivered}
 
 module _ {A : Type 0} (judged : Verdict) (result buffer : List A) where
   -- ---- what is delivered
@@ -39,6 +37,21 @@ module _ {A : Type 0} (judged : Verdict) (result buffer : List A) where
         (subst (λ (k : ℕ). k ≤ length buffer) long fits)
         ∙ ap (λ (v : Verdict). delivered v result buffer) (sym accepted)
 
+  -- where the number of cells needed is the result's length if nothing is refused before
+  module _ (needed : ℕ) (long : judged ≡ Accepted → needed ≡ length result) where
+    checks : andThen judged (room (length result) (length buffer)) ≡ andThen judged (room needed (length buffer))
+    checks = sym (then-same judged _ _ (λ h. ap (λ (k : ℕ). room k (length buffer)) (long h)))
+
+    pub checked-refused : {why : Refusal} → andThen judged (room needed (length buffer)) ≡ verdict.Refused why
+        → outcome (Refused why) buffer ≡ delivered judged result buffer
+    checked-refused h = settled-refused _ Refused buffer _ (checks ∙ h)
+
+    pub checked-whole : andThen judged (room needed (length buffer)) ≡ Accepted → (now : List A) → now ≡ result ++ drop needed buffer
+        → outcome (Length needed) now ≡ delivered judged result buffer
+    checked-whole h now written =
+        let accepted : judged ≡ Accepted = then-accepted judged _ h .0 in
+        delivered-whole accepted needed (long accepted) now written (room-accepted needed (length buffer) (then-accepted judged _ h .1))
+
   -- ---- what an answer tells
 
   -- a length: nothing was refused, and all of the result stands in front of the buffer
@@ -48,29 +61,34 @@ module _ {A : Type 0} (judged : Verdict) (result buffer : List A) where
     pub stands : now ≡ result ++ drop (length result) buffer
     pub front : take count now ≡ result
 
-  pub given : (now : List A) (count : ℕ) → outcome (Length count) now ≡ delivered judged result buffer → Given now count
-  given now count e = cases judged refl
-    where
-      choice : Bool → Outcome A
-      choice fits =
-          cond fits (outcome (Length (length result)) (result ++ drop (length result) buffer)) (outcome (Refused (at shortBuffer (length result))) buffer)
+  abbrev checked : Verdict
+  checked = andThen judged (room (length result) (length buffer))
 
-      whole : judged ≡ Accepted → (fits : Bool) → outcome (Length count) now ≡ choice fits → Given now count
-      whole accepted true is =
-          let counted : count ≡ length result = cc (ap (λ (o : Outcome A). o .answer) is) in
-          let stands : now ≡ result ++ drop (length result) buffer = ap (λ (o : Outcome A). o .buffer) is in
+  abbrev whole : Outcome Written (List A)
+  whole = outcome (Length (length result)) (result ++ drop (length result) buffer)
+
+  pub given : (now : List A) (count : ℕ) → outcome (Length count) now ≡ delivered judged result buffer → Given now count
+  given now count e = cases checked refl e
+    where
+      cases : (v : Verdict) → checked ≡ v → outcome (Length count) now ≡ settled v Refused buffer whole → Given now count
+      cases (verdict.Refused r) is said =
+          let clash : _≡_ {A = ℕ} 0 1 = cc (ap (λ (o : Outcome Written (List A)). o .answer) said) in absurd (omega arith)
+      cases Accepted is said =
+          let counted : count ≡ length result = cc (ap (λ (o : Outcome Written (List A)). o .answer) said) in
+          let stands : now ≡ result ++ drop (length result) buffer = ap (λ (o : Outcome Written (List A)). o .buffer) said in
           record {
-            accepted = accepted;
+            accepted = then-accepted judged _ is .0;
             counted = counted;
             stands = stands;
             front = rw (counted, stands) (take-append-seam result (drop (length result) buffer));
           }
-      whole accepted false is = let clash : _≡_ {A = ℕ} 0 1 = cc (ap (λ (o : Outcome A). o .answer) is) in absurd (omega arith)
 
-      cases : (v : Verdict) → judged ≡ v → Given now count
-      cases (verdict.Refused r) is =
-          let clash : _≡_ {A = ℕ} 0 1 = cc (ap (λ (o : Outcome A). o .answer) (e ∙ ap (λ (v : Verdict). delivered v result buffer) is)) in absurd (omega arith)
-      cases Accepted is = whole is (leb (length result) (length buffer)) (e ∙ ap (λ (v : Verdict). delivered v result buffer) is)
+  -- whatever the answer: where nothing is refused and the buffer is long enough, the result stands in front
+  pub delivered-front : {answer : Written} {now : List A} → judged ≡ Accepted → length result ≤ length buffer → outcome answer now ≡ delivered judged result buffer
+      → now ≡ result ++ drop (length result) buffer
+  delivered-front accepted fits e =
+      ap (λ (o : Outcome Written (List A)). o .buffer)
+      (e ∙ sym (settled-given checked Refused buffer whole (then-passed _ accepted ∙ room-enough (length result) (length buffer) fits)))
 
   -- a refusal where the buffer is long enough: the verdict's own
   pub refused-by : (now : List A) (why : Refusal) → (judged ≡ Accepted → length result ≤ length buffer) → outcome (Refused why) now ≡ delivered judged result buffer
@@ -78,11 +96,12 @@ module _ {A : Type 0} (judged : Verdict) (result buffer : List A) where
   refused-by now why fits e = cases judged refl
     where
       cases : (v : Verdict) → judged ≡ v → judged ≡ verdict.Refused why
-      cases (verdict.Refused r) is = is ∙ cc (ap (λ (o : Outcome A). o .answer) (e ∙ ap (λ (v : Verdict). delivered v result buffer) is))
+      cases (verdict.Refused r) is =
+          is ∙ cc (ap (λ (o : Outcome Written (List A)). o .answer) (e ∙ ap (λ (v : Verdict). delivered v result buffer) is))
       cases Accepted is =
-          let all : outcome (Refused why) now ≡ outcome (Length (length result)) (result ++ drop (length result) buffer) =
-          e ∙ ap (λ (v : Verdict). delivered v result buffer) is ∙ simp (le-leb (length result) (length buffer) (fits is)) in
-          let clash : _≡_ {A = ℕ} 0 1 = cc (ap (λ (o : Outcome A). o .answer) all) in absurd (omega arith)
+          let all : outcome (Refused why) now ≡ whole =
+          e ∙ sym (settled-given checked Refused buffer whole (then-passed _ is ∙ room-enough (length result) (length buffer) (fits is))) in
+          let clash : _≡_ {A = ℕ} 0 1 = cc (ap (λ (o : Outcome Written (List A)). o .answer) all) in absurd (omega arith)
 
 -- ---- a result in front of a buffer, and a longer one
 

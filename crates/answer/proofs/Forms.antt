@@ -8,7 +8,8 @@ use native.Mathlib.Omega.{arith}
 use lib.ListN.{length, take, drop, length-append, take-append-drop}
 use lib.Seq.{length-take-le, take-append-seam}
 use Rattle.answer.proofs.Outcomes.{InFront, in-front-length}
-use Rattle.answer.specs.Placed.{Placement, leaves, placed}
+use Rattle.answer.specs.Outcome.{Outcome, outcome}
+use Rattle.answer.specs.Placed.{placed}
 use Rattle.answer.proofs.Placing.{placed-fits, in-front-more}
 
 -- where two forms fit, the first does
@@ -31,24 +32,24 @@ module _ (buffer : List ℕ) (start : ℕ) where
     long : length (take start buffer ++ form) ≡ start + length form
     long = length-append (take start buffer) form ∙ ap (λ (k : ℕ). k + length form) (length-take-le start buffer inside)
 
-    front : (exit : List ℕ) (next : ℕ) → leaves next exit ≡ placed buffer start form → InFront buffer (take start buffer ++ form) exit next
+    front : (exit : List ℕ) (next : ℕ) → outcome next exit ≡ placed buffer start form → InFront buffer (take start buffer ++ form) exit next
     front exit next wrote = in-front-more (from-position inside) form exit next (omega (arith, long)) wrote
 
-    back : (exit : List ℕ) (next : ℕ) → InFront buffer (take start buffer ++ form) exit next → leaves next exit ≡ placed buffer start form
+    back : (exit : List ℕ) (next : ℕ) → InFront buffer (take start buffer ++ form) exit next → outcome next exit ≡ placed buffer start form
     back exit next whole =
-        ap₂ (λ (k : ℕ) (text : List ℕ). leaves k text) (whole .ends ∙ long) (whole .stands ∙ ap (λ (k : ℕ). take start buffer ++ form ++ drop k buffer) long)
+        ap₂ (λ (k : ℕ) (text : List ℕ). outcome k text) (whole .ends ∙ long) (whole .stands ∙ ap (λ (k : ℕ). take start buffer ++ form ++ drop k buffer) long)
         ∙ sym (placed-fits buffer start form fits)
 
     -- the position after it, and the length of the buffer
-    pub placed-next : (exit : List ℕ) (next : ℕ) → leaves next exit ≡ placed buffer start form → next ≡ start + length form
+    pub placed-next : (exit : List ℕ) (next : ℕ) → outcome next exit ≡ placed buffer start form → next ≡ start + length form
     placed-next exit next wrote = front exit next wrote .ends ∙ long
 
-    pub placed-length : (exit : List ℕ) (next : ℕ) → leaves next exit ≡ placed buffer start form → length exit ≡ length buffer
+    pub placed-length : (exit : List ℕ) (next : ℕ) → outcome next exit ≡ placed buffer start form → length exit ≡ length buffer
     placed-length exit next wrote = in-front-length buffer (take start buffer ++ form) exit next (front exit next wrote) (omega (arith, long))
 
   -- one form more, put where the one before it ends
   pub placed-more : (form entry : List ℕ) (position : ℕ) (more exit : List ℕ) (next : ℕ) → start + length (form ++ more) ≤ length buffer
-      → leaves position entry ≡ placed buffer start form → leaves next exit ≡ placed entry position more → leaves next exit ≡ placed buffer start (form ++ more)
+      → outcome position entry ≡ placed buffer start form → outcome next exit ≡ placed entry position more → outcome next exit ≡ placed buffer start (form ++ more)
   placed-more form entry position more exit next fits first second =
       let here = front form (first-fits start form more (length buffer) fits) entry position first in
       let whole : length (take start buffer ++ form ++ more) ≤ length buffer =
@@ -60,10 +61,10 @@ module _ (buffer : List ℕ) (start : ℕ) where
 pub record Wrote (buffer : List ℕ) (start : ℕ) (form : List ℕ) (most : ℕ) (exit : List ℕ) (next : ℕ) : Type 0 where
   pub short : length form ≤ most
   pub room : start + most ≤ length buffer
-  pub wrote : leaves next exit ≡ placed buffer start form
+  pub wrote : outcome next exit ≡ placed buffer start form
 
 pub wrote-first : (buffer : List ℕ) (start : ℕ) (form : List ℕ) (most : ℕ) (exit : List ℕ) (next : ℕ) → length form ≤ most → start + most ≤ length buffer
-    → leaves next exit ≡ placed buffer start form → Wrote buffer start form most exit next
+    → outcome next exit ≡ placed buffer start form → Wrote buffer start form most exit next
 wrote-first buffer start form most exit next short room e = record { short = short; room = room; wrote = e }
 
 -- nothing yet
@@ -72,13 +73,13 @@ wrote-none buffer start inside = record {
   short = omega arith;
   room = omega arith;
   wrote = sym (placed-fits buffer start [] (omega arith)
-      ∙ ap₂ (λ (k : ℕ) (text : List ℕ). leaves k text) (add-zero start)
+      ∙ ap₂ (λ (k : ℕ) (text : List ℕ). outcome k text) (add-zero start)
       (ap₂ (λ (front : List ℕ) (k : ℕ). front ++ drop k buffer) (append-nil (take start buffer)) (add-zero start) ∙ take-append-drop start buffer));
 }
 
 module _ {buffer : List ℕ} {start : ℕ} {form : List ℕ} {most : ℕ} {entry : List ℕ} {position : ℕ} (before : Wrote buffer start form most entry position) where
   pub wrote-more : (more : List ℕ) (again : ℕ) (exit : List ℕ) (next : ℕ) → length more ≤ again → start + (most + again) ≤ length buffer
-      → leaves next exit ≡ placed entry position more → Wrote buffer start (form ++ more) (most + again) exit next
+      → outcome next exit ≡ placed entry position more → Wrote buffer start (form ++ more) (most + again) exit next
   wrote-more more again exit next short room e =
       let both : length (form ++ more) ≤ most + again = omega (arith, length-append form more, before .short) in
       record {
@@ -111,8 +112,8 @@ module _ {buffer : List ℕ} {start : ℕ} {form : List ℕ} {most : ℕ} {entry
 module _ {buffer form : List ℕ} {most : ℕ} {exit : List ℕ} {next : ℕ} (whole : Wrote buffer 0 form most exit next) where
   pub wrote-front : take next exit ≡ form
   wrote-front =
-      let all : leaves next exit ≡ leaves (0 + length form) (form ++ drop (0 + length form) buffer) = whole .wrote ∙ placed-fits buffer 0 form (wrote-fits whole) in
-      ap₂ (λ (k : ℕ) (text : List ℕ). take k text) (ap (λ (l : Placement). l .next) all ∙ zero-add (length form)) (ap (λ (l : Placement). l .buffer) all)
+      let all : outcome next exit ≡ outcome (0 + length form) (form ++ drop (0 + length form) buffer) = whole .wrote ∙ placed-fits buffer 0 form (wrote-fits whole) in
+      ap₂ (λ (k : ℕ) (text : List ℕ). take k text) (ap (λ (l : Outcome ℕ (List ℕ)). l .answer) all ∙ zero-add (length form)) (ap (λ (l : Outcome ℕ (List ℕ)). l .buffer) all)
       ∙ take-append-seam form (drop (0 + length form) buffer)
 
   pub wrote-inside : next ≤ length exit

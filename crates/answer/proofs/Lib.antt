@@ -1,5 +1,6 @@
 pub mod Outcomes
 pub mod Deliveries
+pub mod Handing
 pub mod FixedCells
 pub mod Placing
 pub mod Forms

@@ -7,11 +7,13 @@ use Prim.Native.Nat.{ℕ, suc, _+_, _≤_, _<_}
 use native.Mathlib.Nat.{add-sub-of-le}
 use native.Mathlib.Numerals.{add-one}
 use native.Mathlib.Omega.{arith}
-use borrow.Author.Tests.{le-leb, lt-leb}
+use borrow.Author.Tests.{le-ltb, lt-ltb, ltb-false}
+use lib.Dec.{ltb}
 use lib.ListN.{length, getD, drop, set, length-append, length-drop}
 use lib.Seq.{drop-cons, set-append-seam, append-snoc}
 use Rattle.answer.specs.Refusals.{shortBuffer}
-use Rattle.answer.specs.Outcome.{at, refuse, andThen, outcome, delivered}
+use Rattle.answer.specs.Outcome.{at, refuse, andThen, room, Outcome, outcome, settled, delivered}
+use Rattle.answer.specs.declared.Refusal.{Refusal}
 use Rattle.answer.specs.declared.Verdict.{Verdict}
 use Rattle.answer.specs.declared.Verdict.the-variants.{Accepted}
 use Rattle.answer.specs.declared.Verdict.the-variants as verdict
@@ -32,6 +34,39 @@ refuse-held test number place later h = ap (λ (t : Bool). refuse t number place
 pub then-accepted : (first later : Verdict) → andThen first later ≡ Accepted → (first ≡ Accepted) × (later ≡ Accepted)
 then-accepted (verdict.Refused refusal) later h = absurd (let wrong : _≡_ {A = ℕ} 0 1 = cc in omega arith)
 then-accepted Accepted later h = (refl, h)
+
+pub then-passed : {first : Verdict} (later : Verdict) → first ≡ Accepted → andThen first later ≡ later
+then-passed later h = ap (λ (v : Verdict). andThen v later) h
+
+pub then-refused : {first : Verdict} (later : Verdict) {why : Refusal} → first ≡ verdict.Refused why → andThen first later ≡ verdict.Refused why
+then-refused later h = ap (λ (v : Verdict). andThen v later) h
+
+-- what comes later matters only where the first accepts
+pub then-same : (first later other : Verdict) → (first ≡ Accepted → later ≡ other) → andThen first later ≡ andThen first other
+then-same (verdict.Refused why) later other same = refl
+then-same Accepted later other same = same refl
+
+-- ---- the room that is lent
+
+pub room-enough : (needed lent : ℕ) → needed ≤ lent → room needed lent ≡ Accepted
+room-enough needed lent h = refuse-passed (ltb lent needed) shortBuffer needed Accepted (le-ltb lent needed h)
+
+pub room-short : (needed lent : ℕ) → lent < needed → room needed lent ≡ verdict.Refused (at shortBuffer needed)
+room-short needed lent h = refuse-held (ltb lent needed) shortBuffer needed Accepted (lt-ltb lent needed h)
+
+pub room-accepted : (needed lent : ℕ) → room needed lent ≡ Accepted → needed ≤ lent
+room-accepted needed lent h = ltb-false lent needed (refuse-accepted (ltb lent needed) shortBuffer needed Accepted h .0)
+
+-- ---- what is settled
+
+module _ {A B : Type 0} (judged : Verdict) (refusing : Refusal → A) (buffer : B) (given : Outcome A B) where
+  pub settled-refused : {why : Refusal} → judged ≡ verdict.Refused why → outcome (refusing why) buffer ≡ settled judged refusing buffer given
+  settled-refused h = ap (λ (v : Verdict). settled v refusing buffer given) (sym h)
+
+  pub settled-given : judged ≡ Accepted → given ≡ settled judged refusing buffer given
+  settled-given h = ap (λ (v : Verdict). settled v refusing buffer given) (sym h)
+
+-- ---- a result in front of a buffer
 
 -- A result stands in front of a lent buffer, all else is as it was, and the next cell is behind it.
 pub record InFront {A : Type 0} (buffer result now : List A) (next : ℕ) : Type 0 where
@@ -66,8 +101,9 @@ module _ {A : Type 0} (buffer : List A) where
   pub in-front-delivered : (result now : List A) (next : ℕ) → InFront buffer result now next → length result ≤ length buffer
       → outcome (Length next) now ≡ delivered Accepted result buffer
   in-front-delivered result now next whole fits =
-      simp (le-leb (length result) (length buffer) fits) (ap₂ (λ (n : ℕ) (b : List A). outcome (Length n) b) (whole .ends) (whole .stands))
+      ap₂ (λ (n : ℕ) (b : List A). outcome (Length n) b) (whole .ends) (whole .stands)
+      ∙ settled-given _ Refused buffer _ (room-enough (length result) (length buffer) fits)
 
   -- a result that does not fit is not delivered
   pub short-delivered : (result : List A) → length buffer < length result → outcome (Refused (at shortBuffer (length result))) buffer ≡ delivered Accepted result buffer
-  short-delivered result short = simp (lt-leb (length result) (length buffer) short)
+  short-delivered result short = settled-refused _ Refused buffer _ (room-short (length result) (length buffer) short)

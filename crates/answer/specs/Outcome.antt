@@ -1,8 +1,8 @@
--- What a call answers and what it leaves in a lent buffer, on every input.
-use mathlib.Core.Bool.{Bool, true, false, cond}
+-- What a call answers and what it leaves in the buffers lent to it, on every input.
+use mathlib.Core.Bool.{Bool, true, false}
 use mathlib.Core.List.{List, _++_}
 use Prim.Native.Nat.{ℕ}
-use lib.Dec.{leb}
+use lib.Dec.{ltb}
 use lib.ListN.{length, drop}
 use Rattle.answer.specs.Refusals.{shortBuffer}
 use Rattle.answer.specs.declared.Refusal.{Refusal}
@@ -26,19 +26,32 @@ abbrev pub andThen : Verdict → Verdict → Verdict
 andThen (verdict.Refused r) later = verdict.Refused r
 andThen verdict.Accepted later = later
 
--- what a call leaves behind: its answer, and the lent buffer afterwards
-pub record Outcome (A : Type 0) : Type 0 where
-  pub answer : Written
-  pub buffer : List A
+-- 11 where the length lent is shorter than needed, with the length needed
+abbrev pub room : ℕ → ℕ → Verdict
+room needed lent = refuse (ltb lent needed) shortBuffer needed verdict.Accepted
 
-abbrev pub outcome : {A : Type 0} → Written → List A → Outcome A
+-- a result in front of a buffer, and the rest as it was
+abbrev pub front : {A : Type 0} → List A → List A → List A
+front result buffer = result ++ drop (length result) buffer
+
+-- what a call leaves behind: its answer, and the lent buffer afterwards, or the record of the lent buffers
+pub record Outcome (A B : Type 0) : Type 0 where
+  pub answer : A
+  pub buffer : B
+
+abbrev pub outcome : {A B : Type 0} → A → B → Outcome A B
 outcome answer buffer = record { answer = answer; buffer = buffer }
 
--- A result for a lent buffer. Refused: the buffer as it was. Accepted, and the buffer is long enough: the result in front, the rest as
--- it was, and the result's length as the answer. Accepted, and the buffer is short: 11 with the length needed, and the buffer as it was.
-abbrev pub delivered : {A : Type 0} → Verdict → List A → List A → Outcome A
-delivered (verdict.Refused r) result buffer = outcome (written.Refused r) buffer
-delivered verdict.Accepted result buffer =
-    cond (leb (length result) (length buffer))
-    (outcome (written.Length (length result)) (result ++ drop (length result) buffer))
-    (outcome (written.Refused (at shortBuffer (length result))) buffer)
+-- the same with its answer told in another form
+abbrev pub retold : {A B C : Type 0} → (A → C) → Outcome A B → Outcome C B
+retold form o = outcome (form (o .answer)) (o .buffer)
+
+-- What a call leaves once all its checks are made. Refused: the refusal as its answer, and the buffers as they were. Accepted: what is given.
+abbrev pub settled : {A B : Type 0} → Verdict → (Refusal → A) → B → Outcome A B → Outcome A B
+settled (verdict.Refused r) refusing buffer given = outcome (refusing r) buffer
+settled verdict.Accepted refusing buffer given = given
+
+-- A result for a lent buffer: 11 is asked after all else, and what is given is the result in front, with its length as the answer.
+abbrev pub delivered : {A : Type 0} → Verdict → List A → List A → Outcome Written (List A)
+delivered refusal result buffer =
+    settled (andThen refusal (room (length result) (length buffer))) written.Refused buffer (outcome (written.Length (length result)) (front result buffer))

@@ -1,7 +1,7 @@
 // What every entry point answers: given, or refused by one of 01's numbers at a place.
 ghost use mathlib.Core.Path.{_≡_};
 ghost use Rattle.answer.specs.Refusals.{shortBuffer};
-ghost use Rattle.answer.specs.Outcome.{at};
+ghost use Rattle.answer.specs.Outcome.{at, room as roomFor, outcome, delivered};
 
 // A refusal of 01: its number and the place that it reports.
 pub struct Refusal {
@@ -93,4 +93,53 @@ pub fn short(needed: usize) -> Written
     ensures { λ r. ⌜ r ≡ Written.Refused (at shortBuffer needed) ⌝ }
 {
     unwritten(SHORT_BUFFER, needed)
+}
+
+// Whether as many cells are lent as are needed.
+pub fn room(needed: usize, lent: usize) -> Verdict
+    ensures { λ r. ⌜ r ≡ roomFor needed lent ⌝ }
+{
+    if lent < needed {
+        return refused(SHORT_BUFFER, needed);
+    }
+    Verdict::Accepted
+}
+
+// Hands bytes out into a lent buffer.
+pub fn hand_out_bytes(bytes: &[u8], buffer: &mut [u8]) -> Written
+    ensures { λ r. ⌜ outcome r (now (buffer .exit)) ≡ delivered Verdict.Accepted (now (bytes .entry)) (now (buffer .entry)) ⌝ }
+{
+    if buffer.len() < bytes.len() {
+        return short(bytes.len());
+    }
+    for i in 0..bytes.len() {
+        buffer[i] = bytes[i];
+    }
+    Written::Length(bytes.len())
+}
+
+// Hands entries out into a lent buffer.
+pub fn hand_out_entries(entries: &[i64], buffer: &mut [i64]) -> Written
+    ensures { λ r. ⌜ outcome r (now (buffer .exit)) ≡ delivered Verdict.Accepted (now (entries .entry)) (now (buffer .entry)) ⌝ }
+{
+    if buffer.len() < entries.len() {
+        return short(entries.len());
+    }
+    for i in 0..entries.len() {
+        buffer[i] = entries[i];
+    }
+    Written::Length(entries.len())
+}
+
+// Hands counts out into a lent buffer.
+pub fn hand_out_counts(counts: &[u64], buffer: &mut [u64]) -> Written
+    ensures { λ r. ⌜ outcome r (now (buffer .exit)) ≡ delivered Verdict.Accepted (now (counts .entry)) (now (buffer .entry)) ⌝ }
+{
+    if buffer.len() < counts.len() {
+        return short(counts.len());
+    }
+    for i in 0..counts.len() {
+        buffer[i] = counts[i];
+    }
+    Written::Length(counts.len())
 }

@@ -112,7 +112,7 @@ read-exactly field v front rest = (
 )
 
 -- what was written into a buffer is read back from it
-pub read-placed : (field : Field) (v : ℕ) (buffer : List ℕ) (start : ℕ) → v ≤ top field → start + length (bytesOf v) ≤ length buffer → numberAt (placed buffer start (bytesOf v) .buffer) start field ≡ Number v (placed buffer start (bytesOf v) .next)
+pub read-placed : (field : Field) (v : ℕ) (buffer : List ℕ) (start : ℕ) → v ≤ top field → start + length (bytesOf v) ≤ length buffer → numberAt (placed buffer start (bytesOf v) .buffer) start field ≡ Number v (placed buffer start (bytesOf v) .answer)
 read-placed field v buffer start h fits =
     let n : length (take start buffer) ≡ start = length-take-le start buffer (omega arith) in
     rw (placed-fits buffer start (bytesOf v) fits)

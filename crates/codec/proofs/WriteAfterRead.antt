@@ -18,7 +18,8 @@ use Rattle.codec.specs.declared.Field.{Field}
 use Rattle.codec.specs.declared.Reading.{Reading}
 use Rattle.codec.specs.declared.Reading.the-variants.{Number}
 use Rattle.codec.specs.Fields.{groups, top}
-use Rattle.answer.specs.Placed.{placed, leaves}
+use Rattle.answer.specs.Outcome.{outcome}
+use Rattle.answer.specs.Placed.{placed}
 use Rattle.codec.specs.ByteForm.{bytesOf}
 use Rattle.codec.specs.Reading.{carried, valueOf, least, check, refused, numberIn, numberAt}
 use Rattle.codec.proofs.ByteForms.{bytes-small, bytes-large}
@@ -120,7 +121,7 @@ read-form bytes start field v next small e =
     }
 
 -- writing a number back to where it was read changes nothing, and ends where the reading ended
-pub write-read : (bytes : List ℕ) (start : ℕ) (field : Field) (v next : ℕ) → Bytes bytes → numberAt bytes start field ≡ Number v next → placed bytes start (bytesOf v) ≡ leaves next bytes
+pub write-read : (bytes : List ℕ) (start : ℕ) (field : Field) (v next : ℕ) → Bytes bytes → numberAt bytes start field ≡ Number v next → placed bytes start (bytesOf v) ≡ outcome next bytes
 write-read bytes start field v next small e =
     let r = read-form bytes start field v next small e in
     let n : start + length (bytesOf v) ≡ next = sym (r .position) in

@@ -4,7 +4,8 @@ ghost use Prim.Native.Nat.{_+_, _≤_};
 ghost use lib.ListN.{length};
 ghost use lib.Seq.{sets};
 ghost use Rattle.codec.specs.Fields.{groups, top};
-ghost use Rattle.answer.specs.Placed.{placed, leaves};
+ghost use Rattle.answer.specs.Outcome.{outcome};
+ghost use Rattle.answer.specs.Placed.{placed};
 ghost use Rattle.codec.specs.ByteForm.{bytesOf};
 ghost use Rattle.codec.specs.Reading.{numberAt, ended, refused};
 use answer::Refusal;
@@ -87,7 +88,7 @@ pub fn number_length(value: u64) -> usize
 // Writes a number at a position of a lent buffer and answers the position after it. Where it does not fit, the buffer stays as it was
 // and the answer is the position itself.
 pub fn write_number(buffer: &mut [u8], at: usize, value: u64) -> usize
-    ensures { λ r. ⌜ leaves r (now (buffer .exit)) ≡ placed (now (buffer .entry)) at (bytesOf value) ⌝ }
+    ensures { λ r. ⌜ outcome r (now (buffer .exit)) ≡ placed (now (buffer .entry)) at (bytesOf value) ⌝ }
 {
     if buffer.len() < at {
         return at;

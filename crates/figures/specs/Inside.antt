@@ -1,10 +1,9 @@
 -- What the private functions do: a reader of the promises may pass this file over.
-use mathlib.Core.Bool.{Bool}
-use mathlib.Core.List.{List, _++_}
+use mathlib.Core.List.{List}
 use mathlib.Core.Path.{_≡_}
 use Prim.Native.Nat.{ℕ, suc, _+_, _-_, _*_, _≤_, _<_}
 use lib.IntN.{ℤ, pos}
-use lib.ListN.{length, getD, drop}
+use lib.ListN.{length, getD}
 use Rattle.answer.specs.Outcome.{andThen}
 use Rattle.answer.specs.declared.Verdict.{Verdict}
 use Rattle.numbers.specs.Counts.{factorial}
@@ -14,9 +13,8 @@ use Rattle.theory_sets.specs.Tables.{inTable}
 use Rattle.theory_orders.specs.Formulas.{pathCount}
 use Rattle.structure_words.specs.Words.{inWords, wordsOf}
 use Rattle.structure.specs.Checks.{tableRefusal}
-use Rattle.theory_figures.specs.Figures.{pathCounts, signatures, dominations, importances}
 use Rattle.figures_counts.specs.Rows.{rowsOf, row}
-use Rattle.figures.specs.All.{Buffers, buffersOf, roomRefusal}
+use Rattle.figures.specs.All.{roomRefusal}
 
 -- ---- counts
 
@@ -71,9 +69,3 @@ pub record Rows (n : ℕ) (rows : List ℕ) : Type 0 where
 abbrev pub figuresRefusal : ℕ → List ℕ → ℕ → ℕ → ℕ → ℕ → Verdict
 figuresRefusal n table counts signature domination importance =
     andThen (tableRefusal n table) (roomRefusal n counts signature domination importance)
-
--- each result in front of its buffer, and the rest as it was
-abbrev pub allWritten : ℕ → (ℕ → Bool) → Buffers → Buffers
-allWritten n works buffers =
-    buffersOf (pathCounts n works ++ drop (n + 1) (buffers .counts)) (signatures n works ++ drop n (buffers .signature))
-    (dominations n works ++ drop (n + 1) (buffers .domination)) (importances n works ++ drop n (buffers .importance))

@@ -3,18 +3,17 @@ use answer::Verdict;
 use answer::Written;
 use vector_kind::Kind;
 ghost use mathlib.Core.Path.{_≡_};
-ghost use mathlib.Core.List.{_++_};
 ghost use Prim.Native.Nat.{_+_, _≤_, _<_};
-ghost use lib.ListN.{length, drop};
+ghost use lib.ListN.{length, replicate};
 ghost use Rattle.numbers.specs.Tables.{tabulate, NoneOver};
 ghost use Rattle.theory_sets.specs.Tables.{inTable};
-ghost use Rattle.answer.specs.Outcome.{outcome, delivered};
+ghost use Rattle.answer.specs.Outcome.{front, outcome, delivered};
 ghost use Rattle.answer.specs.declared.Verdict.the-variants.{Accepted};
 ghost use Rattle.structure.specs.Checks.{tableRefusal};
 ghost use Rattle.theory_figures.specs.Figures.{pathCounts, tails, signatures, dominations, importances};
 ghost use Rattle.vector_conversion.specs.Vectors.{vectorRefusal, converted, figuresOf};
-ghost use Rattle.figures.specs.All.{buffersOf, roomRefusal, allOutcome, allFigures};
-ghost use Rattle.figures.specs.Inside.{partWeight as waysOf, addedSets, takenSets, Parted, importanceBy, Rows, entriesOf, sizedIn, rowsIn, figuresRefusal, allWritten};
+ghost use Rattle.figures.specs.All.{buffersOf, roomRefusal, allInFront, allFigures};
+ghost use Rattle.figures.specs.Inside.{partWeight as waysOf, addedSets, takenSets, Parted, importanceBy, Rows, entriesOf, sizedIn, rowsIn, figuresRefusal};
 
 // The path counts φ(0) to φ(n), into a lent buffer.
 pub fn path_counts(n: usize, table: &[u8], cells: &mut [i64]) -> Written
@@ -52,12 +51,9 @@ pub fn importance(n: usize, table: &[u8], cells: &mut [u64]) -> Written
     match checked {
         Verdict::Refused(refusal) => Written::Refused(refusal),
         Verdict::Accepted => {
-            if cells.len() < n {
-                return answer::short(n);
-            }
             let rows = rows_of(table);
-            write_importance(n, &rows, cells);
-            Written::Length(n)
+            let made = part_importances(n, &rows);
+            answer::hand_out_counts(&made[..n], cells)
         }
     }
 }
@@ -72,7 +68,7 @@ pub fn figures(
     domination: &mut [i64],
     importance: &mut [u64],
 ) -> Verdict
-    ensures { λ r. ⌜ allOutcome r (buffersOf (now (counts .exit)) (now (signature .exit)) (now (domination .exit)) (now (importance .exit))) ≡ allFigures n (now (table .entry)) (buffersOf (now (counts .entry)) (now (signature .entry)) (now (domination .entry)) (now (importance .entry))) ⌝ }
+    ensures { λ r. ⌜ outcome r (buffersOf (now (counts .exit)) (now (signature .exit)) (now (domination .exit)) (now (importance .exit))) ≡ allFigures n (now (table .entry)) (buffersOf (now (counts .entry)) (now (signature .entry)) (now (domination .entry)) (now (importance .entry))) ⌝ }
 {
     let verdict = figures_verdict(
         n,
@@ -188,12 +184,13 @@ fn write_figures(
     importance: &mut [u64],
 )
     requires { ⌜ figuresRefusal n (now table) (length (now counts)) (length (now signature)) (length (now domination)) (length (now importance)) ≡ Accepted ⌝ }
-    ensures { λ _. ⌜ buffersOf (now (counts .exit)) (now (signature .exit)) (now (domination .exit)) (now (importance .exit)) ≡ allWritten n (inTable (now (table .entry))) (buffersOf (now (counts .entry)) (now (signature .entry)) (now (domination .entry)) (now (importance .entry))) ⌝ }
+    ensures { λ _. ⌜ buffersOf (now (counts .exit)) (now (signature .exit)) (now (domination .exit)) (now (importance .exit)) ≡ allInFront n (inTable (now (table .entry))) (buffersOf (now (counts .entry)) (now (signature .entry)) (now (domination .entry)) (now (importance .entry))) ⌝ }
 {
     let rows = rows_of(table);
     let entries = signed(&rows[272..289]);
     write_vectors(n, &entries[..n + 1], counts, signature, domination);
-    write_importance(n, &rows, importance);
+    let made = part_importances(n, &rows);
+    answer::hand_out_counts(&made[..n], importance);
 }
 
 // Writes the path counts, the signature and the domination by the path counts as entries.
@@ -208,9 +205,9 @@ fn write_vectors(
     requires { ⌜ n + 1 ≤ length (now counts) ⌝ }
     requires { ⌜ n ≤ length (now signature) ⌝ }
     requires { ⌜ n + 1 ≤ length (now domination) ⌝ }
-    ensures { λ _. ⌜ now (counts .exit) ≡ converted Kind.PathCounts Kind.PathCounts n (now (entries .entry)) ++ drop (n + 1) (now (counts .entry)) ⌝ }
-    ensures { λ _. ⌜ now (signature .exit) ≡ converted Kind.Signature Kind.PathCounts n (now (entries .entry)) ++ drop n (now (signature .entry)) ⌝ }
-    ensures { λ _. ⌜ now (domination .exit) ≡ converted Kind.Domination Kind.PathCounts n (now (entries .entry)) ++ drop (n + 1) (now (domination .entry)) ⌝ }
+    ensures { λ _. ⌜ now (counts .exit) ≡ front (converted Kind.PathCounts Kind.PathCounts n (now (entries .entry))) (now (counts .entry)) ⌝ }
+    ensures { λ _. ⌜ now (signature .exit) ≡ front (converted Kind.Signature Kind.PathCounts n (now (entries .entry))) (now (signature .entry)) ⌝ }
+    ensures { λ _. ⌜ now (domination .exit) ≡ front (converted Kind.Domination Kind.PathCounts n (now (entries .entry))) (now (domination .entry)) ⌝ }
 {
     vector_conversion::convert(Kind::PathCounts, n, entries, Kind::PathCounts, counts);
     vector_conversion::convert(Kind::PathCounts, n, entries, Kind::Signature, signature);
@@ -241,15 +238,16 @@ fn part_importance(n: usize, counts: &[u64], with: &[u64]) -> u64
     added - taken
 }
 
-// Writes the importances of all parts by the rows of counts.
-fn write_importance(n: usize, rows: &[u64], cells: &mut [u64])
+// The importances of all parts by the rows of counts, from the front.
+fn part_importances(n: usize, rows: &[u64]) -> [u64; 16]
     requires { ⌜ Rows n (now rows) ⌝ }
-    requires { ⌜ n ≤ length (now cells) ⌝ }
-    ensures { λ _. ⌜ now (cells .exit) ≡ tabulate n (importanceBy n (now (rows .entry))) ++ drop n (now (cells .entry)) ⌝ }
+    ensures { λ r. ⌜ r ≡ front (tabulate n (importanceBy n (now (rows .entry)))) (replicate 16 0) ⌝ }
 {
+    let mut cells = [0u64; 16];
     for i in 0..n {
         let start = 17 * i;
         let end = start + 17;
         cells[i] = part_importance(n, &rows[272..289], &rows[start..end]);
     }
+    cells
 }

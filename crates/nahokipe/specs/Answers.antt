@@ -1,15 +1,9 @@
--- What a host is handed: number 0 where the call is given, with the length written; else the refusal's number, with its place.
-use mathlib.Core.List.{List}
-use mathlib.Core.Path.{_≡_}
+-- What a host is handed. A call leaves what the function behind it leaves, with its answer told in this form: number 0 where the call is given, with the length written; else the refusal's number, with its place.
 use Prim.Native.Nat.{ℕ, _-_}
-use Rattle.answer.specs.Outcome.{Outcome}
 use Rattle.answer.specs.declared.Verdict.{Verdict}
 use Rattle.answer.specs.declared.Verdict.the-variants as verdict
 use Rattle.answer.specs.declared.Written.{Written}
 use Rattle.answer.specs.declared.Written.the-variants as written
-use lib.IntN.{ℤ}
-use Rattle.figures.specs.All.{Buffers, AllOutcome}
-use Rattle.shares.specs.Both.{BothOutcome}
 use Rattle.record.specs.declared.Contents.{Contents}
 use Rattle.record.specs.declared.Step.{Step}
 use Rattle.record.specs.declared.Step.the-variants as step
@@ -17,8 +11,6 @@ use Rattle.nahokipe.specs.declared.Answer.{Answer}
 use Rattle.nahokipe.specs.declared.Record.{Record}
 use Rattle.vector_kind.specs.Kinds.{kindNumber}
 use Rattle.sheet_entries.specs.declared.EntriesRead.{EntriesRead}
-use Rattle.sheet_entries.specs.Answers.{EntriesOutcome}
-use Rattle.report_text.specs.Reporting.{ReportOutcome}
 use Rattle.nahokipe.specs.declared.NextSet.{NextSet}
 use Rattle.nahokipe.specs.declared.Sheet.{Sheet}
 
@@ -32,22 +24,6 @@ ofVerdict (verdict.Refused r) = answer (r .number) (r .place)
 abbrev pub ofWritten : Written → Answer
 ofWritten (written.Length n) = answer 0 n
 ofWritten (written.Refused r) = answer (r .number) (r .place)
-
--- a call hands out the answer of an outcome, and leaves its buffer
-pub record Leaves {A : Type 0} (o : Outcome A) (handed : Answer) (buffer : List A) : Type 0 where
-  pub answered : handed ≡ ofWritten (o .answer)
-  pub left : buffer ≡ o .buffer
-
--- the same of the call with four buffers
-pub record LeavesAll (o : AllOutcome) (handed : Answer) (buffers : Buffers) : Type 0 where
-  pub answered : handed ≡ ofVerdict (o .answer)
-  pub left : buffers ≡ o .buffers
-
--- and of the call with two
-pub record LeavesBoth (o : BothOutcome) (handed : Answer) (first second : List ℤ) : Type 0 where
-  pub answered : handed ≡ ofWritten (o .answer)
-  pub left : first ≡ o .first
-  pub left-second : second ≡ o .second
 
 -- what reading a record hands out: the refusal, or 0; the part list; the sets; the stretch of their bytes as offset and length
 abbrev pub ofContents : Contents → Record
@@ -70,20 +46,10 @@ ofStep (step.Set set cursor) = record { given = 1; set = set; next = cursor .nex
 
 -- what reading a sheet hands out: the refusal, or 0 and how many entries were written; the kind's number and n
 abbrev pub ofEntriesRead : EntriesRead → Sheet
-ofEntriesRead entriesDelivered =
+ofEntriesRead read =
     record {
-      number = ofWritten (entriesDelivered .answer) .number;
-      value = ofWritten (entriesDelivered .answer) .value;
-      kind = kindNumber (entriesDelivered .kind);
-      n = entriesDelivered .n;
+      number = ofWritten (read .answer) .number;
+      value = ofWritten (read .answer) .value;
+      kind = kindNumber (read .kind);
+      n = read .n;
     }
-
-pub record LeavesSheet (o : EntriesOutcome) (handed : Sheet) (cells : List ℤ) : Type 0 where
-  pub answered : handed ≡ ofEntriesRead (o .answer)
-  pub left : cells ≡ o .cells
-
--- what making a report hands out, and leaves in its two buffers
-pub record LeavesReport (o : ReportOutcome) (handed : Answer) (table text : List ℕ) : Type 0 where
-  pub answered : handed ≡ ofWritten (o .answer)
-  pub left-table : table ≡ o .table
-  pub left-text : text ≡ o .text

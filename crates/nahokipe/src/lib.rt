@@ -6,7 +6,7 @@ use record::Cursor;
 use record::Step;
 use sheet_entries::EntriesRead;
 ghost use mathlib.Core.Path.{_≡_};
-ghost use Rattle.answer.specs.Outcome.{delivered};
+ghost use Rattle.answer.specs.Outcome.{at, outcome, retold, delivered};
 ghost use Rattle.theory_sets.specs.Structures.{listed, minimalSets};
 ghost use Rattle.theory_sets.specs.Tables.{inTable, tableOf};
 ghost use Rattle.structure.specs.Checks.{listRefusal, tableRefusal};
@@ -16,19 +16,18 @@ ghost use Rattle.shares_claim.specs.Refusals.{sharesRefusal};
 ghost use Rattle.shares_claim.specs.SetBySet.{sharesBySets};
 ghost use Rattle.shares_claim.specs.Reliability.{sharesByReliability, reliabilityCells};
 ghost use Rattle.shares_claim.specs.Claim.{groupCounts};
-ghost use Rattle.shares.specs.Both.{bothDelivered};
+ghost use Rattle.shares.specs.Both.{both, bothDelivered};
 ghost use Rattle.vector_kind.specs.Kinds.{kindOf, kindRefusal};
 ghost use Rattle.vector_conversion.specs.Vectors.{vectorRefusal, converted};
 ghost use Rattle.record.specs.Contents.{wholeContents, contentsAt, cursor, stepAt, recordRefusal, designIn};
-ghost use Rattle.answer.specs.Outcome.{at};
 ghost use Rattle.record_lines.specs.Changes.{addPart, takeOut, addSet};
 ghost use Rattle.record_lines.specs.Records.{firstRecord, changedRecord};
 ghost use Rattle.sheet.specs.Sheets.{sheetBytes, sheetOf};
 ghost use Rattle.sheet_entries.specs.Answers.{entriesDelivered};
 ghost use Rattle.report_lines.specs.Lines.{refusedLine};
-ghost use Rattle.report_text.specs.Reporting.{reported};
+ghost use Rattle.report_text.specs.Reporting.{reportBuffers, reported};
 ghost use Prim.Native.Nat.{_-_};
-ghost use Rattle.nahokipe.specs.Answers.{ofVerdict, ofWritten, ofContents, ofStep, ofEntriesRead, Leaves, LeavesAll, LeavesBoth, LeavesSheet, LeavesReport};
+ghost use Rattle.nahokipe.specs.Answers.{ofVerdict, ofWritten, ofContents, ofStep, ofEntriesRead};
 
 // What a host is handed: number 0 and the length written, or a refusal's number and place.
 #[repr(C)]
@@ -88,7 +87,7 @@ pub extern "C" fn nahokipe_table_verdict(n: usize, table: &[u8]) -> Answer
 // The table of a list of sets.
 #[no_mangle]
 pub extern "C" fn nahokipe_table_of_list(n: usize, list: &[u16], table: &mut [u8]) -> Answer
-    ensures { λ r. ⌜ Leaves (delivered (listRefusal n (now (list .entry))) (tableOf n (listed (now (list .entry)))) (now (table .entry))) r (now (table .exit)) ⌝ }
+    ensures { λ r. ⌜ outcome r (now (table .exit)) ≡ retold ofWritten (delivered (listRefusal n (now (list .entry))) (tableOf n (listed (now (list .entry)))) (now (table .entry))) ⌝ }
 {
     of_written(structure_forms::table_of_list(n, list, table))
 }
@@ -96,7 +95,7 @@ pub extern "C" fn nahokipe_table_of_list(n: usize, list: &[u16], table: &mut [u8
 // The minimal path sets of a table.
 #[no_mangle]
 pub extern "C" fn nahokipe_minimal_sets(n: usize, table: &[u8], sets: &mut [u16]) -> Answer
-    ensures { λ r. ⌜ Leaves (delivered (tableRefusal n (now (table .entry))) (minimalSets n (inTable (now (table .entry)))) (now (sets .entry))) r (now (sets .exit)) ⌝ }
+    ensures { λ r. ⌜ outcome r (now (sets .exit)) ≡ retold ofWritten (delivered (tableRefusal n (now (table .entry))) (minimalSets n (inTable (now (table .entry)))) (now (sets .entry))) ⌝ }
 {
     of_written(structure_forms::minimal_sets(n, table, sets))
 }
@@ -104,7 +103,7 @@ pub extern "C" fn nahokipe_minimal_sets(n: usize, table: &[u8], sets: &mut [u16]
 // The path counts φ(0) to φ(n) of a table.
 #[no_mangle]
 pub extern "C" fn nahokipe_path_counts(n: usize, table: &[u8], cells: &mut [i64]) -> Answer
-    ensures { λ r. ⌜ Leaves (delivered (tableRefusal n (now (table .entry))) (pathCounts n (inTable (now (table .entry)))) (now (cells .entry))) r (now (cells .exit)) ⌝ }
+    ensures { λ r. ⌜ outcome r (now (cells .exit)) ≡ retold ofWritten (delivered (tableRefusal n (now (table .entry))) (pathCounts n (inTable (now (table .entry)))) (now (cells .entry))) ⌝ }
 {
     of_written(figures::path_counts(n, table, cells))
 }
@@ -112,7 +111,7 @@ pub extern "C" fn nahokipe_path_counts(n: usize, table: &[u8], cells: &mut [i64]
 // The tail T(0) to T(n) of a table.
 #[no_mangle]
 pub extern "C" fn nahokipe_tail(n: usize, table: &[u8], cells: &mut [i64]) -> Answer
-    ensures { λ r. ⌜ Leaves (delivered (tableRefusal n (now (table .entry))) (tails n (inTable (now (table .entry)))) (now (cells .entry))) r (now (cells .exit)) ⌝ }
+    ensures { λ r. ⌜ outcome r (now (cells .exit)) ≡ retold ofWritten (delivered (tableRefusal n (now (table .entry))) (tails n (inTable (now (table .entry)))) (now (cells .entry))) ⌝ }
 {
     of_written(figures::tail(n, table, cells))
 }
@@ -120,7 +119,7 @@ pub extern "C" fn nahokipe_tail(n: usize, table: &[u8], cells: &mut [i64]) -> An
 // The signature N(1) to N(n) of a table.
 #[no_mangle]
 pub extern "C" fn nahokipe_signature(n: usize, table: &[u8], cells: &mut [i64]) -> Answer
-    ensures { λ r. ⌜ Leaves (delivered (tableRefusal n (now (table .entry))) (signatures n (inTable (now (table .entry)))) (now (cells .entry))) r (now (cells .exit)) ⌝ }
+    ensures { λ r. ⌜ outcome r (now (cells .exit)) ≡ retold ofWritten (delivered (tableRefusal n (now (table .entry))) (signatures n (inTable (now (table .entry)))) (now (cells .entry))) ⌝ }
 {
     of_written(figures::signature(n, table, cells))
 }
@@ -128,7 +127,7 @@ pub extern "C" fn nahokipe_signature(n: usize, table: &[u8], cells: &mut [i64]) 
 // The domination d(0) to d(n) of a table.
 #[no_mangle]
 pub extern "C" fn nahokipe_domination(n: usize, table: &[u8], cells: &mut [i64]) -> Answer
-    ensures { λ r. ⌜ Leaves (delivered (tableRefusal n (now (table .entry))) (dominations n (inTable (now (table .entry)))) (now (cells .entry))) r (now (cells .exit)) ⌝ }
+    ensures { λ r. ⌜ outcome r (now (cells .exit)) ≡ retold ofWritten (delivered (tableRefusal n (now (table .entry))) (dominations n (inTable (now (table .entry)))) (now (cells .entry))) ⌝ }
 {
     of_written(figures::domination(n, table, cells))
 }
@@ -136,7 +135,7 @@ pub extern "C" fn nahokipe_domination(n: usize, table: &[u8], cells: &mut [i64])
 // The Barlow-Proschan counts of all parts, by position.
 #[no_mangle]
 pub extern "C" fn nahokipe_importance(n: usize, table: &[u8], cells: &mut [u64]) -> Answer
-    ensures { λ r. ⌜ Leaves (delivered (tableRefusal n (now (table .entry))) (importances n (inTable (now (table .entry)))) (now (cells .entry))) r (now (cells .exit)) ⌝ }
+    ensures { λ r. ⌜ outcome r (now (cells .exit)) ≡ retold ofWritten (delivered (tableRefusal n (now (table .entry))) (importances n (inTable (now (table .entry)))) (now (cells .entry))) ⌝ }
 {
     of_written(figures::importance(n, table, cells))
 }
@@ -151,7 +150,7 @@ pub extern "C" fn nahokipe_figures(
     domination: &mut [i64],
     importance: &mut [u64],
 ) -> Answer
-    ensures { λ r. ⌜ LeavesAll (allFigures n (now (table .entry)) (buffersOf (now (counts .entry)) (now (signature .entry)) (now (domination .entry)) (now (importance .entry)))) r (buffersOf (now (counts .exit)) (now (signature .exit)) (now (domination .exit)) (now (importance .exit))) ⌝ }
+    ensures { λ r. ⌜ outcome r (buffersOf (now (counts .exit)) (now (signature .exit)) (now (domination .exit)) (now (importance .exit))) ≡ retold ofVerdict (allFigures n (now (table .entry)) (buffersOf (now (counts .entry)) (now (signature .entry)) (now (domination .entry)) (now (importance .entry)))) ⌝ }
 {
     of_verdict(figures::figures(n, table, counts, signature, domination, importance))
 }
@@ -164,7 +163,7 @@ pub extern "C" fn nahokipe_shares_by_sets(
     group: usize,
     cells: &mut [i64],
 ) -> Answer
-    ensures { λ r. ⌜ Leaves (delivered (sharesRefusal n (now (table .entry)) group) (sharesBySets n (inTable (now (table .entry))) group) (now (cells .entry))) r (now (cells .exit)) ⌝ }
+    ensures { λ r. ⌜ outcome r (now (cells .exit)) ≡ retold ofWritten (delivered (sharesRefusal n (now (table .entry)) group) (sharesBySets n (inTable (now (table .entry))) group) (now (cells .entry))) ⌝ }
 {
     of_written(shares_by_sets::shares_by_sets(n, table, group, cells))
 }
@@ -177,7 +176,7 @@ pub extern "C" fn nahokipe_shares_by_reliability(
     group: usize,
     cells: &mut [i64],
 ) -> Answer
-    ensures { λ r. ⌜ Leaves (delivered (sharesRefusal n (now (table .entry)) group) (sharesByReliability n (inTable (now (table .entry))) group) (now (cells .entry))) r (now (cells .exit)) ⌝ }
+    ensures { λ r. ⌜ outcome r (now (cells .exit)) ≡ retold ofWritten (delivered (sharesRefusal n (now (table .entry)) group) (sharesByReliability n (inTable (now (table .entry))) group) (now (cells .entry))) ⌝ }
 {
     of_written(shares_by_polynomial::shares_by_reliability(n, table, group, cells))
 }
@@ -190,7 +189,7 @@ pub extern "C" fn nahokipe_reliability(
     group: usize,
     cells: &mut [i64],
 ) -> Answer
-    ensures { λ r. ⌜ Leaves (delivered (sharesRefusal n (now (table .entry)) group) (reliabilityCells n (inTable (now (table .entry))) group) (now (cells .entry))) r (now (cells .exit)) ⌝ }
+    ensures { λ r. ⌜ outcome r (now (cells .exit)) ≡ retold ofWritten (delivered (sharesRefusal n (now (table .entry)) group) (reliabilityCells n (inTable (now (table .entry))) group) (now (cells .entry))) ⌝ }
 {
     of_written(shares_polynomial::reliability(n, table, group, cells))
 }
@@ -204,7 +203,7 @@ pub extern "C" fn nahokipe_shares_by_both_routes(
     first: &mut [i64],
     second: &mut [i64],
 ) -> Answer
-    ensures { λ r. ⌜ LeavesBoth (bothDelivered (sharesRefusal n (now (table .entry)) group) (groupCounts n (inTable (now (table .entry))) group) (now (first .entry)) (now (second .entry))) r (now (first .exit)) (now (second .exit)) ⌝ }
+    ensures { λ r. ⌜ outcome r (both (now (first .exit)) (now (second .exit))) ≡ retold ofWritten (bothDelivered (sharesRefusal n (now (table .entry)) group) (groupCounts n (inTable (now (table .entry))) group) (now (first .entry)) (now (second .entry))) ⌝ }
 {
     of_written(shares::shares_by_both_routes(n, table, group, first, second))
 }
@@ -226,7 +225,7 @@ pub extern "C" fn nahokipe_convert(
     target: u8,
     cells: &mut [i64],
 ) -> Answer
-    ensures { λ r. ⌜ Leaves (delivered (kindRefusal kind (kindRefusal target (vectorRefusal (kindOf kind) n (now (entries .entry))))) (converted (kindOf target) (kindOf kind) n (now (entries .entry))) (now (cells .entry))) r (now (cells .exit)) ⌝ }
+    ensures { λ r. ⌜ outcome r (now (cells .exit)) ≡ retold ofWritten (delivered (kindRefusal kind (kindRefusal target (vectorRefusal (kindOf kind) n (now (entries .entry))))) (converted (kindOf target) (kindOf kind) n (now (entries .entry))) (now (cells .entry))) ⌝ }
 {
     of_written(vector::convert_numbered(kind, n, entries, target, cells))
 }
@@ -239,7 +238,7 @@ pub extern "C" fn nahokipe_write_sheet(
     entries: &[i64],
     buffer: &mut [u8],
 ) -> Answer
-    ensures { λ r. ⌜ Leaves (delivered (kindRefusal kind (vectorRefusal (kindOf kind) n (now (entries .entry)))) (sheetBytes (kindOf kind) n (now (entries .entry))) (now (buffer .entry))) r (now (buffer .exit)) ⌝ }
+    ensures { λ r. ⌜ outcome r (now (buffer .exit)) ≡ retold ofWritten (delivered (kindRefusal kind (vectorRefusal (kindOf kind) n (now (entries .entry)))) (sheetBytes (kindOf kind) n (now (entries .entry))) (now (buffer .entry))) ⌝ }
 {
     of_written(sheet::write_sheet_numbered(kind, n, entries, buffer))
 }
@@ -247,7 +246,7 @@ pub extern "C" fn nahokipe_write_sheet(
 // The entries of a sheet.
 #[no_mangle]
 pub extern "C" fn nahokipe_read_sheet(bytes: &[u8], cells: &mut [i64]) -> Sheet
-    ensures { λ r. ⌜ LeavesSheet (entriesDelivered (sheetOf (now (bytes .entry))) (now (cells .entry))) r (now (cells .exit)) ⌝ }
+    ensures { λ r. ⌜ outcome r (now (cells .exit)) ≡ retold ofEntriesRead (entriesDelivered (sheetOf (now (bytes .entry))) (now (cells .entry))) ⌝ }
 {
     of_entries_read(sheet_entries::read_sheet(bytes, cells))
 }
@@ -280,7 +279,7 @@ pub extern "C" fn nahokipe_next_set(bytes: &[u8], next: usize, left: usize) -> N
 // The table of a record.
 #[no_mangle]
 pub extern "C" fn nahokipe_table_of_record(bytes: &[u8], table: &mut [u8]) -> Answer
-    ensures { λ r. ⌜ Leaves (delivered (recordRefusal (now (bytes .entry))) (tableOf (designIn (now (bytes .entry)) .parts .count) (listed (designIn (now (bytes .entry)) .sets))) (now (table .entry))) r (now (table .exit)) ⌝ }
+    ensures { λ r. ⌜ outcome r (now (table .exit)) ≡ retold ofWritten (delivered (recordRefusal (now (bytes .entry))) (tableOf (designIn (now (bytes .entry)) .parts .count) (listed (designIn (now (bytes .entry)) .sets))) (now (table .entry))) ⌝ }
 {
     of_written(record::table_of_record(bytes, table))
 }
@@ -288,7 +287,7 @@ pub extern "C" fn nahokipe_table_of_record(bytes: &[u8], table: &mut [u8]) -> An
 // A first record, of a list of sets.
 #[no_mangle]
 pub extern "C" fn nahokipe_first_record(n: usize, list: &[u16], buffer: &mut [u8]) -> Answer
-    ensures { λ r. ⌜ Leaves (firstRecord n (now (list .entry)) (now (buffer .entry))) r (now (buffer .exit)) ⌝ }
+    ensures { λ r. ⌜ outcome r (now (buffer .exit)) ≡ retold ofWritten (firstRecord n (now (list .entry)) (now (buffer .entry))) ⌝ }
 {
     of_written(record_changes::first_record(n, list, buffer))
 }
@@ -296,7 +295,7 @@ pub extern "C" fn nahokipe_first_record(n: usize, list: &[u16], buffer: &mut [u8
 // A record with one part more.
 #[no_mangle]
 pub extern "C" fn nahokipe_add_part(bytes: &[u8], buffer: &mut [u8]) -> Answer
-    ensures { λ r. ⌜ Leaves (changedRecord addPart (now (bytes .entry)) (now (buffer .entry))) r (now (buffer .exit)) ⌝ }
+    ensures { λ r. ⌜ outcome r (now (buffer .exit)) ≡ retold ofWritten (changedRecord addPart (now (bytes .entry)) (now (buffer .entry))) ⌝ }
 {
     of_written(record_changes::add_part(bytes, buffer))
 }
@@ -304,7 +303,7 @@ pub extern "C" fn nahokipe_add_part(bytes: &[u8], buffer: &mut [u8]) -> Answer
 // A record without the part at a position.
 #[no_mangle]
 pub extern "C" fn nahokipe_take_out(bytes: &[u8], position: usize, buffer: &mut [u8]) -> Answer
-    ensures { λ r. ⌜ Leaves (changedRecord (takeOut position) (now (bytes .entry)) (now (buffer .entry))) r (now (buffer .exit)) ⌝ }
+    ensures { λ r. ⌜ outcome r (now (buffer .exit)) ≡ retold ofWritten (changedRecord (takeOut position) (now (bytes .entry)) (now (buffer .entry))) ⌝ }
 {
     of_written(record_changes::take_out(bytes, position, buffer))
 }
@@ -312,7 +311,7 @@ pub extern "C" fn nahokipe_take_out(bytes: &[u8], position: usize, buffer: &mut 
 // A record with one path set more.
 #[no_mangle]
 pub extern "C" fn nahokipe_add_set(bytes: &[u8], set: u16, buffer: &mut [u8]) -> Answer
-    ensures { λ r. ⌜ Leaves (changedRecord (addSet set) (now (bytes .entry)) (now (buffer .entry))) r (now (buffer .exit)) ⌝ }
+    ensures { λ r. ⌜ outcome r (now (buffer .exit)) ≡ retold ofWritten (changedRecord (addSet set) (now (bytes .entry)) (now (buffer .entry))) ⌝ }
 {
     of_written(record_changes::add_set(bytes, set, buffer))
 }
@@ -320,7 +319,7 @@ pub extern "C" fn nahokipe_add_set(bytes: &[u8], set: u16, buffer: &mut [u8]) ->
 // The report of a record, and the record's table.
 #[no_mangle]
 pub extern "C" fn nahokipe_report(bytes: &[u8], table: &mut [u8], text: &mut [u8]) -> Answer
-    ensures { λ r. ⌜ LeavesReport (reported (now (bytes .entry)) (now (table .entry)) (now (text .entry))) r (now (table .exit)) (now (text .exit)) ⌝ }
+    ensures { λ r. ⌜ outcome r (reportBuffers (now (table .exit)) (now (text .exit))) ≡ retold ofWritten (reported (now (bytes .entry)) (now (table .entry)) (now (text .entry))) ⌝ }
 {
     of_written(report_text::report(bytes, table, text))
 }
@@ -328,7 +327,7 @@ pub extern "C" fn nahokipe_report(bytes: &[u8], table: &mut [u8], text: &mut [u8
 // The one line of a refusal.
 #[no_mangle]
 pub extern "C" fn nahokipe_refused_line(number: u8, place: usize, text: &mut [u8]) -> Answer
-    ensures { λ r. ⌜ Leaves (delivered Verdict.Accepted (refusedLine (at number place)) (now (text .entry))) r (now (text .exit)) ⌝ }
+    ensures { λ r. ⌜ outcome r (now (text .exit)) ≡ retold ofWritten (delivered Verdict.Accepted (refusedLine (at number place)) (now (text .entry))) ⌝ }
 {
     of_written(report_lines::refused_line(number, place, text))
 }

@@ -9,7 +9,8 @@ use native.Mathlib.Numerals.{add-one}
 use native.Mathlib.Omega.{arith}
 use lib.ListN.{length, getD, take, drop, length-append, take-append-drop}
 use lib.Seq.{take-suc, take-all}
-use Rattle.answer.specs.Placed.{leaves, placed}
+use Rattle.answer.specs.Outcome.{outcome}
+use Rattle.answer.specs.Placed.{placed}
 use Rattle.codec.specs.ByteForm.{bytesOf}
 use Rattle.answer.proofs.Forms.{placed-more, wrote-none}
 use Rattle.record_parts.specs.PartLists.{listOf}
@@ -52,20 +53,20 @@ forms-most most (x ∷ numbers) h =
 
 module _ (numbers buffer : List ℕ) (start : ℕ) (room : start + length (formsOf numbers) ≤ length buffer) where
   -- before the first
-  pub forms-none : leaves start buffer ≡ placed buffer start (formsOf (take 0 numbers))
+  pub forms-none : outcome start buffer ≡ placed buffer start (formsOf (take 0 numbers))
   unfolding formsOf
   forms-none = wrote-none buffer start (omega arith) .wrote
 
   -- one number more, placed where those before it end
-  pub forms-more : (i : ℕ) → i < length numbers → (entry : List ℕ) (position : ℕ) (exit : List ℕ) (next : ℕ) → leaves position entry ≡ placed buffer start (formsOf (take i numbers))
-      → leaves next exit ≡ placed entry position (bytesOf (getD numbers i 0)) → leaves next exit ≡ placed buffer start (formsOf (take (i + 1) numbers))
+  pub forms-more : (i : ℕ) → i < length numbers → (entry : List ℕ) (position : ℕ) (exit : List ℕ) (next : ℕ) → outcome position entry ≡ placed buffer start (formsOf (take i numbers))
+      → outcome next exit ≡ placed entry position (bytesOf (getD numbers i 0)) → outcome next exit ≡ placed buffer start (formsOf (take (i + 1) numbers))
   forms-more i h entry position exit next before wrote =
       let more = forms-next i numbers h in
       placed-more buffer start (formsOf (take i numbers)) entry position (bytesOf (getD numbers i 0)) exit next (omega (arith, ap length more, forms-part (i + 1) numbers)) before wrote
       ∙ ap (placed buffer start) (sym more)
 
   -- after the last
-  pub forms-all : (i : ℕ) → length numbers ≤ i → (exit : List ℕ) (next : ℕ) → leaves next exit ≡ placed buffer start (formsOf (take i numbers)) → leaves next exit ≡ placed buffer start (formsOf numbers)
+  pub forms-all : (i : ℕ) → length numbers ≤ i → (exit : List ℕ) (next : ℕ) → outcome next exit ≡ placed buffer start (formsOf (take i numbers)) → outcome next exit ≡ placed buffer start (formsOf numbers)
   forms-all i h exit next before = before ∙ ap (λ (l : List ℕ). placed buffer start (formsOf l)) (take-all i numbers h)
 
 -- ---- a record, piece by piece

@@ -11,7 +11,7 @@ ghost use Prim.Native.Nat.{ℕ, _+_, _≤_, _<_};
 ghost use mathlib.Core.List.{List·Memᴰ};
 ghost use lib.ListN.{length};
 ghost use Rattle.answer.specs.Outcome.{outcome, delivered};
-ghost use Rattle.answer.specs.Placed.{placed, leaves};
+ghost use Rattle.answer.specs.Placed.{placed};
 ghost use Rattle.theory_orders.specs.Antichains.{mostSets};
 ghost use Rattle.record_numbers.specs.Numbering.{mostParts};
 ghost use Rattle.record_parts.specs.PartLists.{listOf};
@@ -236,7 +236,7 @@ fn sets_length(sets: &[u16]) -> usize
 // Writes these sets from a position on, where there is room for all of them, and answers the position after them.
 fn write_sets(buffer: &mut [u8], at: usize, sets: &[u16]) -> usize
     requires { ⌜ at + length (formsOf (now sets)) ≤ length (now buffer) ⌝ }
-    ensures { λ r. ⌜ leaves r (now (buffer .exit)) ≡ placed (now (buffer .entry)) at (formsOf (now (sets .entry))) ⌝ }
+    ensures { λ r. ⌜ outcome r (now (buffer .exit)) ≡ placed (now (buffer .entry)) at (formsOf (now (sets .entry))) ⌝ }
 {
     let mut next = at;
     for i in 0..sets.len() {
@@ -260,7 +260,7 @@ fn numbers_length(numbers: &[u64]) -> usize
 // Writes these part numbers from a position on, where there is room for all of them, and answers the position after them.
 fn write_numbers(buffer: &mut [u8], at: usize, numbers: &[u64]) -> usize
     requires { ⌜ at + length (formsOf (now numbers)) ≤ length (now buffer) ⌝ }
-    ensures { λ r. ⌜ leaves r (now (buffer .exit)) ≡ placed (now (buffer .entry)) at (formsOf (now (numbers .entry))) ⌝ }
+    ensures { λ r. ⌜ outcome r (now (buffer .exit)) ≡ placed (now (buffer .entry)) at (formsOf (now (numbers .entry))) ⌝ }
 {
     let mut next = at;
     for i in 0..numbers.len() {

@@ -1,18 +1,19 @@
 -- Each change is refused exactly where 01 says so: 17 for a position that is not there, 18 if every set names the part, 19 for the seventeenth
 -- part, 20 if no number is left, 4 and 5 for a set; and nothing else refuses it but a buffer that is too short.
 -- Assumes nothing.
-use mathlib.Core.Path.{_≡_, sym, ap, _∙_}
+use mathlib.Core.Path.{_≡_, refl, sym, ap, _∙_}
 use mathlib.Core.Bool.{false}
 use mathlib.Core.List.{List, List·Memᴰ}
 use mathlib.Core.Logic.{_↔_}
 use Prim.Native.Nat.{ℕ, _-_, _^_, _≤_, _<_}
 use native.Mathlib.Omega.{arith}
-use borrow.Author.Tests.{ne-eqb, le-ltb, lt-leb, le-leb}
+use borrow.Author.Tests.{ne-eqb, le-ltb, lt-leb}
 use lib.ListN.{length}
-use Rattle.answer.specs.Outcome.{delivered}
-use Rattle.answer.specs.declared.Verdict.{Verdict}
+use Rattle.answer.specs.Outcome.{Outcome}
 use Rattle.answer.specs.declared.Verdict.the-variants.{Accepted}
+use Rattle.answer.specs.declared.Written.{Written}
 use Rattle.answer.specs.declared.Written.the-variants.{Length}
+use Rattle.answer.proofs.Deliveries.{delivered-whole}
 use Rattle.record_numbers.specs.Numbering.{mostParts, topNumber}
 use Rattle.theory_sets.specs.Masks.{has}
 use Rattle.masks.specs.Groups.{meets}
@@ -62,5 +63,5 @@ pub change-given : (change : Change) (bytes buffer : List ℕ) (d : Design) (nex
 unfolding changedRecord
 change-given change bytes buffer d next read accepted room =
     let result : List ℕ = recordBytes (changed change d) in
-    ap (λ (r : Read Design). changedRead change r buffer .answer) read ∙ ap (λ (v : Verdict). delivered v result buffer .answer) accepted
-    ∙ simp (le-leb (length result) (length buffer) room)
+    ap (λ (r : Read Design). changedRead change r buffer .answer) read
+    ∙ sym (ap (λ (o : Outcome Written (List ℕ)). o .answer) (delivered-whole (changeRefusal change d) result buffer accepted (length result) refl _ refl room))

@@ -22,7 +22,7 @@ use Rattle.record_lines.proofs.Rules.{changed-rules, first-rules}
 
 -- What a change that was made means: nothing refused it; what it gives keeps the rules, stands in front of the buffer in its byte form, and
 -- is read again as that design.
-pub record Made (change : Change) (d : Design) (outcome : Outcome ℕ) (n : ℕ) : Type 0 where
+pub record Made (change : Change) (d : Design) (outcome : Outcome Written (List ℕ)) (n : ℕ) : Type 0 where
   pub accepted : changeRefusal change d ≡ verdict.Accepted
   pub again : DesignRules (changed change d)
   pub written : take n (outcome .buffer) ≡ recordBytes (changed change d)

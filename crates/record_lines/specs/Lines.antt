@@ -26,7 +26,7 @@ pub record Call : Type 0 where
   pub buffer : List ℕ
 
 -- what a call leaves, by the definition that the entries' contracts cite
-abbrev pub outcomeOf : Call → List ℕ → Outcome ℕ
+abbrev pub outcomeOf : Call → List ℕ → Outcome Written (List ℕ)
 outcomeOf call bytes = changedRecord (call .change) bytes (call .buffer)
 
 -- the record after an answer: what was written, and the bytes as they were where the change was refused

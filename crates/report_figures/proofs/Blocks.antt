@@ -10,7 +10,8 @@ use lib.IntN.{ℤ}
 use lib.ListN.{length}
 use mir.Syntax.{w64}
 use mir.Val.{Fits}
-use Rattle.answer.specs.Placed.{leaves, placed}
+use Rattle.answer.specs.Outcome.{outcome}
+use Rattle.answer.specs.Placed.{placed}
 use Rattle.record_parts.specs.declared.PartList.{PartList}
 use Rattle.text.specs.Texts.{lines}
 use Rattle.report_lines.specs.Lines.{restOfLine}
@@ -42,7 +43,7 @@ module _ (text : List ℕ) (start : ℕ) (line : ℕ → List ℕ) where
   module _ (n : ℕ) (room : start + 64 * n ≤ length text) (k : ℕ) (low : 1 ≤ k) (high : k < n + 1) (entry : List ℕ) (position : ℕ) (before : Before k entry position) where
     -- line k: its word, and what ends it
     pub before-next : (word : List ℕ) (number : ℕ) (figure : List ℕ) (t1 t2 : List ℕ) (n1 n2 : ℕ) → length word ≤ 5 → Fits w64 number → length figure ≤ 21
-        → line k ≡ word ++ restOfLine number figure → leaves n1 t1 ≡ placed entry position word → leaves n2 t2 ≡ placed t1 n1 (restOfLine number figure)
+        → line k ≡ word ++ restOfLine number figure → outcome n1 t1 ≡ placed entry position word → outcome n2 t2 ≡ placed t1 n1 (restOfLine number figure)
         → Before (k + 1) t2 n2
     before-next word number figure t1 t2 n1 n2 few1 fits few2 here e1 e2 =
         let s1 = wrote-more before word 5 t1 n1 few1 (omega arith) e1 in

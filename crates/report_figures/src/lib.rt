@@ -4,7 +4,8 @@ ghost use mathlib.Core.Path.{_≡_};
 ghost use Prim.Native.Nat.{_+_, _-_, _*_, _≤_, _<_};
 ghost use lib.IntN.{pos};
 ghost use lib.ListN.{length, getD};
-ghost use Rattle.answer.specs.Placed.{leaves, placed};
+ghost use Rattle.answer.specs.Outcome.{outcome};
+ghost use Rattle.answer.specs.Placed.{placed};
 ghost use Rattle.record_numbers.specs.Numbering.{mostParts};
 ghost use Rattle.text.specs.Texts.{lines};
 ghost use Rattle.report_figures.specs.FiguresText.{cellLine, countLine, linesBy, textBy};
@@ -19,7 +20,7 @@ pub fn put_figures(
     domination: &[i64],
     importance: &[u64],
 ) -> usize
-    ensures { λ r. ⌜ leaves r (now (text .exit)) ≡ placed (now (text .entry)) 0 (textBy list sets (now (signature .entry)) (now (domination .entry)) (now (importance .entry))) ⌝ }
+    ensures { λ r. ⌜ outcome r (now (text .exit)) ≡ placed (now (text .entry)) 0 (textBy list sets (now (signature .entry)) (now (domination .entry)) (now (importance .entry))) ⌝ }
     ensures { λ _. ⌜ length (textBy list sets (now (signature .entry)) (now (domination .entry)) (now (importance .entry))) ≤ 4096 ⌝ }
 {
     if PartList::MOST_PARTS < list.count {
@@ -41,7 +42,7 @@ fn put_lines(
 ) -> usize
     requires { ⌜ list .count ≤ mostParts ⌝ }
     requires { ⌜ 4096 ≤ length (now text) ⌝ }
-    ensures { λ r. ⌜ leaves r (now (text .exit)) ≡ placed (now (text .entry)) 0 (linesBy list sets (now (signature .entry)) (now (domination .entry)) (now (importance .entry))) ⌝ }
+    ensures { λ r. ⌜ outcome r (now (text .exit)) ≡ placed (now (text .entry)) 0 (linesBy list sets (now (signature .entry)) (now (domination .entry)) (now (importance .entry))) ⌝ }
     ensures { λ _. ⌜ length (linesBy list sets (now (signature .entry)) (now (domination .entry)) (now (importance .entry))) ≤ 4096 ⌝ }
 {
     let n = list.count;
@@ -56,7 +57,7 @@ fn put_cells(text: &mut [u8], at: usize, word: &[u8], count: usize, cells: &[i64
     requires { ⌜ length (now word) ≤ 5 ⌝ }
     requires { ⌜ count ≤ mostParts ⌝ }
     requires { ⌜ at + 64 * count ≤ length (now text) ⌝ }
-    ensures { λ r. ⌜ leaves r (now (text .exit)) ≡ placed (now (text .entry)) at (lines (cellLine (now (word .entry)) (now (cells .entry))) count) ⌝ }
+    ensures { λ r. ⌜ outcome r (now (text .exit)) ≡ placed (now (text .entry)) at (lines (cellLine (now (word .entry)) (now (cells .entry))) count) ⌝ }
     ensures { λ _. ⌜ length (lines (cellLine (now (word .entry)) (now (cells .entry))) count) ≤ 64 * count ⌝ }
 {
     let mut next = at;
@@ -71,7 +72,7 @@ fn put_cells(text: &mut [u8], at: usize, word: &[u8], count: usize, cells: &[i64
 fn put_counts(text: &mut [u8], at: usize, list: PartList, counts: &[u64]) -> usize
     requires { ⌜ list .count ≤ mostParts ⌝ }
     requires { ⌜ at + 64 * list .count ≤ length (now text) ⌝ }
-    ensures { λ r. ⌜ leaves r (now (text .exit)) ≡ placed (now (text .entry)) at (lines (countLine list (now (counts .entry))) (list .count)) ⌝ }
+    ensures { λ r. ⌜ outcome r (now (text .exit)) ≡ placed (now (text .entry)) at (lines (countLine list (now (counts .entry))) (list .count)) ⌝ }
     ensures { λ _. ⌜ length (lines (countLine list (now (counts .entry))) (list .count)) ≤ 64 * list .count ⌝ }
 {
     let n = list.count;

@@ -7,8 +7,8 @@ use native.Mathlib.Omega.{arith}
 use lib.ListN.{length, length-append}
 use mir.Syntax.{w64}
 use mir.Val.{Fits}
-use Rattle.answer.specs.Outcome.{at}
-use Rattle.answer.specs.Placed.{leaves, placed}
+use Rattle.answer.specs.Outcome.{at, outcome}
+use Rattle.answer.specs.Placed.{placed}
 use Rattle.text.specs.Texts.{ascii, decimal}
 use Rattle.text.proofs.Decimals.{decimal-few}
 use Rattle.report_lines.specs.Lines.{headLine, restOfLine, refusedLine}
@@ -22,17 +22,17 @@ module _ (word : List ℕ) (number : ℕ) (fits : Fits w64 number) where
 
   -- the number is put behind the word
   pub number-put : (line : List ℕ) (start : ℕ) → start + (length word + 20) ≤ length line → (entry exit : List ℕ) (position next : ℕ)
-      → leaves position entry ≡ placed line start word → leaves next exit ≡ placed entry position (decimal number)
-      → leaves next exit ≡ placed line start (word ++ decimal number)
+      → outcome position entry ≡ placed line start word → outcome next exit ≡ placed entry position (decimal number)
+      → outcome next exit ≡ placed line start (word ++ decimal number)
   number-put line start room entry exit position next = placed-more line start word entry position (decimal number) exit next (omega (arith, number-few))
 
   -- both at the start of a line, and behind what was put
-  pub number-first : (line exit : List ℕ) (next : ℕ) → length word + 20 ≤ length line → leaves next exit ≡ placed line 0 (word ++ decimal number)
+  pub number-first : (line exit : List ℕ) (next : ℕ) → length word + 20 ≤ length line → outcome next exit ≡ placed line 0 (word ++ decimal number)
       → Wrote line 0 (word ++ decimal number) (length word + 20) exit next
   number-first line exit next room = wrote-first line 0 (word ++ decimal number) (length word + 20) exit next number-few (omega arith)
 
   pub number-more : {line form : List ℕ} {most : ℕ} {entry : List ℕ} {position : ℕ} → Wrote line 0 form most entry position → (exit : List ℕ) (next : ℕ)
-      → most + (length word + 20) ≤ length line → leaves next exit ≡ placed entry position (word ++ decimal number)
+      → most + (length word + 20) ≤ length line → outcome next exit ≡ placed entry position (word ++ decimal number)
       → Wrote line 0 (form ++ (word ++ decimal number)) (most + (length word + 20)) exit next
   number-more before exit next room = wrote-more before (word ++ decimal number) (length word + 20) exit next number-few (omega arith)
 

@@ -6,13 +6,13 @@ ghost use mathlib.Core.List.{_++_};
 ghost use Prim.Native.Nat.{_+_, _≤_};
 ghost use lib.ListN.{length};
 ghost use Rattle.answer.specs.Outcome.{at, outcome, delivered};
-ghost use Rattle.answer.specs.Placed.{leaves, placed};
+ghost use Rattle.answer.specs.Placed.{placed};
 ghost use Rattle.text.specs.Texts.{decimal, signed};
 ghost use Rattle.report_lines.specs.Lines.{headLine, restOfLine, refusedLine};
 
 // Puts the first line at a position.
 pub fn put_first_line(text: &mut [u8], at: usize, parts: usize, sets: usize, mark: u64) -> usize
-    ensures { λ r. ⌜ leaves r (now (text .exit)) ≡ placed (now (text .entry)) at (headLine parts sets mark) ⌝ }
+    ensures { λ r. ⌜ outcome r (now (text .exit)) ≡ placed (now (text .entry)) at (headLine parts sets mark) ⌝ }
 {
     let mut line = [0u8; 80];
     let numbered = put_number(&mut line, 0, b"parts ", parts as u64);
@@ -24,7 +24,7 @@ pub fn put_first_line(text: &mut [u8], at: usize, parts: usize, sets: usize, mar
 
 // Puts a number and a signed figure, which end the line of a word.
 pub fn put_figure(text: &mut [u8], at: usize, number: u64, figure: i64) -> usize
-    ensures { λ r. ⌜ leaves r (now (text .exit)) ≡ placed (now (text .entry)) at (restOfLine number (signed figure)) ⌝ }
+    ensures { λ r. ⌜ outcome r (now (text .exit)) ≡ placed (now (text .entry)) at (restOfLine number (signed figure)) ⌝ }
 {
     let mut line = [0u8; 48];
     let numbered = put_number(&mut line, 0, b" ", number);
@@ -36,7 +36,7 @@ pub fn put_figure(text: &mut [u8], at: usize, number: u64, figure: i64) -> usize
 
 // Puts a number and a count, which end the line of a word.
 pub fn put_count(text: &mut [u8], at: usize, number: u64, count: u64) -> usize
-    ensures { λ r. ⌜ leaves r (now (text .exit)) ≡ placed (now (text .entry)) at (restOfLine number (decimal count)) ⌝ }
+    ensures { λ r. ⌜ outcome r (now (text .exit)) ≡ placed (now (text .entry)) at (restOfLine number (decimal count)) ⌝ }
 {
     let mut line = [0u8; 48];
     let numbered = put_number(&mut line, 0, b" ", number);
@@ -53,24 +53,14 @@ pub fn refused_line(number: u8, place: usize, text: &mut [u8]) -> Written
     let mut line = [0u8; 64];
     let worded = text::put(&mut line, 0, b"refused");
     let end = put_count(&mut line, worded, number as u64, place as u64);
-    hand_out(&line[..end], text)
+    answer::hand_out_bytes(&line[..end], text)
 }
 
 // Puts a word and a number behind it, where there is room for both.
 fn put_number(line: &mut [u8], at: usize, word: &[u8], number: u64) -> usize
     requires { ⌜ at + (length (now word) + 20) ≤ length (now line) ⌝ }
-    ensures { λ r. ⌜ leaves r (now (line .exit)) ≡ placed (now (line .entry)) at (now (word .entry) ++ decimal number) ⌝ }
+    ensures { λ r. ⌜ outcome r (now (line .exit)) ≡ placed (now (line .entry)) at (now (word .entry) ++ decimal number) ⌝ }
 {
     let worded = text::put(line, at, word);
     text::put_decimal(line, worded, number)
-}
-
-// A result into a lent buffer.
-fn hand_out(result: &[u8], buffer: &mut [u8]) -> Written
-    ensures { λ r. ⌜ outcome r (now (buffer .exit)) ≡ delivered Verdict.Accepted (now (result .entry)) (now (buffer .entry)) ⌝ }
-{
-    if buffer.len() < result.len() {
-        return answer::short(result.len());
-    }
-    Written::Length(text::put(buffer, 0, result))
 }

@@ -98,7 +98,7 @@ module _ (bytes : List ℕ) (small : Bytes bytes) (w : Written) (own : List ℕ)
           let judged = refused-verdict other here in
           let left : outcome (Refused why) own ≡ outcome (Refused other) (replicate 8192 0) =
           left-by (Refused why) e ∙ ap (λ (v : Verdict). delivered v (designTable (designIn bytes)) (replicate 8192 0)) judged in
-          here ∙ ap refused (sym (cc (ap (λ (o : Outcome ℕ). o .answer) left)))
+          here ∙ ap refused (sym (cc (ap (λ (o : Outcome Written (List ℕ)). o .answer) left)))
       cases (found d end) here =
           let r = design-read bytes small d end here in
           let fits : length (designTable (designIn bytes)) ≤ length (replicate {A = ℕ} 8192 0) =

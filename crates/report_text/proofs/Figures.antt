@@ -24,14 +24,14 @@ use Rattle.theory_sets.proofs.Masks.{add-below}
 use Rattle.theory_sets.proofs.Structures.{semicoherent-same}
 use Rattle.theory_orders.specs.Counting.{count}
 use Rattle.theory_orders.specs.Formulas.{pathCount}
-use Rattle.answer.specs.Outcome.{andThen}
-use Rattle.answer.specs.declared.Verdict.{Verdict}
-use Rattle.answer.specs.declared.Verdict.the-variants.{Accepted}
+use Rattle.answer.specs.Outcome.{outcome}
+use Rattle.answer.specs.declared.Verdict.the-variants.{Accepted, Refused}
+use Rattle.answer.proofs.Outcomes.{then-passed, settled-given}
 use Rattle.structure.specs.Checks.{tableRefusal}
 use Rattle.structure.proofs.Acceptance.{accepted-table, list-works}
 use Rattle.record_parts.specs.declared.PartList.{PartList}
 use Rattle.theory_figures.specs.Figures.{signature, domination, importance, signatures, dominations, importances}
-use Rattle.figures.specs.All.{buffersOf, roomRefusal, deliveredAll, allFigures}
+use Rattle.figures.specs.All.{Buffers, buffersOf, allInFront, allFigures}
 use Rattle.figures.proofs.Rooms.{room-enough}
 use Rattle.theory_figures.proofs.Tails.{signature-is-count}
 use Rattle.theory_figures.proofs.Importances.{importance-is-count}
@@ -58,13 +58,14 @@ module _ (n : ℕ) (table : List ℕ) (accepted : tableRefusal n table ≡ Accep
   few : n ≤ 16
   few = accepted-table n table accepted .few
 
-  pub all-figures : allFigures n table (buffersOf (replicate 17 (pos 0)) (replicate 17 (pos 0)) (replicate 17 (pos 0)) (replicate 17 0))
-      ≡ deliveredAll Accepted n (inTable table) (buffersOf (replicate 17 (pos 0)) (replicate 17 (pos 0)) (replicate 17 (pos 0)) (replicate 17 0))
+  abbrev zeros : Buffers
+  zeros = buffersOf (replicate 17 (pos 0)) (replicate 17 (pos 0)) (replicate 17 (pos 0)) (replicate 17 0)
+
+  pub all-figures : allFigures n table zeros ≡ outcome Accepted (allInFront n (inTable table) zeros)
   unfolding allFigures
   all-figures =
-      ap (λ (v : Verdict). deliveredAll (andThen v (roomRefusal n 17 17 17 17)) n (inTable table) (buffersOf (replicate 17 (pos 0)) (replicate 17 (pos 0)) (replicate 17 (pos 0)) (replicate 17 0))) accepted
-      ∙ ap (λ (v : Verdict). deliveredAll v n (inTable table) (buffersOf (replicate 17 (pos 0)) (replicate 17 (pos 0)) (replicate 17 (pos 0)) (replicate 17 0)))
-      (sym (room-enough n 17 17 17 17 (omega (arith, few)) (omega (arith, few)) (omega (arith, few)) (omega (arith, few))))
+      sym (settled-given _ Refused zeros _
+      (then-passed _ accepted ∙ sym (room-enough n 17 17 17 17 (omega (arith, few)) (omega (arith, few)) (omega (arith, few)) (omega (arith, few)))))
 
 -- the text by these cells is the text of the structure
 module _ (list : PartList) (sets : ℕ) (works : ℕ → Bool) (few : list .count ≤ 16) where

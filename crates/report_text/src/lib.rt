@@ -4,19 +4,19 @@ use answer::Written;
 use record_parts::PartList;
 ghost use mathlib.Core.Path.{_≡_};
 ghost use Prim.Native.Nat.{_≤_};
-ghost use lib.Dec.{leb};
 ghost use lib.ListN.{length};
-ghost use Rattle.answer.specs.Placed.{leaves, placed};
+ghost use Rattle.answer.specs.Outcome.{outcome};
+ghost use Rattle.answer.specs.Placed.{placed};
 ghost use Rattle.record.specs.Contents.{designIn};
 ghost use Rattle.theory_sets.specs.Tables.{inTable};
 ghost use Rattle.structure.specs.Checks.{tableRefusal};
 ghost use Rattle.report_text.specs.Reports.{reportOf};
-ghost use Rattle.report_text.specs.Reporting.{reportOutcome, handedOut, reported};
+ghost use Rattle.report_text.specs.Reporting.{reportBuffers, handedOut, reported};
 ghost use Rattle.report_text.specs.Inside.{tableText};
 
 // The report of a record and the record's table, into two lent buffers. No report is longer than 4,096 bytes.
 pub fn report(bytes: &[u8], table: &mut [u8], text: &mut [u8]) -> Written
-    ensures { λ r. ⌜ reportOutcome r (now (table .exit)) (now (text .exit)) ≡ reported (now (bytes .entry)) (now (table .entry)) (now (text .entry)) ⌝ }
+    ensures { λ r. ⌜ outcome r (reportBuffers (now (table .exit)) (now (text .exit))) ≡ reported (now (bytes .entry)) (now (table .entry)) (now (text .entry)) ⌝ }
     ensures { λ _. ⌜ length (reportOf (designIn (now (bytes .entry)))) ≤ 4096 ⌝ }
 {
     let mut own_table = [0u8; 8192];
@@ -36,7 +36,7 @@ pub fn report(bytes: &[u8], table: &mut [u8], text: &mut [u8]) -> Written
 // The text of a machine's table, with its part list and the number of its minimal sets.
 fn put_table(text: &mut [u8], list: PartList, sets: usize, table: &[u8]) -> usize
     requires { ⌜ tableRefusal (list .count) (now table) ≡ Verdict.Accepted ⌝ }
-    ensures { λ r. ⌜ leaves r (now (text .exit)) ≡ placed (now (text .entry)) 0 (tableText list sets (inTable (now (table .entry)))) ⌝ }
+    ensures { λ r. ⌜ outcome r (now (text .exit)) ≡ placed (now (text .entry)) 0 (tableText list sets (inTable (now (table .entry)))) ⌝ }
     ensures { λ _. ⌜ length (tableText list sets (inTable (now (table .entry)))) ≤ 4096 ⌝ }
 {
     let mut counts = [0i64; 17];
@@ -57,22 +57,14 @@ fn put_table(text: &mut [u8], list: PartList, sets: usize, table: &[u8]) -> usiz
 
 // A table and a text into two lent buffers.
 fn hand_out_both(own_table: &[u8], own_text: &[u8], table: &mut [u8], text: &mut [u8]) -> Written
-    ensures { λ r. ⌜ reportOutcome r (now (table .exit)) (now (text .exit)) ≡ handedOut (now («own_table» .entry)) (now («own_text» .entry)) (now (table .entry)) (now (text .entry)) ⌝ }
+    ensures { λ r. ⌜ outcome r (reportBuffers (now (table .exit)) (now (text .exit))) ≡ handedOut (now («own_table» .entry)) (now («own_text» .entry)) (now (table .entry)) (now (text .entry)) ⌝ }
 {
-    if fits(own_table.len(), table.len()) {
-        if fits(own_text.len(), text.len()) {
-            text::put(table, 0, own_table);
-            text::put(text, 0, own_text);
-            return Written::Length(own_text.len());
-        }
+    if table.len() < own_table.len() {
+        return answer::short(own_table.len());
+    }
+    if text.len() < own_text.len() {
         return answer::short(own_text.len());
     }
-    answer::short(own_table.len())
-}
-
-// Whether a result of that length has room in a buffer.
-fn fits(needed: usize, room: usize) -> bool
-    ensures { λ r. ⌜ r ≡ leb needed room ⌝ }
-{
-    needed <= room
+    answer::hand_out_bytes(own_table, table);
+    answer::hand_out_bytes(own_text, text)
 }

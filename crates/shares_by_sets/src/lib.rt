@@ -1,4 +1,5 @@
 // A group's shares, set by set (01, "Figures").
+use answer::Verdict;
 use answer::Written;
 ghost use mathlib.Core.Path.{_≡_};
 ghost use mathlib.Core.List.{_++_};
@@ -22,10 +23,10 @@ pub fn shares_by_sets(n: usize, table: &[u8], group: usize, shares: &mut [i64]) 
     let m = masks::size(group);
     let judged = shares_group::judge(n, table, group, m, shares.len());
     match judged {
-        Written::Refused(refusal) => Written::Refused(refusal),
-        Written::Length(needed) => {
+        Verdict::Refused(refusal) => Written::Refused(refusal),
+        Verdict::Accepted => {
             write_by_sets(n, table, group, shares);
-            Written::Length(needed)
+            Written::Length(m)
         }
     }
 }

@@ -6,6 +6,7 @@ use Prim.Native.Nat.{ℕ, suc}
 use lib.IntN.{ℤ, pos}
 use lib.ListN.{take}
 use Rattle.answer.specs.Outcome.{Outcome}
+use Rattle.answer.specs.declared.Written.{Written}
 use Rattle.answer.specs.declared.Written.the-variants.{Length}
 use Rattle.numbers.specs.Tables.{tabulate}
 use Rattle.theory_sets.specs.Masks.{size}
@@ -16,6 +17,6 @@ unfoldable pub groupCounts : ℕ → (ℕ → Bool) → ℕ → List ℤ
 groupCounts n works group = tabulate (size group) (λ k. pos (count n works group (suc k)))
 
 -- it gives m shares, which are the first m cells of the lent buffer, and for each k from 1 to m the k-th is the count for the group and k
-pub record GivesCounts (n : ℕ) (works : ℕ → Bool) (group : ℕ) (call : Outcome ℤ) : Type 0 where
+pub record GivesCounts (n : ℕ) (works : ℕ → Bool) (group : ℕ) (call : Outcome Written (List ℤ)) : Type 0 where
   pub given : call .answer ≡ Length (size group)
   pub shares : take (size group) (call .buffer) ≡ groupCounts n works group

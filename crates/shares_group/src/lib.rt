@@ -1,25 +1,19 @@
-// A group of parts: what a call with a table and a group answers, and sums that path sets are added to.
+// A group of parts: the checks of a call with a table and a group, and sums that path sets are added to.
 use answer::Verdict;
-use answer::Written;
 ghost use mathlib.Core.Path.{_≡_};
 ghost use Prim.Native.Nat.{_+_, _%_, _^_};
 ghost use lib.ListN.{getD, set};
+ghost use Rattle.answer.specs.Outcome.{andThen, room};
 ghost use Rattle.shares_claim.specs.Refusals.{sharesRefusal};
-ghost use Rattle.shares_group.specs.Answers.{answered};
 
-// The answer of a call that is lent room for so many cells, needs so many for its result, and writes it if nothing refuses.
-pub fn judge(n: usize, table: &[u8], group: usize, needed: usize, room: usize) -> Written
-    ensures { λ r. ⌜ r ≡ answered (sharesRefusal n (now (table .entry)) group) needed room ⌝ }
+// The verdict on a call with a table and a group that needs so many cells for its result and is lent so many.
+pub fn judge(n: usize, table: &[u8], group: usize, needed: usize, lent: usize) -> Verdict
+    ensures { λ r. ⌜ r ≡ andThen (sharesRefusal n (now (table .entry)) group) (room needed lent) ⌝ }
 {
     let checked = group_verdict(n, table, group);
     match checked {
-        Verdict::Refused(refusal) => Written::Refused(refusal),
-        Verdict::Accepted => {
-            if room < needed {
-                return answer::short(needed);
-            }
-            Written::Length(needed)
-        }
+        Verdict::Refused(refusal) => Verdict::Refused(refusal),
+        Verdict::Accepted => answer::room(needed, lent),
     }
 }
 

@@ -1,4 +1,5 @@
 // h(x,z) of a group: its coefficients (01, "Figures").
+use answer::Verdict;
 use answer::Written;
 ghost use mathlib.Core.Path.{_≡_};
 ghost use mathlib.Core.List.{_++_};
@@ -23,10 +24,10 @@ pub fn reliability(n: usize, table: &[u8], group: usize, cells: &mut [i64]) -> W
     let count = cells_needed(n, group);
     let judged = shares_group::judge(n, table, group, count, cells.len());
     match judged {
-        Written::Refused(refusal) => Written::Refused(refusal),
-        Written::Length(needed) => {
+        Verdict::Refused(refusal) => Written::Refused(refusal),
+        Verdict::Accepted => {
             write_reliability(n, table, group, cells);
-            Written::Length(needed)
+            Written::Length(count)
         }
     }
 }

@@ -1,34 +1,22 @@
 -- What reading a sheet into a lent buffer answers and leaves (01, "Records on disk").
-use mathlib.Core.Bool.{cond}
-use mathlib.Core.List.{List, _++_}
-use lib.Dec.{leb}
+use mathlib.Core.List.{List, []}
+use Prim.Native.Nat.{ℕ}
 use lib.IntN.{ℤ}
-use lib.ListN.{length, drop}
-use Rattle.answer.specs.Outcome.{at}
-use Rattle.answer.specs.Refusals.{shortBuffer}
-use Rattle.answer.specs.declared.Refusal.{Refusal}
+use Rattle.answer.specs.Outcome.{Outcome, retold, delivered}
+use Rattle.answer.specs.declared.Verdict.the-variants as verdict
+use Rattle.answer.specs.declared.Written.{Written}
 use Rattle.answer.specs.declared.Written.the-variants as written
+use Rattle.vector_kind.specs.declared.Kind.{Kind}
 use Rattle.vector_kind.specs.declared.Kind.the-variants.{PathCounts}
 use Rattle.sheet.specs.Sheets.{Sheet, Given, Refused}
 use Rattle.sheet_entries.specs.declared.EntriesRead.{EntriesRead}
 
--- what reading into a lent buffer leaves behind: its answer, and the buffer afterwards
-pub record EntriesOutcome : Type 0 where
-  pub answer : EntriesRead
-  pub cells : List ℤ
+-- what is told of a sheet with the answer to handing its entries out: its kind and n, and of a refusal path counts and 0
+abbrev pub entriesRead : Kind → ℕ → Written → EntriesRead
+entriesRead kind n (written.Length count) = record { kind = kind; n = n; answer = written.Length count }
+entriesRead kind n (written.Refused r) = record { kind = PathCounts; n = 0; answer = written.Refused r }
 
-abbrev pub entriesOutcome : EntriesRead → List ℤ → EntriesOutcome
-entriesOutcome answer cells = record { answer = answer; cells = cells }
-
--- a refused sheet has path counts as its kind and n = 0, and leaves the buffer as it was
-abbrev pub entriesRefused : Refusal → List ℤ → EntriesOutcome
-entriesRefused r cells = entriesOutcome (record { kind = PathCounts; n = 0; answer = written.Refused r }) cells
-
--- A sheet's entries for a lent buffer. Long enough: the entries in front, the rest as it was, and their number as the length. Short: 11 with
--- the length needed.
-abbrev pub entriesDelivered : Sheet → List ℤ → EntriesOutcome
-entriesDelivered (Refused r) cells = entriesRefused r cells
-entriesDelivered (Given kind n entries) cells =
-    cond (leb (length entries) (length cells))
-    (entriesOutcome (record { kind = kind; n = n; answer = written.Length (length entries) }) (entries ++ drop (length entries) cells))
-    (entriesRefused (at shortBuffer (length entries)) cells)
+-- a sheet's entries for a lent buffer
+abbrev pub entriesDelivered : Sheet → List ℤ → Outcome EntriesRead (List ℤ)
+entriesDelivered (Refused r) cells = retold (entriesRead PathCounts 0) (delivered (verdict.Refused r) [] cells)
+entriesDelivered (Given kind n entries) cells = retold (entriesRead kind n) (delivered verdict.Accepted entries cells)

@@ -20,7 +20,7 @@ use Rattle.theory_sets.proofs.Bools.{true-or-false}
 use Rattle.theory_sets.proofs.Masks.{add-below}
 use Rattle.theory_sets.proofs.Ranges.{any-same, those-same, those-skip, those-empty, least-some, below-or-above}
 use Rattle.theory_sets.proofs.Tables.{packed-same, tableLength-small, tableLength-large}
-use Rattle.structure_words.specs.Words.{inWords, wordsOf, among}
+use Rattle.structure_words.specs.Words.{inWords, wordsOf, among, bytesIn}
 use Rattle.structure_closure.specs.Closure.{without, spread, irredundant}
 use Rattle.structure_words.proofs.Words.{inWords-wordsOf}
 use Rattle.structure_closure.proofs.ListedSets.{spread-listed, spread-beyond}
@@ -125,7 +125,7 @@ minimal-walk n table t =
 -- ---- the bytes of a list's table
 
 pub listed-walk : (n : ℕ) (list : List ℕ) → AcceptedList n list
-    → tabulate (tableLength n) (λ b. packed 8 (λ i. inWords (wordsOf (spread (min n 16) (inWords (wordsOf (among list))))) (8 * b + i))) ≡ tableOf n (listed list)
+    → bytesIn (tableLength n) (wordsOf (spread (min n 16) (inWords (wordsOf (among list))))) ≡ tableOf n (listed list)
 unfolding tableOf
 listed-walk n list l =
     tabulate-unique (tableLength n) (λ b. packed 8 (λ i. ltb (8 * b + i) (2 ^ n) && listed list (8 * b + i))) (tabulate (tableLength n) stored) 0

@@ -1,12 +1,15 @@
-// Structures: the verdict on a list of sets and on a table, and a table's length (01, "Structures").
+// Structures: the verdict on a list of sets and on a table, a table's length, and a table handed out (01, "Structures").
 use answer::Verdict;
+use answer::Written;
 ghost use mathlib.Core.Path.{_≡_};
 ghost use mathlib.Core.Bool.{false, _&&_};
 ghost use Prim.Native.Nat.{ℕ, _^_, _≤_};
 ghost use lib.Dec.{leb};
+ghost use Rattle.answer.specs.Outcome.{outcome, delivered};
 ghost use Rattle.numbers.specs.Counts.{upTo16};
 ghost use Rattle.theory_sets.specs.Masks.{has, any};
 ghost use Rattle.theory_sets.specs.Tables.{inTable, tableLength};
+ghost use Rattle.structure_words.specs.Words.{bytesIn};
 ghost use Rattle.structure.specs.Checks.{listRefusal, entriesRefusal, tableRefusal, structureRefusal};
 
 // The verdict on a list of sets.
@@ -53,6 +56,18 @@ pub fn table_length(n: usize) -> usize
     } else {
         numbers::power_of_two(n - 3)
     }
+}
+
+// The table of n parts in words, into a lent buffer; a table of no bytes where no structure has so many parts.
+pub fn hand_out_table(n: usize, words: &[u64], table: &mut [u8]) -> Written
+    ensures { λ r. ⌜ outcome r (now (table .exit)) ≡ delivered Verdict.Accepted (bytesIn (upTo16 n (tableLength n)) (now (words .entry))) (now (table .entry)) ⌝ }
+{
+    let needed = table_length(n);
+    if table.len() < needed {
+        return answer::short(needed);
+    }
+    structure_words::store(words, &mut table[..needed]);
+    Written::Length(needed)
 }
 
 // The verdict on a table's bits.

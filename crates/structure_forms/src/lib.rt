@@ -15,14 +15,9 @@ pub fn table_of_list(n: usize, list: &[u16], table: &mut [u8]) -> Written
     match checked {
         Verdict::Refused(refusal) => Written::Refused(refusal),
         Verdict::Accepted => {
-            let needed = structure::table_length(n);
-            if table.len() < needed {
-                return answer::short(needed);
-            }
             let listed = structure_words::marked(list);
             let reached = structure_closure::spread(&listed, n);
-            structure_words::store(&reached, &mut table[..needed]);
-            Written::Length(needed)
+            structure::hand_out_table(n, &reached, table)
         }
     }
 }

@@ -19,6 +19,10 @@ wordOf works at = packed 64 (λ k. works (64 * at + k))
 abbrev pub wordsOf : (ℕ → Bool) → List ℕ
 wordsOf works = tabulate 1024 (wordOf works)
 
+-- the first bytes of words, in each the bits of eight masks
+abbrev pub bytesIn : ℕ → List ℕ → List ℕ
+bytesIn count words = tabulate count (λ b. packed 8 (λ i. inWords words (8 * b + i)))
+
 -- the mask a is one of the list
 abbrev pub among : List ℕ → ℕ → Bool
 among list a = any (λ i. eqb (getD list i 0) a) (length list)

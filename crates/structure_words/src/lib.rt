@@ -5,11 +5,10 @@ use answer::Written;
 ghost use mathlib.Core.Path.{_≡_};
 ghost use Prim.Native.Nat.{_+_, _*_, _<_};
 ghost use lib.ListN.{length, getD};
-ghost use Rattle.numbers.specs.Tables.{tabulate};
 ghost use Rattle.answer.specs.Outcome.{outcome, delivered};
 ghost use Rattle.theory_sets.specs.Masks.{has, those, least};
 ghost use Rattle.theory_sets.specs.Tables.{packed, inTable};
-ghost use Rattle.structure_words.specs.Words.{inWords, wordOf, wordsOf, among};
+ghost use Rattle.structure_words.specs.Words.{inWords, wordOf, wordsOf, bytesIn, among};
 
 // The set function of a table.
 pub fn load(table: &[u8]) -> [u64; 1024]
@@ -84,7 +83,7 @@ pub fn list(words: &[u64], sets: &mut [u16]) -> Written
 
 // The table's bytes, as many as the table has.
 pub fn store(words: &[u64], table: &mut [u8])
-    ensures { λ _. ⌜ now (table .exit) ≡ tabulate (length (now (table .entry))) (λ b. packed 8 (λ i. inWords (now (words .entry)) (8 * b + i))) ⌝ }
+    ensures { λ _. ⌜ now (table .exit) ≡ bytesIn (length (now (table .entry))) (now (words .entry)) ⌝ }
 {
     for b in 0..table.len() {
         table[b] = byte_of(numbers::cell(words, b / 8), b % 8);

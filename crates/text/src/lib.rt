@@ -4,12 +4,13 @@ ghost use mathlib.Core.Path.{_≡_};
 ghost use Prim.Native.Nat.{_+_, _≤_};
 ghost use lib.ListN.{length};
 ghost use lib.Seq.{paste};
-ghost use Rattle.answer.specs.Placed.{leaves, placed};
+ghost use Rattle.answer.specs.Outcome.{outcome};
+ghost use Rattle.answer.specs.Placed.{placed};
 ghost use Rattle.text.specs.Texts.{decimal, signed};
 
 // Puts bytes at a position and answers the position after them.
 pub fn put(text: &mut [u8], at: usize, bytes: &[u8]) -> usize
-    ensures { λ r. ⌜ leaves r (now (text .exit)) ≡ placed (now (text .entry)) at (now (bytes .entry)) ⌝ }
+    ensures { λ r. ⌜ outcome r (now (text .exit)) ≡ placed (now (text .entry)) at (now (bytes .entry)) ⌝ }
 {
     if text.len() < at {
         return at;
@@ -23,7 +24,7 @@ pub fn put(text: &mut [u8], at: usize, bytes: &[u8]) -> usize
 
 // Puts a number in decimal digits.
 pub fn put_decimal(text: &mut [u8], at: usize, value: u64) -> usize
-    ensures { λ r. ⌜ leaves r (now (text .exit)) ≡ placed (now (text .entry)) at (decimal value) ⌝ }
+    ensures { λ r. ⌜ outcome r (now (text .exit)) ≡ placed (now (text .entry)) at (decimal value) ⌝ }
 {
     let mut digits = [0u8; 20];
     let count = io::decimal(value, &mut digits);
@@ -32,7 +33,7 @@ pub fn put_decimal(text: &mut [u8], at: usize, value: u64) -> usize
 
 // Puts a signed number, with a minus sign in front of a negative one.
 pub fn put_signed(text: &mut [u8], at: usize, value: i64) -> usize
-    ensures { λ r. ⌜ leaves r (now (text .exit)) ≡ placed (now (text .entry)) at (signed value) ⌝ }
+    ensures { λ r. ⌜ outcome r (now (text .exit)) ≡ placed (now (text .entry)) at (signed value) ⌝ }
 {
     if value < 0 {
         let mut spelt = [0u8; 21];

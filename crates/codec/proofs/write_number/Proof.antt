@@ -4,7 +4,7 @@ use borrow.Author.Needs.{needs}
 use native.Mathlib.Omega.{arith}
 use mathlib.Core.Path.{sym, ap₂, _∙_}
 use denote.Ref.{now}
-use Rattle.answer.specs.Placed.{leaves}
+use Rattle.answer.specs.Outcome.{outcome}
 use Rattle.codec.specs.ByteForm.{bytesOf}
 use Rattle.answer.proofs.Placing.{placed-short, stored-placed}
 use Rattle.codec.proofs.write_number.Statement.{statement}
@@ -36,7 +36,7 @@ returns-3 : tie.Need-returns-3
 returns-3 c =
     let a = c .before .before .before .before .before .before .before .before .args in
     let e = c .before .before .write-groups .ensures in
-    ap₂ leaves (e .0) (e .1)
+    ap₂ outcome (e .0) (e .1)
     ∙ stored-placed (now (a .buffer)) (a .at) (bytesOf (a .value)) (omega arith)
 
 pub write-number-spec : {M : Type 1} → statement M

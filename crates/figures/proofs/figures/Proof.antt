@@ -4,10 +4,11 @@ use mathlib.Core.Path.{_≡_, sym, ap, _∙_}
 use denote.Ref.{now}
 use lib.ListN.{length}
 use borrow.Author.Needs.{needs}
+use Rattle.answer.specs.Outcome.{outcome}
 use Rattle.answer.specs.declared.Verdict.{Verdict}
-use Rattle.answer.specs.declared.Verdict.the-variants.{Accepted}
-use Rattle.theory_sets.specs.Tables.{inTable}
-use Rattle.figures.specs.All.{buffersOf, allOutcome, deliveredAll, allFigures}
+use Rattle.answer.specs.declared.Verdict.the-variants.{Accepted, Refused}
+use Rattle.answer.proofs.Outcomes.{settled-refused, settled-given}
+use Rattle.figures.specs.All.{Buffers, buffersOf, allFigures}
 use Rattle.figures.specs.Inside.{figuresRefusal}
 use Rattle.figures.proofs.figures.Statement.{statement}
 use Rattle.figures.proofs.figures.Tie as tie
@@ -35,9 +36,8 @@ returns : tie.Need-returns
 unfolding allFigures
 returns c =
     let a = c .before .before .before .before .before .before .args in
-    let old = buffersOf (now (a .counts)) (now (a .signature)) (now (a .domination)) (now (a .importance)) in
-    ap (λ (v : Verdict). deliveredAll v (a .n) (inTable (now (a .table))) old)
-    (sym (c .before .verdict .given .1) ∙ c .before .before .before .figures-verdict .ensures)
+    settled-refused _ Refused (buffersOf (now (a .counts)) (now (a .signature)) (now (a .domination)) (now (a .importance))) _
+    (sym (c .before .before .before .figures-verdict .ensures) ∙ c .before .verdict .given .1)
 
 same-length : tie.Need-same-length
 same-length c = search needs
@@ -57,9 +57,8 @@ returns-2 c =
     let written = c .before .before .before .before .before in
     let told = written .before .before .before .before .before in
     let a = told .before .before .before .before .before .args in
-    let old = buffersOf (now (a .counts)) (now (a .signature)) (now (a .domination)) (now (a .importance)) in
-    ap (allOutcome Accepted) (written .write-figures .ensures)
-    ∙ ap (λ (v : Verdict). deliveredAll v (a .n) (inTable (now (a .table))) old) (sym (accepted told))
+    ap (λ (buffers : Buffers). outcome Accepted buffers) (written .write-figures .ensures)
+    ∙ settled-given _ Refused (buffersOf (now (a .counts)) (now (a .signature)) (now (a .domination)) (now (a .importance))) _ (accepted told)
 
 pub figures-spec : {M : Type 1} → statement M
 figures-spec =

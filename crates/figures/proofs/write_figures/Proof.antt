@@ -1,15 +1,16 @@
 -- `figures::write_figures` meets its contract: the words are counted once, the vectors are written by the row of all path sets, and the
--- importances by the rows of the parts.
+-- importances are made by the rows of the parts and handed out.
 -- Assumes nothing.
 use mathlib.Core.Path.{_≡_, sym, ap, _∙_}
-use mathlib.Core.List.{List, _++_}
+use mathlib.Core.List.{List}
 use Prim.Native.Nat.{ℕ, _+_, _≤_}
 use native.Mathlib.Omega.{arith}
 use denote.Ref.{now}
 use lib.IntN.{ℤ, pos}
-use lib.ListN.{length, take, drop}
+use lib.ListN.{length, take}
 use lib.Seq.{length-take-le}
 use borrow.Author.Needs.{needs}
+use Rattle.answer.specs.Outcome.{front, delivered}
 use Rattle.answer.specs.declared.Verdict.the-variants.{Accepted}
 use Rattle.answer.proofs.Outcomes.{then-accepted}
 use Rattle.numbers.proofs.Tables.{tabulate-length}
@@ -20,12 +21,12 @@ use Rattle.structure.proofs.Acceptance.{accepted-table}
 use Rattle.vector_kind.specs.declared.Kind.{Kind}
 use Rattle.vector_kind.specs.declared.Kind.the-variants.{PathCounts, Signature, Domination}
 use Rattle.vector_conversion.specs.Vectors.{vectorRefusal, converted, figuresOf}
-use Rattle.theory_figures.specs.Figures.{pathCounts}
+use Rattle.theory_figures.specs.Figures.{pathCounts, importances}
 use Rattle.figures_counts.specs.Rows.{row}
 use Rattle.figures.specs.All.{roomRefusal}
 use Rattle.figures.specs.Inside.{countsOf}
 use Rattle.figures.proofs.Machines.{table-few, table-entries, all-row, table-rows, table-importances}
-use Rattle.figures.proofs.Rooms.{Room, room-accepted, all-written}
+use Rattle.figures.proofs.Rooms.{Room, room-accepted, made-room, made-front, importances-front, all-in-front}
 use Rattle.figures.proofs.Claims.{vectors-accepted, vectors-converted}
 use Rattle.figures.proofs.write_figures.Statement.{statement}
 use Rattle.figures.proofs.write_figures.Tie as tie
@@ -106,14 +107,23 @@ write-vectors-requires c κs =
       (room start .for-counts, (room start .for-signature, room start .for-domination)),
     )
 
-slice-aggregate-write-importance : tie.Need-slice-aggregate-write-importance
-slice-aggregate-write-importance c = search needs
+slice-aggregate-part-importances : tie.Need-slice-aggregate-part-importances
+slice-aggregate-part-importances c = search needs
 
-write-importance-requires : tie.Need-write-importance-requires
-write-importance-requires c κs =
-    let counted = c .before .before .before .before .before .before .before .before .before .before .before .before .before in
+part-importances-requires : tie.Need-part-importances-requires
+part-importances-requires c κs =
+    let counted = c .before .before .before .before .before .before .before .before .before .before .before .before in
     let start = counted .before .before .before in
-    (table-rows _ _ (accepted start) (counted .rows-of .result) (counted .rows-of .ensures), room start .for-importance)
+    table-rows _ _ (accepted start) (counted .rows-of .result) (counted .rows-of .ensures)
+
+array-share-prefix-made : tie.Need-array-share-prefix-made
+array-share-prefix-made c = made-room _ _ _ _ (c .part-importances .ensures)
+
+slice-aggregate-hand-out-counts : tie.Need-slice-aggregate-hand-out-counts
+slice-aggregate-hand-out-counts c = sym (length-take-le _ _ (made-room _ _ _ _ (c .before .part-importances .ensures)))
+
+hand-out-counts-requires : tie.Need-hand-out-counts-requires
+hand-out-counts-requires c κs = search needs
 
 same-length : tie.Need-same-length
 same-length c = search needs
@@ -129,19 +139,24 @@ same-length-4 c = search needs
 
 returns : tie.Need-returns
 returns c =
-    let vectors = c .before .before .before .before .before .before .before .before in
+    let handed = c .before .before in
+    let made = handed .before .before .before in
+    let vectors = made .before .before .before .before .before in
     let signed = vectors .before .before .before .before .before in
     let counted = signed .before .before .before in
     let start = counted .before .before .before in
     let a = start .args in
     let stands = vectors .write-vectors .ensures in
-    all-written (a .n) (inTable (now (a .table))) _ _ _ _ _
-    (stands .0 ∙ ap (λ (xs : List ℤ). xs ++ drop (a .n + 1) (now (a .counts))) (vector signed PathCounts))
-    (stands .1 .0 ∙ ap (λ (xs : List ℤ). xs ++ drop (a .n) (now (a .signature))) (vector signed Signature))
-    (stands .1 .1 ∙ ap (λ (xs : List ℤ). xs ++ drop (a .n + 1) (now (a .domination))) (vector signed Domination))
-    (c .before .before .write-importance .ensures
-    ∙ ap (λ (xs : List ℕ). xs ++ drop (a .n) (now (a .importance)))
-    (table-importances _ _ (accepted start) (counted .rows-of .result) (counted .rows-of .ensures)))
+    let works = inTable (now (a .table)) in
+    let parts : take (a .n) (made .part-importances .result) ≡ importances (a .n) works =
+    made-front (a .n) _ _ _ (made .part-importances .ensures)
+    ∙ table-importances _ _ (accepted start) (counted .rows-of .result) (counted .rows-of .ensures) in
+    all-in-front (a .n) works _ _ _ _ _
+    (stands .0 ∙ ap (λ (xs : List ℤ). front xs (now (a .counts))) (vector signed PathCounts))
+    (stands .1 .0 ∙ ap (λ (xs : List ℤ). front xs (now (a .signature))) (vector signed Signature))
+    (stands .1 .1 ∙ ap (λ (xs : List ℤ). front xs (now (a .domination))) (vector signed Domination))
+    (importances-front (a .n) works (now (a .importance)) _ _ (room start .for-importance)
+    (handed .hand-out-counts .ensures ∙ ap (λ (xs : List ℕ). delivered Accepted xs (now (a .importance))) parts))
 
 pub write-figures-spec : {M : Type 1} → statement M
 write-figures-spec =
@@ -156,8 +171,11 @@ write-figures-spec =
     array-share-prefix-entries
     slice-aggregate-write-vectors
     write-vectors-requires
-    slice-aggregate-write-importance
-    write-importance-requires
+    slice-aggregate-part-importances
+    part-importances-requires
+    array-share-prefix-made
+    slice-aggregate-hand-out-counts
+    hand-out-counts-requires
     same-length
     same-length-2
     same-length-3

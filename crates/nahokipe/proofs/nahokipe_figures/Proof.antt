@@ -1,8 +1,7 @@
 -- `nahokipe::nahokipe_figures` meets its contract: it hands out the verdict of the function behind it and leaves its four buffers.
 -- Assumes nothing.
-use mathlib.Core.Path.{ap, _∙_}
-use Rattle.figures.specs.All.{AllOutcome}
 use Rattle.nahokipe.specs.Answers.{ofVerdict}
+use Rattle.nahokipe.proofs.Handing.{handed-on}
 use borrow.Author.Needs.{needs}
 use Rattle.nahokipe.proofs.nahokipe_figures.Statement.{statement}
 use Rattle.nahokipe.proofs.nahokipe_figures.Tie as tie
@@ -26,9 +25,7 @@ same-length-4 : tie.Need-same-length-4
 same-length-4 c = search needs
 
 returns : tie.Need-returns
-returns c =
-    let done = c .before .before .before .before .before .before .figures .ensures in
-    record { answered = c .of-verdict .ensures ∙ ap (λ (o : AllOutcome). ofVerdict (o .answer)) done; left = ap (λ (o : AllOutcome). o .buffers) done }
+returns c = handed-on ofVerdict (c .before .before .before .before .before .before .figures .ensures) (c .of-verdict .ensures)
 
 pub nahokipe-figures-spec : {M : Type 1} → statement M
 nahokipe-figures-spec =

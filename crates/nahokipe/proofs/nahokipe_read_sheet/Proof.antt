@@ -1,8 +1,7 @@
 -- `nahokipe::nahokipe_read_sheet` meets its contract: it hands out what the function behind it receives and leaves its buffer.
 -- Assumes nothing.
-use mathlib.Core.Path.{ap, _∙_}
-use Rattle.sheet_entries.specs.Answers.{EntriesOutcome}
 use Rattle.nahokipe.specs.Answers.{ofEntriesRead}
+use Rattle.nahokipe.proofs.Handing.{handed-on}
 use borrow.Author.Needs.{needs}
 use Rattle.nahokipe.proofs.nahokipe_read_sheet.Statement.{statement}
 use Rattle.nahokipe.proofs.nahokipe_read_sheet.Tie as tie
@@ -17,12 +16,7 @@ same-length : tie.Need-same-length
 same-length c = search needs
 
 returns : tie.Need-returns
-returns c =
-    let done = c .before .before .read-sheet .ensures in
-    record {
-      answered = c .of-entries-read .ensures ∙ ap (λ (o : EntriesOutcome). ofEntriesRead (o .answer)) done;
-      left = ap (λ (o : EntriesOutcome). o .cells) done;
-    }
+returns c = handed-on ofEntriesRead (c .before .before .read-sheet .ensures) (c .of-entries-read .ensures)
 
 pub nahokipe-read-sheet-spec : {M : Type 1} → statement M
 nahokipe-read-sheet-spec =

@@ -1,8 +1,7 @@
 -- `nahokipe::nahokipe_report` meets its contract: it hands out the answer of the function behind it and leaves its two buffers.
 -- Assumes nothing.
-use mathlib.Core.Path.{ap, _∙_}
-use Rattle.report_text.specs.Reporting.{ReportOutcome}
 use Rattle.nahokipe.specs.Answers.{ofWritten}
+use Rattle.nahokipe.proofs.Handing.{handed-on}
 use borrow.Author.Needs.{needs}
 use Rattle.nahokipe.proofs.nahokipe_report.Statement.{statement}
 use Rattle.nahokipe.proofs.nahokipe_report.Tie as tie
@@ -20,13 +19,7 @@ same-length-2 : tie.Need-same-length-2
 same-length-2 c = search needs
 
 returns : tie.Need-returns
-returns c =
-    let done = c .before .before .before .before .before .report .ensures .0 in
-    record {
-      answered = c .of-written .ensures ∙ ap (λ (o : ReportOutcome). ofWritten (o .answer)) done;
-      left-table = ap (λ (o : ReportOutcome). o .table) done;
-      left-text = ap (λ (o : ReportOutcome). o .text) done;
-    }
+returns c = handed-on ofWritten (c .before .before .before .before .before .report .ensures .0) (c .of-written .ensures)
 
 pub nahokipe-report-spec : {M : Type 1} → statement M
 nahokipe-report-spec =

@@ -1,8 +1,7 @@
 -- `nahokipe::nahokipe_shares_by_both_routes` meets its contract: it hands out the answer of the function behind it and leaves its two buffers.
 -- Assumes nothing.
-use mathlib.Core.Path.{ap, _∙_}
-use Rattle.shares.specs.Both.{BothOutcome}
 use Rattle.nahokipe.specs.Answers.{ofWritten}
+use Rattle.nahokipe.proofs.Handing.{handed-on}
 use borrow.Author.Needs.{needs}
 use Rattle.nahokipe.proofs.nahokipe_shares_by_both_routes.Statement.{statement}
 use Rattle.nahokipe.proofs.nahokipe_shares_by_both_routes.Tie as tie
@@ -20,13 +19,7 @@ same-length-2 : tie.Need-same-length-2
 same-length-2 c = search needs
 
 returns : tie.Need-returns
-returns c =
-    let done = c .before .before .before .shares-by-both-routes .ensures in
-    record {
-      answered = c .of-written .ensures ∙ ap (λ (o : BothOutcome). ofWritten (o .answer)) done;
-      left = ap (λ (o : BothOutcome). o .first) done;
-      left-second = ap (λ (o : BothOutcome). o .second) done;
-    }
+returns c = handed-on ofWritten (c .before .before .before .shares-by-both-routes .ensures) (c .of-written .ensures)
 
 pub nahokipe-shares-by-both-routes-spec : {M : Type 1} → statement M
 nahokipe-shares-by-both-routes-spec =

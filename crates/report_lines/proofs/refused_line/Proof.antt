@@ -46,11 +46,11 @@ put-count-requires c κs = search needs
 array-share-prefix-line : tie.Need-array-share-prefix-line
 array-share-prefix-line c = wrote-inside (line (c .before))
 
-slice-aggregate-hand-out : tie.Need-slice-aggregate-hand-out
-slice-aggregate-hand-out c = sym (length-take-le _ _ (wrote-inside (line (c .before .before))))
+slice-aggregate-hand-out-bytes : tie.Need-slice-aggregate-hand-out-bytes
+slice-aggregate-hand-out-bytes c = sym (length-take-le _ _ (wrote-inside (line (c .before .before))))
 
-hand-out-requires : tie.Need-hand-out-requires
-hand-out-requires c κs = search needs
+hand-out-bytes-requires : tie.Need-hand-out-bytes-requires
+hand-out-bytes-requires c κs = search needs
 
 same-length : tie.Need-same-length
 same-length c = search needs
@@ -60,7 +60,7 @@ returns c =
     let handed = c .before .before in
     let built = handed .before .before .before .before in
     let a = built .before .before .before .before .before .before .before .args in
-    (handed .hand-out .ensures ∙ ap (λ (text : List ℕ). delivered Accepted text (now (a .text))) (wrote-front (line built)), omega (arith, line built .short))
+    (handed .hand-out-bytes .ensures ∙ ap (λ (text : List ℕ). delivered Accepted text (now (a .text))) (wrote-front (line built)), omega (arith, line built .short))
 
 pub refused-line-spec : {M : Type 1} → statement M
 refused-line-spec =
@@ -72,7 +72,7 @@ refused-line-spec =
     slice-aggregate-put-count
     put-count-requires
     array-share-prefix-line
-    slice-aggregate-hand-out
-    hand-out-requires
+    slice-aggregate-hand-out-bytes
+    hand-out-bytes-requires
     same-length
     returns)

@@ -1,26 +1,39 @@
--- `report_text::hand_out_both` meets its contract: nothing is put where either buffer is short, and else each result in front of its own.
+-- `report_text::hand_out_both` meets its contract: nothing is handed out where either buffer is short, and else each result into its own.
 -- Assumes nothing.
-use mathlib.Core.Path.{sym, _∙_}
-use borrow.Author.Tests.{leb-true}
+use mathlib.Core.Path.{ap, _∙_}
 use denote.Ref.{now}
-use Rattle.answer.proofs.Outcomes.{in-front-none}
-use Rattle.answer.proofs.Placing.{in-front-more}
+use Rattle.answer.specs.Outcome.{outcome}
+use Rattle.answer.specs.declared.Written.{Written}
+use Rattle.report_text.specs.Reporting.{reportBuffers}
 use Rattle.report_text.proofs.Handing.{both-handed, text-short, table-short}
 use borrow.Author.Needs.{needs}
 use Rattle.report_text.proofs.hand_out_both.Statement.{statement}
 use Rattle.report_text.proofs.hand_out_both.Tie as tie
 
-fits-requires : tie.Need-fits-requires
-fits-requires c κs = search needs
+short-requires : tie.Need-short-requires
+short-requires c κs = search needs
 
-fits-requires-2 : tie.Need-fits-requires-2
-fits-requires-2 c κs = search needs
+returns : tie.Need-returns
+returns c =
+    let a = c .before .before .before .before .before .before .args in
+    ap (λ (w : Written). outcome w (reportBuffers (now (a .table)) (now (a .text)))) (c .short .ensures)
+    ∙ table-short (now (a .own-table)) (now (a .own-text)) (now (a .table)) (now (a .text)) (c .before .if1 .taken)
 
-put-requires : tie.Need-put-requires
-put-requires c κs = search needs
+short-requires-2 : tie.Need-short-requires-2
+short-requires-2 c κs = search needs
 
-put-requires-2 : tie.Need-put-requires-2
-put-requires-2 c κs = search needs
+returns-2 : tie.Need-returns-2
+returns-2 c =
+    let first = c .before .before in
+    let a = first .before .before .before .before .before .args in
+    ap (λ (w : Written). outcome w (reportBuffers (now (a .table)) (now (a .text)))) (c .short2 .ensures)
+    ∙ text-short (now (a .own-table)) (now (a .own-text)) (now (a .table)) (now (a .text)) (first .if1 .left) (c .before .if2 .taken)
+
+hand-out-bytes-requires : tie.Need-hand-out-bytes-requires
+hand-out-bytes-requires c κs = search needs
+
+hand-out-bytes-requires-2 : tie.Need-hand-out-bytes-requires-2
+hand-out-bytes-requires-2 c κs = search needs
 
 same-length : tie.Need-same-length
 same-length c = search needs
@@ -28,51 +41,25 @@ same-length c = search needs
 same-length-2 : tie.Need-same-length-2
 same-length-2 c = search needs
 
-returns : tie.Need-returns
-returns c =
-    let put-text = c .before .before in
-    let put-table = put-text .before .before .before .before in
-    let second = put-table .before .before in
-    let first = second .before .before in
-    let a = first .before .before .before .before .before .before .args in
-    let table-fits = sym (first .before .fits2 .ensures) ∙ first .if1 .taken in
-    let text-fits = sym (second .before .fits3 .ensures) ∙ second .if2 .taken in
-    both-handed (now (a .own-table)) (now (a .own-text)) (now (a .table)) (now (a .text)) table-fits text-fits _ _
-    (in-front-more (in-front-none (now (a .table))) (now (a .own-table)) _ _ (leb-true _ _ table-fits) (put-table .put .ensures) .stands)
-    (in-front-more (in-front-none (now (a .text))) (now (a .own-text)) _ _ (leb-true _ _ text-fits) (put-text .put2 .ensures) .stands)
-
-short-requires : tie.Need-short-requires
-short-requires c κs = search needs
-
-returns-2 : tie.Need-returns-2
-returns-2 c =
-    let second = c .before in
-    let first = second .before .before in
-    let a = first .before .before .before .before .before .before .args in
-    text-short (now (a .own-table)) (now (a .own-text)) (now (a .table)) (now (a .text)) (sym (first .before .fits2 .ensures) ∙ first .if1 .taken)
-    (sym (second .before .fits3 .ensures) ∙ second .if2 .left) _ (c .short .ensures)
-
-short-requires-2 : tie.Need-short-requires-2
-short-requires-2 c κs = search needs
-
 returns-3 : tie.Need-returns-3
 returns-3 c =
-    let first = c .before in
-    let a = first .before .before .before .before .before .before .args in
-    table-short (now (a .own-table)) (now (a .own-text)) (now (a .table)) (now (a .text)) (sym (first .before .fits2 .ensures) ∙ first .if1 .left) _ (c .short2 .ensures)
+    let handed-text = c .before .before in
+    let handed-table = handed-text .before .before .before .before in
+    let second = handed-table .before .before in
+    let a = second .before .before .before .before .before .before .args in
+    both-handed (now (a .own-table)) (now (a .own-text)) (now (a .table)) (now (a .text)) (second .before .if1 .left) (second .if2 .left)
+    (handed-table .hand-out-bytes .ensures) (handed-text .hand-out-bytes2 .ensures)
 
 pub hand-out-both-spec : {M : Type 1} → statement M
 hand-out-both-spec =
     tie.close
     (tie.spec
-    fits-requires
-    fits-requires-2
-    put-requires
-    put-requires-2
+    short-requires
+    returns
+    short-requires-2
+    returns-2
+    hand-out-bytes-requires
+    hand-out-bytes-requires-2
     same-length
     same-length-2
-    returns
-    short-requires
-    returns-2
-    short-requires-2
     returns-3)

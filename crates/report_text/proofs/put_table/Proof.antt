@@ -5,10 +5,12 @@ use mathlib.Core.List.{List}
 use Prim.Native.Nat.{ℕ, _≤_}
 use denote.Ref.{now}
 use lib.ListN.{length}
+use Rattle.answer.specs.Outcome.{Outcome}
 use Rattle.answer.specs.Placed.{placed}
+use Rattle.answer.specs.declared.Verdict.{Verdict}
 use Rattle.theory_sets.specs.Tables.{inTable}
 use Rattle.structure.proofs.Acceptance.{accepted-table}
-use Rattle.figures.specs.All.{AllOutcome}
+use Rattle.figures.specs.All.{Buffers}
 use Rattle.report_text.proofs.Figures.{all-figures, figures-text}
 use borrow.Author.Needs.{needs}
 use Rattle.report_text.proofs.put_table.Statement.{statement}
@@ -61,7 +63,7 @@ returns c =
     let accepted = start .pre in
     let all = worked .figures .ensures ∙ all-figures n table accepted in
     let same = figures-text (a .list) (a .sets) (inTable table) (accepted-table n table accepted .few) _ _ _ _ _ _
-    (ap (λ (o : AllOutcome). o .buffers .signature) all) (ap (λ (o : AllOutcome). o .buffers .domination) all) (ap (λ (o : AllOutcome). o .buffers .importance) all) in
+    (ap (λ (o : Outcome Verdict Buffers). o .buffer .signature) all) (ap (λ (o : Outcome Verdict Buffers). o .buffer .domination) all) (ap (λ (o : Outcome Verdict Buffers). o .buffer .importance) all) in
     (wrote .put-figures .ensures .0 ∙ ap (placed (now (a .text)) 0) same, subst (λ (text : List ℕ). length text ≤ 4096) same (wrote .put-figures .ensures .1))
 
 pub put-table-spec : {M : Type 1} → statement M

@@ -7,13 +7,15 @@ use native.Mathlib.Omega.{arith}
 use denote.Ref.{now}
 use lib.ListN.{length}
 use borrow.Author.Needs.{needs}
+use Rattle.answer.specs.Outcome.{andThen, room}
+use Rattle.answer.specs.declared.Verdict.the-variants.{Accepted}
+use Rattle.answer.proofs.Outcomes.{then-accepted, room-accepted}
 use Rattle.theory_sets.specs.Tables.{inTable}
 use Rattle.shares_claim.specs.SetBySet.{sharesBySets}
 use Rattle.shares_claim.specs.Reliability.{sharesByReliability}
 use Rattle.shares_claim.specs.Claim.{groupCounts}
 use Rattle.shares_claim.specs.Refusals.{sharesRefusal}
 use Rattle.shares_claim.proofs.Claim.{counts-length, given-counts, shares-are-counts}
-use Rattle.shares_group.proofs.Answers.{roomy}
 use Rattle.shares.proofs.TwoBuffers.{route-written, both-unwritten, both-written}
 use Rattle.shares.proofs.shares_by_both_routes.Statement.{statement}
 use Rattle.shares.proofs.shares_by_both_routes.Tie as tie
@@ -30,8 +32,8 @@ judge-requires c κs = search needs
 enum-known-judged : tie.Need-enum-known-judged
 enum-known-judged c = search needs
 
-enum-known-judged-2 : tie.Need-enum-known-judged-2
-enum-known-judged-2 c = search needs
+enum-told : tie.Need-enum-told
+enum-told c = search needs
 
 shares-by-sets-requires : tie.Need-shares-by-sets-requires
 shares-by-sets-requires c κs = search needs
@@ -53,7 +55,8 @@ returns c =
     let sized = roomed .before in
     let a = sized .before .before .args in
     both-unwritten (sharesRefusal (a .n) (now (a .table)) (a .group)) (groupCounts (a .n) (inTable (now (a .table))) (a .group)) (sized .size .result) (long sized)
-    (now (a .first)) (now (a .second)) (roomed .smaller .result) (roomed .smaller .ensures) _ (c .before .judged .given .1) (judged .judge .ensures)
+    (now (a .first)) (now (a .second)) (roomed .smaller .result) (roomed .smaller .ensures)
+    (sym (judged .judge .ensures) ∙ c .before .judged .given .1)
 
 same-length : tie.Need-same-length
 same-length c = search needs
@@ -66,23 +69,27 @@ returns-2 c =
     let later = c .before in
     let earlier = later .before .before .before in
     let told = earlier .before .before in
-    let judged = told .before .before .before in
+    let judged = told .before .before in
     let roomed = judged .before in
     let sized = roomed .before in
     let a = sized .before .before .args in
     let works = inTable (now (a .table)) in
     let refusal = sharesRefusal (a .n) (now (a .table)) (a .group) in
     let result = groupCounts (a .n) works (a .group) in
-    let room = roomy refusal (sized .size .result) (roomed .smaller .result) _ (told .before .judged2 .given .1) (judged .judge .ensures) in
-    let first-fits : sized .size .result ≤ length (now (a .first)) = omega (arith, room .fits, roomed .smaller .ensures) in
-    let second-fits : sized .size .result ≤ length (now (a .second)) = omega (arith, room .fits, roomed .smaller .ensures) in
-    let claim = shares-are-counts (a .n) (now (a .table)) (a .group) (now (a .first)) (now (a .second)) (room .accepted)
+    let needed = sized .size .result in
+    let lent = roomed .smaller .result in
+    let passed : andThen refusal (room needed lent) ≡ Accepted = sym (judged .judge .ensures) ∙ told .enum-told .given .1 in
+    let checked = then-accepted refusal (room needed lent) passed in
+    let fits : needed ≤ lent = room-accepted needed lent (checked .1) in
+    let first-fits : needed ≤ length (now (a .first)) = omega (arith, roomed .smaller .ensures) in
+    let second-fits : needed ≤ length (now (a .second)) = omega (arith, roomed .smaller .ensures) in
+    let claim = shares-are-counts (a .n) (now (a .table)) (a .group) (now (a .first)) (now (a .second)) (checked .0)
     (rw (sized .size .ensures) at first-fits) (rw (sized .size .ensures) at second-fits) in
-    both-written refusal result (sized .size .result) (long sized) (now (a .first)) (now (a .second)) (roomed .smaller .result) (roomed .smaller .ensures) _ room _ _
-    (route-written refusal result (sized .size .result) (long sized) (sharesBySets (a .n) works (a .group)) (now (a .first)) _ (earlier .shares-by-sets .result)
-    (given-counts (a .n) works (a .group) refusal _ (now (a .first)) (claim .0)) (room .accepted) first-fits (earlier .shares-by-sets .ensures))
-    (route-written refusal result (sized .size .result) (long sized) (sharesByReliability (a .n) works (a .group)) (now (a .second)) _ (later .shares-by-reliability .result)
-    (given-counts (a .n) works (a .group) refusal _ (now (a .second)) (claim .1)) (room .accepted) second-fits (later .shares-by-reliability .ensures))
+    both-written refusal result needed (long sized) (now (a .first)) (now (a .second)) lent (roomed .smaller .ensures) passed _ _
+    (route-written refusal result needed (long sized) (sharesBySets (a .n) works (a .group)) (now (a .first)) _ (earlier .shares-by-sets .result)
+    (given-counts (a .n) works (a .group) refusal _ (now (a .first)) (claim .0)) (checked .0) first-fits (earlier .shares-by-sets .ensures))
+    (route-written refusal result needed (long sized) (sharesByReliability (a .n) works (a .group)) (now (a .second)) _ (later .shares-by-reliability .result)
+    (given-counts (a .n) works (a .group) refusal _ (now (a .second)) (claim .1)) (checked .0) second-fits (later .shares-by-reliability .ensures))
 
 pub shares-by-both-routes-spec : {M : Type 1} → statement M
 shares-by-both-routes-spec =
@@ -92,7 +99,7 @@ shares-by-both-routes-spec =
     smaller-requires
     judge-requires
     enum-known-judged
-    enum-known-judged-2
+    enum-told
     shares-by-sets-requires
     shares-by-reliability-requires
     returns

@@ -6,7 +6,8 @@ use mathlib.Core.List.{List}
 use native.Mathlib.Nat.{le-trans, le-of-eq}
 use denote.Ref.{now}
 use lib.Count.{ones-le}
-use lib.IntN.{ℤ}
+use lib.IntN.{ℤ, pos}
+use lib.ListN.{replicate}
 use borrow.Author.Needs.{needs}
 use Rattle.answer.specs.Outcome.{delivered}
 use Rattle.answer.specs.declared.Verdict.{Verdict}
@@ -42,7 +43,7 @@ write-shares-requires c κs =
     let sized = called .before .before in
     let a = sized .before .before .args in
     let works = inTable (now (a .table)) in
-    let found = found-given (a .n) (now (a .table)) (a .group) _ _ (called .reliability .result) refl (called .reliability .ensures) _ (told .before .found2 .given .1) in
+    let found = found-given (a .n) (now (a .table)) (a .group) (replicate 289 (pos 0)) _ (called .reliability .result) refl (called .reliability .ensures) _ (told .before .found2 .given .1) in
     let group = accepted-group (a .n) (now (a .table)) (a .group) (found .accepted) in (
       group .few,
       (
@@ -59,7 +60,7 @@ returns c =
     let called = c .before .before .before .before in
     let sized = called .before .before in
     let a = sized .before .before .args in
-    found-refused (a .n) (now (a .table)) (a .group) _ _ (called .reliability .result) refl (called .reliability .ensures) _ (c .before .found .given .1)
+    found-refused (a .n) (now (a .table)) (a .group) (replicate 289 (pos 0)) _ (called .reliability .result) refl (called .reliability .ensures) _ (c .before .found .given .1)
     (sharesByReliability (a .n) (inTable (now (a .table))) (a .group)) (now (a .shares))
 
 same-length : tie.Need-same-length
@@ -73,7 +74,7 @@ returns-2 c =
     let sized = called .before .before in
     let a = sized .before .before .args in
     let works = inTable (now (a .table)) in
-    let found = found-given (a .n) (now (a .table)) (a .group) _ _ (called .reliability .result) refl (called .reliability .ensures) _ (told .before .found2 .given .1) in
+    let found = found-given (a .n) (now (a .table)) (a .group) (replicate 289 (pos 0)) _ (called .reliability .result) refl (called .reliability .ensures) _ (told .before .found2 .given .1) in
     let group = accepted-group (a .n) (now (a .table)) (a .group) (found .accepted) in
     written .write-shares .ensures
     ∙ ap₂ (λ (v : Verdict) (xs : List ℤ). delivered v xs (now (a .shares))) (sym (found .accepted))

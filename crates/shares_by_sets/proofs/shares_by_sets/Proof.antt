@@ -6,11 +6,14 @@ use Prim.Native.Nat.{ℕ, _≤_}
 use denote.Ref.{now}
 use lib.ListN.{length, drop}
 use borrow.Author.Needs.{needs}
+use Rattle.answer.specs.Outcome.{andThen, room}
+use Rattle.answer.specs.declared.Verdict.the-variants.{Accepted}
+use Rattle.answer.proofs.Outcomes.{then-accepted, room-accepted}
+use Rattle.answer.proofs.Deliveries.{checked-refused, checked-whole}
 use Rattle.theory_sets.specs.Tables.{inTable}
 use Rattle.shares_claim.specs.SetBySet.{sharesBySets}
 use Rattle.shares_claim.specs.Refusals.{sharesRefusal}
 use Rattle.shares_claim.proofs.Claim.{accepted-group}
-use Rattle.shares_group.proofs.Answers.{roomy, unwritten-delivered, whole-delivered}
 use Rattle.shares_by_sets.proofs.Sets.{by-sets-length}
 use Rattle.shares_by_sets.proofs.shares_by_sets.Statement.{statement}
 use Rattle.shares_by_sets.proofs.shares_by_sets.Tie as tie
@@ -24,8 +27,8 @@ judge-requires c κs = search needs
 enum-known-judged : tie.Need-enum-known-judged
 enum-known-judged c = search needs
 
-enum-known-judged-2 : tie.Need-enum-known-judged-2
-enum-known-judged-2 c = search needs
+enum-told : tie.Need-enum-told
+enum-told c = search needs
 
 -- the cells needed are the shares
 long : (c : tie.After-size)
@@ -34,24 +37,28 @@ long c =
     let a = c .before .before .args in
     c .size .ensures ∙ sym (by-sets-length (a .n) (inTable (now (a .table))) (a .group))
 
+-- nothing is refused, and there is room
+passed : (c : tie.After-enum-told)
+    → andThen (sharesRefusal (c .before .before .before .before .before .args .n) (now (c .before .before .before .before .before .args .table)) (c .before .before .before .before .before .args .group))
+    (room (c .before .before .before .size .result) (length (now (c .before .before .before .before .before .args .shares)))) ≡ Accepted
+passed c = sym (c .before .before .judge .ensures) ∙ c .enum-told .given .1
+
 write-by-sets-requires : tie.Need-write-by-sets-requires
 write-by-sets-requires c κs =
     let told = c .before in
-    let judged = told .before .before .before in
-    let sized = judged .before in
+    let sized = told .before .before .before in
     let a = sized .before .before .args in
-    let room = roomy (sharesRefusal (a .n) (now (a .table)) (a .group)) (sized .size .result) (length (now (a .shares))) _
-    (told .before .judged2 .given .1) (judged .judge .ensures) in
-    let group = accepted-group (a .n) (now (a .table)) (a .group) (room .accepted) in
-    (group .few, (group .within, subst (λ (m : ℕ). m ≤ length (now (a .shares))) (sized .size .ensures) (room .fits)))
+    let both = then-accepted (sharesRefusal (a .n) (now (a .table)) (a .group)) _ (passed told) in
+    let group = accepted-group (a .n) (now (a .table)) (a .group) (both .0) in
+    (group .few, (group .within, subst (λ (m : ℕ). m ≤ length (now (a .shares))) (sized .size .ensures) (room-accepted (sized .size .result) (length (now (a .shares))) (both .1))))
 
 returns : tie.Need-returns
 returns c =
     let judged = c .before .before .before in
     let sized = judged .before in
     let a = sized .before .before .args in
-    unwritten-delivered (sharesRefusal (a .n) (now (a .table)) (a .group)) (sharesBySets (a .n) (inTable (now (a .table))) (a .group)) (now (a .shares))
-    (sized .size .result) (λ e. long sized) _ (c .before .judged .given .1) (judged .judge .ensures)
+    checked-refused (sharesRefusal (a .n) (now (a .table)) (a .group)) (sharesBySets (a .n) (inTable (now (a .table))) (a .group)) (now (a .shares))
+    (sized .size .result) (λ e. long sized) (sym (judged .judge .ensures) ∙ c .before .judged .given .1)
 
 same-length : tie.Need-same-length
 same-length c = search needs
@@ -60,13 +67,10 @@ returns-2 : tie.Need-returns-2
 returns-2 c =
     let written = c .before in
     let told = written .before .before in
-    let judged = told .before .before .before in
-    let sized = judged .before in
+    let sized = told .before .before .before in
     let a = sized .before .before .args in
-    let refusal = sharesRefusal (a .n) (now (a .table)) (a .group) in
     let result = sharesBySets (a .n) (inTable (now (a .table))) (a .group) in
-    whole-delivered refusal result (now (a .shares)) (sized .size .result) (λ e. long sized) _
-    (roomy refusal (sized .size .result) (length (now (a .shares))) _ (told .before .judged2 .given .1) (judged .judge .ensures)) _
+    checked-whole (sharesRefusal (a .n) (now (a .table)) (a .group)) result (now (a .shares)) (sized .size .result) (λ e. long sized) (passed told) _
     (written .write-by-sets .ensures ∙ ap (λ (k : ℕ). result ++ drop k (now (a .shares))) (sym (sized .size .ensures)))
 
 pub shares-by-sets-spec : {M : Type 1} → statement M
@@ -76,7 +80,7 @@ shares-by-sets-spec =
     size-requires
     judge-requires
     enum-known-judged
-    enum-known-judged-2
+    enum-told
     write-by-sets-requires
     returns
     same-length

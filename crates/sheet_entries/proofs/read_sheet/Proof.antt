@@ -1,20 +1,15 @@
--- `sheet_entries::read_sheet` meets its contract: a refused sheet and a short buffer leave the cells alone, and else the entries are copied.
+-- `sheet_entries::read_sheet` meets its contract: a refused sheet leaves the cells alone, and else its entries are handed out.
 -- Assumes nothing.
 use mathlib.Core.Path.{sym, ap, ap₂, _∙_}
 use mathlib.Core.List.{List}
-use Prim.Native.Nat.{ℕ}
-use native.Mathlib.Omega.{arith}
 use denote.Ref.{now}
 use lib.IntN.{ℤ}
-use Rattle.answer.specs.Outcome.{at}
-use Rattle.answer.specs.Refusals.{shortBuffer}
-use Rattle.answer.specs.declared.Written.the-variants.{Length}
-use Rattle.vector.specs.InStruct.{entriesOf}
-use Rattle.sheet_entries.specs.Answers.{entriesOutcome, entriesRefused, entriesDelivered}
+use Rattle.answer.specs.Outcome.{Outcome, outcome, retold}
+use Rattle.answer.specs.declared.Written.{Written}
 use Rattle.sheet.specs.Sheets.{Sheet, sheetOf}
-use Rattle.sheet_entries.specs.declared.EntriesRead.{EntriesRead}
 use Rattle.sheet_reading.proofs.Reading.{GivenAs, sheet-given, sheet-refused}
-use Rattle.sheet_entries.proofs.Delivering.{entriesDelivered-short, entriesDelivered-long}
+use Rattle.sheet_entries.specs.declared.EntriesRead.{EntriesRead}
+use Rattle.sheet_entries.specs.Answers.{entriesRead, entriesDelivered}
 use borrow.Author.Needs.{needs}
 use Rattle.sheet_entries.proofs.read_sheet.Statement.{statement}
 use Rattle.sheet_entries.proofs.read_sheet.Tie as tie
@@ -29,58 +24,45 @@ vector-of-sheet-requires c κs = search needs
 enum-known-verdict : tie.Need-enum-known-verdict
 enum-known-verdict c = search needs
 
-entries-refused-requires : tie.Need-entries-refused-requires
-entries-refused-requires c κs = search needs
+entries-read-requires : tie.Need-entries-read-requires
+entries-read-requires c κs = search needs
 
 enum-told : tie.Need-enum-told
 enum-told c = search needs
 
-entries-refused-requires-2 : tie.Need-entries-refused-requires-2
-entries-refused-requires-2 c κs = search needs
+array-share-prefix-entries : tie.Need-array-share-prefix-entries
+array-share-prefix-entries c = accepted (c .before .before) .inside
+
+slice-aggregate-hand-out-entries : tie.Need-slice-aggregate-hand-out-entries
+slice-aggregate-hand-out-entries c = sym (accepted (c .before .before .before) .counted)
+
+hand-out-entries-requires : tie.Need-hand-out-entries-requires
+hand-out-entries-requires c κs = search needs
+
+entries-read-requires-2 : tie.Need-entries-read-requires-2
+entries-read-requires-2 c κs = search needs
 
 returns : tie.Need-returns
 returns c =
-    let told = c .before .before .before in
-    let a = told .before .before .before .before .args in
-    let vector = told .before .before .vector-of-sheet .result .vector in
-    let cells = now (a .cells) in
-    let sheet = accepted told in
-    ap (λ (r : EntriesRead). entriesOutcome r cells) (c .entries-refused2 .ensures)
-    ∙ ap (λ (k : ℕ). entriesRefused (at shortBuffer k) cells) (sym (sheet .counted))
-    ∙ entriesDelivered-short (vector .kind) (vector .n) (entriesOf vector) cells (omega (arith, sheet .counted, c .before .if1 .taken))
-    ∙ sym (ap (λ (s : Sheet). entriesDelivered s cells) (sheet .given))
-
-array-share-prefix-entries : tie.Need-array-share-prefix-entries
-array-share-prefix-entries c = accepted (c .before .before .before) .inside
-
-slice-aggregate-copy : tie.Need-slice-aggregate-copy
-slice-aggregate-copy c = sym (accepted (c .before .before .before .before) .counted)
-
-copy-requires : tie.Need-copy-requires
-copy-requires c κs = omega (arith, accepted (c .before .before .before .before .before) .counted, c .before .before .before .if1 .left)
-
-returns-2 : tie.Need-returns-2
-returns-2 c =
     let told = c .before .before in
     let read = told .before .before in
     let a = read .before .before .args in
     let cells = now (a .cells) in
-    ap (λ (r : EntriesRead). entriesOutcome r cells) (c .entries-refused .ensures)
+    ap (λ (r : EntriesRead). outcome r cells) (c .entries-read .ensures)
     ∙ sym (ap (λ (s : Sheet). entriesDelivered s cells) (sheet-refused (sheetOf (now (a .bytes))) (read .vector-of-sheet .result) _ (read .vector-of-sheet .ensures) (told .verdict .given .1)))
 
 same-length : tie.Need-same-length
 same-length c = search needs
 
-returns-3 : tie.Need-returns-3
-returns-3 c =
-    let told = c .before .before .before .before .before .before .before in
+returns-2 : tie.Need-returns-2
+returns-2 c =
+    let handed = c .before .before in
+    let told = handed .before .before .before .before .before in
     let a = told .before .before .before .before .args in
     let vector = told .before .before .vector-of-sheet .result .vector in
-    let cells = now (a .cells) in
-    let sheet = accepted told in
-    ap₂ (λ (k : ℕ) (l : List ℤ). entriesOutcome (record { kind = vector .kind; n = vector .n; answer = Length k }) l) (sym (sheet .counted)) (c .before .copy .ensures)
-    ∙ entriesDelivered-long (vector .kind) (vector .n) (entriesOf vector) cells (omega (arith, sheet .counted, c .before .before .before .before .before .if1 .left))
-    ∙ sym (ap (λ (s : Sheet). entriesDelivered s cells) (sheet .given))
+    ap (λ (r : EntriesRead). outcome r (handed .hand-out-entries .last .1 .0)) (c .entries-read2 .ensures)
+    ∙ ap (retold (entriesRead (vector .kind) (vector .n))) (handed .hand-out-entries .ensures)
+    ∙ sym (ap (λ (s : Sheet). entriesDelivered s (now (a .cells))) (accepted told .given))
 
 pub read-sheet-spec : {M : Type 1} → statement M
 read-sheet-spec =
@@ -88,13 +70,12 @@ read-sheet-spec =
     (tie.spec
     vector-of-sheet-requires
     enum-known-verdict
-    entries-refused-requires
+    entries-read-requires
     enum-told
-    entries-refused-requires-2
-    returns
     array-share-prefix-entries
-    slice-aggregate-copy
-    copy-requires
-    returns-2
+    slice-aggregate-hand-out-entries
+    hand-out-entries-requires
+    entries-read-requires-2
+    returns
     same-length
-    returns-3)
+    returns-2)

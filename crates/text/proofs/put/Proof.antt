@@ -8,7 +8,7 @@ use denote.Ref.{now}
 use lib.ListN.{length, take, drop}
 use lib.Seq.{take-length}
 use Prim.Native.Nat.{ℕ}
-use Rattle.answer.specs.Placed.{leaves}
+use Rattle.answer.specs.Outcome.{outcome}
 use Rattle.answer.proofs.Placing.{placed-fits, placed-short}
 use borrow.Author.Needs.{needs}
 use Rattle.text.proofs.put.Statement.{statement}
@@ -42,7 +42,7 @@ returns-3 c =
     let text = now (a .text) in
     let bytes = now (a .bytes) in
     let next : ℕ = a .at + length bytes in
-    ap (leaves next) (c .before .before .copy .ensures ∙ ap (λ (front : List ℕ). take (a .at) text ++ front ++ drop next text) (take-length bytes))
+    ap (outcome next) (c .before .before .copy .ensures ∙ ap (λ (front : List ℕ). take (a .at) text ++ front ++ drop next text) (take-length bytes))
     ∙ sym (placed-fits text (a .at) bytes (omega arith))
 
 pub put-spec : {M : Type 1} → statement M

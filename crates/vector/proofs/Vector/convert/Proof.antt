@@ -61,12 +61,12 @@ module _ (vector : Vector) (all : length (vector .entries) ≡ mostEntries) (tar
       → given (verdict.Refused why) (vectorHolding target (vector .n) (converted target (vector .kind) (vector .n) (entriesOf vector))) ≡ structConverted vector target
   why-refused now why e =
       ap (λ (v : Verdict). given v (vectorHolding target (vector .n) (converted target (vector .kind) (vector .n) (entriesOf vector))))
-      (sym (refused-by judged _ (replicate mostEntries (pos 0)) now why (converted-fits target (vector .kind) (vector .n) entries) e) ∙ same)
+      (sym (refused-by judged (converted target (vector .kind) (vector .n) entries) (replicate mostEntries (pos 0)) now why (converted-fits target (vector .kind) (vector .n) entries) e) ∙ same)
 
   what-written : (now : List ℤ) (long : ℕ) → outcome (written.Length long) now ≡ delivered judged (converted target (vector .kind) (vector .n) entries) (replicate mostEntries (pos 0))
       → given Accepted (record { kind = target; n = vector .n; length = long; entries = now }) ≡ structConverted vector target
   what-written now long e =
-      let whole = written-whole judged _ (replicate mostEntries (pos 0)) now long e in
+      let whole = written-whole judged (converted target (vector .kind) (vector .n) entries) (replicate mostEntries (pos 0)) now long e in
       let accepted : structRefusal vector ≡ Accepted = sym same ∙ whole .accepted in
       ap₂ (λ (k : ℕ) (cells : List ℤ). given Accepted (record { kind = target; n = vector .n; length = k; entries = cells })) (whole .counted) (whole .stands ∙ zeros-behind (converted target (vector .kind) (vector .n) entries))
       ∙ ap (λ (k : ℕ). given Accepted (vectorHolding target (vector .n) (converted target (vector .kind) (vector .n) (take k (vector .entries))))) (lent ∙ lent-all vector accepted)

@@ -1,11 +1,8 @@
 -- `sheet_entries::read_sheet` meets its contract: a refused sheet leaves the cells alone, and else its entries are handed out.
 -- Assumes nothing.
-use mathlib.Core.Path.{sym, ap, ap₂, _∙_}
-use mathlib.Core.List.{List}
+use mathlib.Core.Path.{sym, ap, _∙_}
 use denote.Ref.{now}
-use lib.IntN.{ℤ}
-use Rattle.answer.specs.Outcome.{Outcome, outcome, retold}
-use Rattle.answer.specs.declared.Written.{Written}
+use Rattle.answer.specs.Outcome.{outcome, retold}
 use Rattle.sheet.specs.Sheets.{Sheet, sheetOf}
 use Rattle.sheet_reading.proofs.Reading.{GivenAs, sheet-given, sheet-refused}
 use Rattle.sheet_entries.specs.declared.EntriesRead.{EntriesRead}

@@ -10,7 +10,7 @@ use native.Mathlib.Nat.{pow-succ', one-le-pow}
 use native.Mathlib.Omega.{arith}
 use borrow.Author.Tests.{leb-false, ltb-false}
 use lib.Dec.{ltb, leb, eqb}
-use lib.ListN.{length, getD, take, drop, take-append-drop, length-take, length-drop, List·getD-eq-default}
+use lib.ListN.{length, take, drop, take-append-drop, length-take, length-drop, List·getD-eq-default}
 use lib.Seq.{take-take, drop-drop, getD-take, getD-drop, length-take-le, take-append-seam}
 use Rattle.answer.specs.Refusals.{endOfBytes, wrongNumber}
 use Rattle.codec.specs.Bytes.{Bytes}

@@ -11,6 +11,7 @@ use Rattle.theory_sets.specs.Structures.{listed}
 use Rattle.theory_figures.specs.Figures.{importance, pathCounts, tails, signatures, dominations}
 use Rattle.shares_claim.specs.SetBySet.{sharesBySets}
 use Rattle.shares_claim.specs.Reliability.{reliabilityCells, sharesByReliability}
+use Rattle.shares_claim.specs.Claim.{groupCounts}
 use Rattle.vector_conversion.specs.Vectors.{vectorRefusal}
 use Rattle.vector_kind.specs.declared.Kind.{Kind}
 use Rattle.vector_kind.specs.declared.Kind.the-variants.{PathCounts, Tail}
@@ -24,7 +25,7 @@ pub record Structure : Type 0 where
 pub data Question : Type 0 where
   pathCountsOf tailOf signatureOf dominationOf : Structure → Question
   importanceOf : Structure → ℕ → Question
-  sharesBySetsOf reliabilityOf sharesByReliabilityOf : Structure → ℕ → Question
+  countsOf sharesBySetsOf reliabilityOf sharesByReliabilityOf : Structure → ℕ → Question
   verdictOf : Kind → ℕ → List ℤ → Question
 
 -- figures, or a verdict
@@ -39,6 +40,7 @@ value (tailOf s) = figures (tails (s .parts) (listed (s .sets)))
 value (signatureOf s) = figures (signatures (s .parts) (listed (s .sets)))
 value (dominationOf s) = figures (dominations (s .parts) (listed (s .sets)))
 value (importanceOf s position) = figures (pos (importance (s .parts) (listed (s .sets)) position) ∷ [])
+value (countsOf s group) = figures (groupCounts (s .parts) (listed (s .sets)) group)
 value (sharesBySetsOf s group) = figures (sharesBySets (s .parts) (listed (s .sets)) group)
 value (reliabilityOf s group) = figures (reliabilityCells (s .parts) (listed (s .sets)) group)
 value (sharesByReliabilityOf s group) = figures (sharesByReliability (s .parts) (listed (s .sets)) group)
@@ -58,9 +60,12 @@ isJudged question answer = record { question = question; answer = verdict answer
 abbrev pub bridge : Structure
 bridge = record { parts = 5; sets = 9 ∷ 14 ∷ 18 ∷ 21 ∷ [] }
 
--- the group of positions 1, 2, 3
+-- the group of positions 1, 2, 3, and that of all
 abbrev pub firstThree : ℕ
 firstThree = 7
+
+abbrev pub allFive : ℕ
+allFive = 31
 
 -- h(x,z) = 2xz + 2x²z - 2x³z - 3x²z² + 2x³z²: for each power of x the coefficients of 1, z, z²
 abbrev pub bridgeReliability : List ℤ
@@ -80,21 +85,34 @@ series = record { parts = 2; sets = 3 ∷ [] }
 abbrev pub idleSecond : Structure
 idleSecond = record { parts = 2; sets = 1 ∷ [] }
 
+-- the group of position 2, and that of both
+abbrev pub second : ℕ
+second = 2
+
+abbrev pub both : ℕ
+both = 3
+
 abbrev pub examples : List Example
 examples =
     gives (pathCountsOf bridge) (pos 0 ∷ pos 0 ∷ pos 2 ∷ pos 8 ∷ pos 5 ∷ pos 1 ∷ [])
     ∷ gives (tailOf bridge) (pos 120 ∷ pos 120 ∷ pos 96 ∷ pos 24 ∷ pos 0 ∷ pos 0 ∷ [])
+    ∷ gives (countsOf bridge allFive) (pos 0 ∷ pos 24 ∷ pos 72 ∷ pos 24 ∷ pos 0 ∷ [])
+    ∷ gives (countsOf bridge firstThree) (pos 0 ∷ pos 44 ∷ pos 20 ∷ [])
     ∷ gives (sharesBySetsOf bridge firstThree) (pos 0 ∷ pos 44 ∷ pos 20 ∷ [])
     ∷ gives (reliabilityOf bridge firstThree) bridgeReliability
     ∷ gives (sharesByReliabilityOf bridge firstThree) (pos 0 ∷ pos 44 ∷ pos 20 ∷ [])
     ∷ gives (signatureOf single) (pos 1 ∷ [])
     ∷ gives (dominationOf single) (pos 0 ∷ pos 1 ∷ [])
     ∷ gives (signatureOf parallel) (pos 0 ∷ pos 2 ∷ [])
+    ∷ gives (countsOf parallel both) (pos 0 ∷ pos 2 ∷ [])
     ∷ gives (dominationOf parallel) (pos 0 ∷ pos 2 ∷ negsuc 0 ∷ [])
     ∷ gives (signatureOf series) (pos 2 ∷ pos 0 ∷ [])
+    ∷ gives (countsOf series both) (pos 2 ∷ pos 0 ∷ [])
     ∷ gives (dominationOf series) (pos 0 ∷ pos 0 ∷ pos 1 ∷ [])
     ∷ gives (signatureOf idleSecond) (pos 1 ∷ pos 1 ∷ [])
+    ∷ gives (countsOf idleSecond both) (pos 1 ∷ pos 1 ∷ [])
     ∷ gives (importanceOf idleSecond 2) (pos 0 ∷ [])
+    ∷ gives (countsOf idleSecond second) (pos 0 ∷ [])
     ∷ isJudged (verdictOf PathCounts 3 (pos 0 ∷ pos 3 ∷ pos 2 ∷ pos 1 ∷ [])) (Refused (at fallingProportion 1))
     ∷ isJudged (verdictOf PathCounts 4 (pos 0 ∷ pos 0 ∷ pos 1 ∷ pos 1 ∷ pos 1 ∷ [])) Accepted
     ∷ isJudged (verdictOf Tail 5 (pos 120 ∷ pos 120 ∷ pos 100 ∷ pos 24 ∷ pos 0 ∷ pos 0 ∷ [])) (Refused (at wrongPathCount 3))

@@ -24,7 +24,7 @@ use Rattle.theory_sets.proofs.Masks.{has-above}
 use Rattle.theory_sets.proofs.Ranges.{below-or-above}
 use Rattle.theory_orders.specs.Formulas.{pathCount}
 use Rattle.numbers.specs.Counts.{factorial}
-use Rattle.theory_figures.proofs.Ranges.{factorials-few}
+use Rattle.numbers.proofs.Counts.{factorials-few}
 use Rattle.structure_words.specs.Words.{inWords, wordOf, wordsOf}
 use Rattle.structure_words.proofs.Words.{inWords-wordsOf}
 use Rattle.structure.specs.Accepted.{AcceptedTable}

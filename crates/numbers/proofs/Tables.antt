@@ -5,7 +5,7 @@ use mathlib.Core.List.{List, [], _∷_, _++_, append-nil}
 use Prim.Native.Nat.{ℕ, zero, suc, _+_, _-_, _≤_, _<_}
 use native.Mathlib.Nat.{le-of-suc-le-suc, not-suc-le-zero, add-sub-of-le, le-antisymm, le-of-eq}
 use native.Mathlib.Numerals.{add-one}
-use lib.ListN.{length, getD, set, take, drop, length-append, length-drop, drop-of-length-le, List·getD-append}
+use lib.ListN.{length, getD, set, take, drop, length-append, length-drop, drop-of-length-le}
 use lib.Seq.{drop-cons, set-append-seam, append-snoc, getD-append-add, getD-drop, ext-getD}
 use Rattle.numbers.specs.Tables.{tabulate}
 
@@ -56,10 +56,6 @@ module _ {A : Type 0} (f : ℕ → A) (xs : List A) where
   pub filled-end : (n m : ℕ) (now : List A) → now ≡ filled n → n ≤ m → m ≤ n → length xs ≡ m → now ≡ tabulate m f
   filled-end n m now e up down len =
       e ∙ ap filled (le-antisymm up down) ∙ filled-all m (le-of-eq len)
-
-  pub filled-below : (n j : ℕ) (d : A) → j < n → getD (filled n) j d ≡ f j
-  filled-below n j d h =
-      List·getD-append (tabulate n f) (drop n xs) d j (rw (tabulate-length n f) h) ∙ tabulate-at n f j d h
 
   pub filled-from : (n j : ℕ) (d : A) → n ≤ j → getD (filled n) j d ≡ getD xs j d
   filled-from n j d h =

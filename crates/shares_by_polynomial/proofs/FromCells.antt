@@ -25,7 +25,7 @@ use Rattle.shares_claim.proofs.Regrouped.{powerTerm, powerSum, regrouped, power
 use Rattle.shares_claim.proofs.Terms.{terms-most, limit-few}
 use Rattle.shares_by_polynomial.specs.Inside.{above, below, cellWeight}
 use Rattle.shares_claim.proofs.Sums.{grid-sum, grid-sumℕ}
-use Rattle.shares_polynomial.proofs.Coefficients.{choose-few}
+use Rattle.numbers.proofs.Counts.{factorial-rises, choose-small}
 
 -- ---- by computing
 
@@ -44,10 +44,6 @@ quotients-some : any (λ n. not (leb 1 (factorial n / common n))) 17 ≡ false
 unfolding any common factorial
 quotients-some = refl
 
-factorials-small : any (λ n. not (leb (factorial n) 20922789888000)) 17 ≡ false
-unfolding any factorial
-factorials-small = refl
-
 module _ (n : ℕ) (few : n ≤ 16) where
   pub common-some : 0 < common n
   common-some = leb-true 1 (common n) (computed (λ n. leb 1 (common n)) commons-some n few)
@@ -59,7 +55,8 @@ module _ (n : ℕ) (few : n ≤ 16) where
   quotient-some = leb-true 1 (factorial n / common n) (computed (λ n. leb 1 (factorial n / common n)) quotients-some n few)
 
   pub factorial-small : factorial n ≤ 20922789888000
-  factorial-small = leb-true (factorial n) 20922789888000 (computed (λ n. leb (factorial n) 20922789888000) factorials-small n few)
+  unfolding factorial
+  factorial-small = factorial-rises n 16 few
 
 -- ---- the weights
 
@@ -72,7 +69,7 @@ module _ (n m k j : ℕ) (few : n ≤ 16) (some : 1 ≤ k) (most : k ≤ m) (wit
       cases (suc x) e = omega arith
 
   pub divisor-few : k * choose (m + j) k ≤ 16 * 65536
-  divisor-few = let low : k ≤ 16 = omega arith in mul-le-mul low (choose-few (m + j) k (omega arith))
+  divisor-few = let low : k ≤ 16 = omega arith in mul-le-mul low (choose-small (m + j) k (omega arith))
 
   powerWeight-few : powerWeight n m k j ≤ 720720
   unfolding powerWeight
@@ -80,7 +77,7 @@ module _ (n m k j : ℕ) (few : n ≤ 16) (some : 1 ≤ k) (most : k ≤ m) (wit
 
   module _ (i : ℕ) (l : i < m) where
     pub factors-few : choose (m - 1 - i) (k - 1) * (i + 1) ≤ 65536 * 16
-    factors-few = let low : i + 1 ≤ 16 = omega arith in mul-le-mul (choose-few (m - 1 - i) (k - 1) (omega arith)) low
+    factors-few = let low : i + 1 ≤ 16 = omega arith in mul-le-mul (choose-small (m - 1 - i) (k - 1) (omega arith)) low
 
     pub cellWeight-few : choose (m - 1 - i) (k - 1) * (i + 1) * powerWeight n m k j ≤ 65536 * 16 * 720720
     cellWeight-few = mul-le-mul factors-few powerWeight-few

@@ -24,7 +24,7 @@ use Rattle.theory_sets.specs.Tables.{inTable}
 use Rattle.theory_sets.proofs.Ranges.{below-or-above}
 use Rattle.theory_orders.specs.Formulas.{added, taken}
 use Rattle.structure_words.specs.Words.{inWords, wordsOf}
-use Rattle.theory_figures.proofs.Ranges.{factorials-few}
+use Rattle.numbers.proofs.Counts.{factorials-few}
 use Rattle.shares_claim.specs.SetBySet.{shareOf, sharesBySets}
 use Rattle.shares_claim.proofs.Types.{inside-most, inside-and-outside, outside-most}
 use Rattle.shares_group.specs.Inside.{gathered}

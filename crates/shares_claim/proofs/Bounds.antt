@@ -4,13 +4,12 @@ use mathlib.Core.Path.{_≡_, refl, sym, ap, ap₂, _∙_}
 use mathlib.Core.Bool.{Bool, true, false, cond, not, _&&_}
 use mathlib.Core.Logic.{_⊎_, inl, inr}
 use Prim.Native.Nat.{ℕ, zero, suc, zero-le, _+_, _-_, _*_, _^_, _≤_, _<_}
-use native.Mathlib.Nat.{le-refl, le-trans, le-of-eq, add-zero, zero-mul, mul-one, mul-comm, mul-le-mul, sub-add-cancel, two-pow-succ}
+use native.Mathlib.Nat.{le-refl, le-trans, le-of-eq, add-zero, zero-mul, mul-one, mul-comm, sub-add-cancel, two-pow-succ}
 use native.Mathlib.Numerals.{add-one}
 use native.Mathlib.Omega.{arith}
 use lib.Arith.{lt-one}
 use lib.Count.{ones, onesIn}
 use lib.Dec.{eqb, eqb·zero-suc, eqb·suc-zero, eqb·suc-suc}
-use lib.Pow.{pow-add, pow-mono, pow-pos}
 use lib.IntN.{ℤ, pos, _*ℤ_, natAbs}
 use borrow.Author.Tests.{eqb-true}
 use Rattle.numbers.specs.Counts.{choose}
@@ -28,7 +27,7 @@ use Rattle.shares_claim.specs.Reliability.{reliability, reliabilityCells
 use Rattle.shares_claim.specs.Inside.{Bounded}
 use Rattle.shares_claim.proofs.Cells.{in-cells}
 use Rattle.shares_claim.proofs.Magnitudes.{natAbs-product, natAbs-sum, natAbs-sign}
-use Rattle.shares_claim.proofs.Types.{having-inside, having-outside, inside-and-outside, typeCount}
+use Rattle.shares_claim.proofs.Types.{having-inside, having-outside, inside-and-outside}
 
 -- ---- the sets that a set holds
 
@@ -159,32 +158,3 @@ pub cells-bounded : (n : ℕ) (works : ℕ → Bool) (group : ℕ) → group < 2
     → Bounded n (size group) (inCells n (size group) (reliabilityCells n works group))
 cells-bounded n works group within i j few rest =
     le-trans (le-of-eq (ap natAbs (in-cells n works group i j few rest))) (reliability-bounded n works group within i j few rest)
-
--- ---- within 64 bits
-
--- no more sets of k parts than sets
-pub choose-few : (n k : ℕ) → choose n k ≤ 2 ^ n
-unfolding choose
-choose-few n zero = pow-pos n
-choose-few zero (suc k) = zero-le
-choose-few (suc n) (suc k) = omega (arith, choose-few n k, choose-few n (suc k), two-pow-succ n)
-
-pub coefficient-few : (n m : ℕ) (h : ℕ → ℕ → ℤ) → n ≤ 16 → m ≤ n → Bounded n m h → (i j : ℕ) → i ≤ m → j ≤ n - m → natAbs (h i j) ≤ 2 ^ 32
-coefficient-few n m h small within bounded i j few rest =
-    le-trans (bounded i j few rest)
-    (le-trans (mul-le-mul (mul-le-mul (choose-few m i) (choose-few (n - m) j)) (pow-mono {i = i + j} {j = n} (omega arith)))
-    (le-trans (le-of-eq (ap (λ (u : ℕ). u * 2 ^ n) (sym (pow-add 2 m (n - m)))
-    ∙ sym (pow-add 2 (m + (n - m)) n)))
-    (pow-mono {i = m + (n - m) + n} {j = 32} (omega arith))))
-
-pub typeCount-most : (n : ℕ) (works : ℕ → Bool) (group : ℕ) → group < 2 ^ n → (i j : ℕ)
-    → typeCount n works group i j ≤ choose (size group) i * choose (n - size group) j
-unfolding typeCount
-typeCount-most n works group within i j =
-    le-trans (sumBelow-le _ _ (2 ^ n) (λ a l. fewer (works a) (eqb (inside group a) i && eqb (outside group a) j)))
-    (le-of-eq (types n group within i j))
-  where
-    fewer : (w t : Bool) → cond (w && t) 1 0 ≤ indicator t
-    fewer true true = le-refl 1
-    fewer true false = zero-le
-    fewer false t = zero-le

@@ -27,7 +27,7 @@ use Rattle.theory_orders.specs.Formulas.{pathCount, byParts}
 use Rattle.theory_orders.proofs.Counting.{count-is-byParts}
 use Rattle.theory_orders.proofs.Sizes.{missing-inside}
 use Rattle.theory_figures.specs.Figures.{signatures, setDomination, domination, dominations, importance}
-use Rattle.theory_figures.proofs.Binomials.{choose-factorials, factorial-suc}
+use Rattle.numbers.proofs.Counts.{choose-factorials, factorial-suc}
 use Rattle.theory_sums.proofs.IntegerSums.{sumBelow-pos}
 use Rattle.theory_figures.proofs.Sizes.{sumBelow-only, size-meet-all}
 use Rattle.numbers.proofs.Tables.{tabulate-same}

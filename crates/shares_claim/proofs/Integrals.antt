@@ -5,8 +5,7 @@ use Prim.Native.Nat.{ℕ, suc, _+_, _-_, _*_, _/_, _<_}
 use native.Mathlib.Nat.{mul-div-cancel, mul-pos}
 use native.Mathlib.Omega.{arith}
 use Rattle.numbers.specs.Counts.{factorial, choose}
-use Rattle.numbers.proofs.Counts.{factorial-pos}
-use Rattle.theory_figures.proofs.Binomials.{factor-same, factorial-suc, choose-factorials}
+use Rattle.numbers.proofs.Counts.{factor-same, factorial-suc, factorial-next, factorial-pos, choose-factorials}
 use Rattle.shares_claim.specs.Polynomials.{integral}
 
 -- the division leaves nothing over
@@ -33,12 +32,9 @@ integral-binomial n p q h =
     factor-same _ _ (factorial q * factorial p) (mul-pos (factorial-pos q) (factorial-pos p))
     (left (integral n p q) (p + q + 1) (choose (p + q) p) (factorial q * factorial p)
     ∙ ap (λ (u : ℕ). integral n p q * ((p + q + 1) * u)) (choose-factorials (p + q) q p (omega arith))
-    ∙ ap (λ (u : ℕ). integral n p q * u) (sym next) ∙ integral-exact n p q h
+    ∙ ap (λ (u : ℕ). integral n p q * u) (sym (factorial-next (p + q))) ∙ integral-exact n p q h
     ∙ right (factorial n) (factorial p) (factorial q))
   where
-    next : factorial (p + q + 1) ≡ (p + q + 1) * factorial (p + q)
-    next = let row : p + q + 1 ≡ suc (p + q) = omega arith in rw row (factorial-suc (p + q))
-
     left : (x s c d : ℕ) → x * (s * c) * d ≡ x * (s * (c * d))
     left x s c d = omega arith
 
@@ -84,15 +80,12 @@ integral-power n p h =
 pub integral-falls : (n p q : ℕ) → p + q + 1 < n → integral n p q ≡ integral n (suc p) q + integral n p (suc q)
 integral-falls n p q h =
     factor-same _ _ (factorial (p + q + 1 + 1)) (factorial-pos (p + q + 1 + 1))
-    (ap (λ (u : ℕ). integral n p q * u) next ∙ whole (integral n p q) (p + q + 1 + 1) (factorial (p + q + 1))
+    (ap (λ (u : ℕ). integral n p q * u) (factorial-next (p + q + 1)) ∙ whole (integral n p q) (p + q + 1 + 1) (factorial (p + q + 1))
     ∙ ap (λ (u : ℕ). (p + q + 1 + 1) * u) (integral-exact n p q (omega arith))
     ∙ split (factorial n) (factorial p) (factorial q) p q
     ∙ ap₂ (λ (u v : ℕ). u + v) (sym first) (sym second)
     ∙ joined (integral n (suc p) q) (integral n p (suc q)) (factorial (p + q + 1 + 1)))
   where
-    next : factorial (p + q + 1 + 1) ≡ (p + q + 1 + 1) * factorial (p + q + 1)
-    next = let row : p + q + 1 + 1 ≡ suc (p + q + 1) = omega arith in rw row (factorial-suc (p + q + 1))
-
     first : integral n (suc p) q * factorial (p + q + 1 + 1) ≡ factorial n * (suc p * factorial p) * factorial q
     first =
         let row : p + q + 1 + 1 ≡ suc p + q + 1 = omega arith in

@@ -8,13 +8,12 @@ use lib.Dec.{eqb}
 use lib.IntN.{ℤ, pos, _*ℤ_, *ℤ-comm, pos-*ℤ-pos}
 use borrow.Author.Tests.{eqb-true}
 use Rattle.numbers.specs.Counts.{factorial, choose}
-use Rattle.numbers.proofs.Counts.{factorial-pos}
+use Rattle.numbers.proofs.Counts.{factorial-pos, factor-same}
 use Rattle.theory_sums.proofs.Integers.{ring}
 use Rattle.theory_sums.proofs.IntegerSums.{sumBelowℤ-same, sumBelowℤ-mul}
 use Rattle.theory_sets.specs.Masks.{any}
 use Rattle.theory_sets.proofs.Bools.{not-not}
 use Rattle.theory_sets.proofs.Ranges.{any-none}
-use Rattle.theory_figures.proofs.Binomials.{factor-same}
 use Rattle.shares_claim.specs.Polynomials.{integral, shareFrom}
 use Rattle.shares_claim.specs.Inside.{common, powerWeight}
 use Rattle.shares_claim.proofs.Integrals.{integral-choose}

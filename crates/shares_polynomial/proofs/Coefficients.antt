@@ -4,7 +4,7 @@ use mathlib.Core.Path.{_≡_, refl, sym, ap, ap₂, _∙_}
 use mathlib.Core.Bool.{Bool, cond, _&&_}
 use mathlib.Core.List.{List, _++_}
 use Prim.Native.Nat.{ℕ, zero, suc, _+_, _-_, _*_, _/_, _%_, _^_, _≤_, _<_}
-use native.Mathlib.Nat.{le-trans, le-of-eq, mul-le-mul}
+use native.Mathlib.Nat.{le-of-eq, mul-le-mul}
 use native.Mathlib.Numerals.{add-one}
 use native.Mathlib.Omega.{arith}
 use lib.Count.{ones-le}
@@ -29,7 +29,7 @@ use Rattle.theory_figures.proofs.Signs.{sign-even, sign-odd}
 use Rattle.shares_claim.specs.Polynomials.{rowLength}
 use Rattle.shares_claim.specs.Reliability.{reliability, reliabilityCells}
 use Rattle.shares_claim.proofs.Types.{typeCount, inside-most, outside-most}
-use Rattle.shares_claim.proofs.Bounds.{choose-few as choose-within}
+use Rattle.numbers.proofs.Counts.{choose-small}
 use Rattle.shares_claim.proofs.Reliability.{reliability-by-type}
 use Rattle.shares_group.specs.Inside.{gathered}
 use Rattle.shares_group.proofs.Gathering.{gathered-list-few, gathered-words}
@@ -117,13 +117,10 @@ cells-length n works group = tabulate-length ((size group + 1) * rowLength n (si
 
 -- ---- the terms of a coefficient
 
-pub choose-few : (n k : ℕ) → n ≤ 16 → choose n k ≤ 65536
-choose-few n k few = le-trans (choose-within n k) (pow-mono few)
-
 pub typeTerm-few : (n m : ℕ) (counts : List ℕ) (i j b a : ℕ) → n ≤ 16 → m ≤ n → NoneOver 65536 counts → typeTerm n m counts i j b a ≤ 2 ^ 48
 unfolding typeTerm
 typeTerm-few n m counts i j b a most within few =
-    mul-le-mul (mul-le-mul (choose-few (m - a) (i - a) (omega arith)) (choose-few (n - m - b) (j - b) (omega arith))) (few (a * 17 + b))
+    mul-le-mul (mul-le-mul (choose-small (m - a) (i - a) (omega arith)) (choose-small (n - m - b) (j - b) (omega arith))) (few (a * 17 + b))
 
 -- ---- signs
 

@@ -21,7 +21,7 @@ use Rattle.vector_kind.specs.Kinds.{lengthOf}
 use Rattle.vector_conversion.specs.Vectors.{entryAt, countsOf, vectorRefusal, figure}
 use Rattle.vector_kind.specs.declared.Kind.{Kind}
 use Rattle.vector_kind.specs.declared.Kind.the-variants.{PathCounts, Tail, Signature, Domination}
-use Rattle.vector_conversion.proofs.Fits.{choose-few}
+use Rattle.theory_figures.proofs.Ranges.{choose-few}
 use Rattle.vector_conversion.specs.Accepted.{AcceptedVector}
 use Rattle.vector_conversion.proofs.Acceptance.{accepted-vector}
 use Rattle.vector_conversion.proofs.Conversions.{conversion-same, signature-positive}

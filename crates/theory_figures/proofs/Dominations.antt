@@ -8,7 +8,7 @@ use native.Mathlib.Omega.{arith}
 use lib.Dec.{eqb}
 use lib.IntN.{ℤ, pos, negℤ, _+ℤ_, _*ℤ_, *ℤ-comm, *ℤ-zero, zero-*ℤ}
 use Rattle.numbers.specs.Counts.{choose}
-use Rattle.numbers.proofs.Counts.{choose-above}
+use Rattle.numbers.proofs.Counts.{choose-above, choose-mirror}
 use Rattle.theory_sums.specs.Sums.{indicator, sumBelow, sumBelowℤ}
 use Rattle.theory_sums.proofs.Sums.{sumBelow-same, sumBelow-zero}
 use Rattle.theory_sums.proofs.Integers.{*ℤ-unit, unit-*ℤ, ring}
@@ -20,7 +20,6 @@ use Rattle.theory_orders.specs.Formulas.{pathCount}
 use Rattle.theory_orders.proofs.Orders.{eqb-comm}
 use Rattle.theory_orders.proofs.Sizes.{size-bits, size-rest}
 use Rattle.theory_figures.specs.Figures.{sign, domination, setDomination}
-use Rattle.theory_figures.proofs.Binomials.{choose-mirror}
 use Rattle.theory_sums.proofs.IntegerSums.{sumBelowℤ-beyond, sumBelowℤ-only}
 use Rattle.theory_figures.proofs.Sizes.{sum-by-sizeℤ}
 use Rattle.theory_figures.proofs.Supersets.{above, above-same, opposite, having, lacking, sum-above}

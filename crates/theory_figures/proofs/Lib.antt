@@ -1,4 +1,3 @@
-pub mod Binomials
 pub mod Holding
 pub mod Sizes
 pub mod Tails

@@ -1,39 +1,35 @@
--- The numbers that a figure is worked out from stay in range: products of factorials and counts. Assumes nothing.
-use mathlib.Core.Path.{_≡_, refl, sym, ap, _∙_}
+-- The numbers that a figure is worked out from stay in range: binomials, and products of factorials and counts. Assumes nothing.
+use mathlib.Core.Path.{_≡_, refl}
+use mathlib.Core.Bool.{Bool, false}
 use mathlib.Core.Logic.{_⊎_, inl, inr}
-use Prim.Native.Nat.{ℕ, zero, suc, _+_, _-_, _*_, _≤_, _<_}
-use native.Mathlib.Nat.{le-trans, le-of-eq, le-of-suc-le-suc, eq-or-lt-of-le, mul-le-mul, mul-assoc, zero-mul}
+use Prim.Native.Nat.{ℕ, zero, suc, _-_, _*_, _≤_, _<_}
+use native.Mathlib.Nat.{le-trans, le-of-eq, mul-le-mul, mul-assoc}
 use native.Mathlib.Omega.{arith}
-use lib.Arith.{le-zero}
+use lib.Dec.{ltb}
+use borrow.Author.Tests.{ltb-false}
 use Rattle.numbers.specs.Counts.{factorial, choose}
-use Rattle.numbers.proofs.Counts.{factorial-pos}
+use Rattle.numbers.proofs.Counts.{factorial-pos, factorials-few, choose-above, choose-rises}
+use Rattle.theory_sets.specs.Masks.{any}
+use Rattle.theory_sets.proofs.Ranges.{any-none, below-or-above}
 use Rattle.theory_figures.specs.Figures.{tail}
-use Rattle.theory_figures.proofs.Binomials.{choose-factorials}
 
--- ---- factorials
+-- ---- binomials
 
-factorial-rises : (n m : ℕ) → n ≤ m → factorial n ≤ factorial m
-unfolding factorial
-factorial-rises n zero h = le-of-eq (ap factorial (le-zero h))
-factorial-rises n (suc m) h = cases (eq-or-lt-of-le h) (factorial-rises n m)
+large : ℕ → Bool
+large j = ltb 12870 (choose 16 j)
+
+none-large : any large 17 ≡ false
+unfolding any large choose
+none-large = refl
+
+-- C(16,8)
+pub choose-few : (n j : ℕ) → n ≤ 16 → choose n j ≤ 12870
+unfolding large
+choose-few n j h = cases (below-or-above j 17)
   where
-    more : factorial m ≤ suc m * factorial m
-    more = omega arith
-
-    cases : (n ≡ suc m) ⊎ (n < suc m) → (n ≤ m → factorial n ≤ factorial m) → factorial n ≤ suc m * factorial m
-    cases (inl e) ih = le-of-eq (ap factorial e)
-    cases (inr l) ih = le-trans (ih (le-of-suc-le-suc l)) more
-
--- a! × b! divides (a+b)!, so it is no larger
-pub factorials-few : (a b m : ℕ) → a + b ≤ m → factorial a * factorial b ≤ factorial m
-factorials-few a b m h = le-trans (cases (choose (a + b) b) (choose-factorials (a + b) a b refl)) (factorial-rises (a + b) m h)
-  where
-    cases : (c : ℕ) → c * (factorial a * factorial b) ≡ factorial (a + b) → factorial a * factorial b ≤ factorial (a + b)
-    cases zero e = absurd (omega (arith, factorial-pos (a + b), sym (zero-mul (factorial a * factorial b)) ∙ e))
-    cases (suc c) e = le-trans (once (factorial a * factorial b)) (le-of-eq e)
-      where
-        once : (x : ℕ) → x ≤ suc c * x
-        once x = omega arith
+    cases : (j < 17) ⊎ (17 ≤ j) → choose n j ≤ 12870
+    cases (inl l) = le-trans (choose-rises n 16 j h) (ltb-false 12870 (choose 16 j) (any-none large 17 j none-large l))
+    cases (inr l) = le-trans (le-of-eq (choose-above n j (omega arith))) (omega arith)
 
 -- ---- a count times two factorials
 

@@ -7,7 +7,7 @@ use lib.IntN.{ℤ, pos, negsuc, negℤ, _+ℤ_, _-ℤ_, _*ℤ_, pow, one, pos-+�
 use Rattle.numbers.specs.Counts.{choose}
 use Rattle.theory_sums.specs.Sums.{sumBelowℤ}
 use Rattle.theory_sums.proofs.Integers.{*ℤ-unit, *ℤ-negℤ, unit-*ℤ, negℤ-*ℤ, ring}
-use Rattle.theory_figures.specs.Figures.{sign, domination}
+use Rattle.theory_figures.specs.Figures.{sign}
 
 twice : (x : ℤ) → x *ℤ negsuc 0 *ℤ negsuc 0 ≡ x
 twice x = ap (λ (u : ℤ). u *ℤ negsuc 0) (minus x) ∙ minus (negℤ x) ∙ simp ring
@@ -65,7 +65,3 @@ module _ (n : ℕ) (φ : ℕ → ℕ) (k : ℕ) where
 
         turned : (c x : ℤ) → negsuc 0 *ℤ c *ℤ x ≡ negℤ (c *ℤ x)
         turned c x = ap (λ (u : ℤ). u *ℤ x) (negℤ-*ℤ (pos 1) c ∙ ap negℤ (unit-*ℤ c)) ∙ negℤ-*ℤ c x
-
-  pub terms-all : termsBelow n φ k (suc k) ≡ domination n φ k
-  unfolding termsBelow domination
-  terms-all = refl

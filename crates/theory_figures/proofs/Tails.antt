@@ -12,7 +12,7 @@ use lib.IntN.{ℤ, pos, _+ℤ_, _-ℤ_, pos-+ℤ-pos, +ℤ-negℤ-cancel}
 use lib.Pow.{ones-lt}
 use borrow.Author.Tests.{eqb-true}
 use Rattle.numbers.specs.Counts.{factorial, choose}
-use Rattle.numbers.proofs.Counts.{factorial-pos}
+use Rattle.numbers.proofs.Counts.{factorial-pos, factor-same, factor-le, factorial-suc, choose-factorials, choose-mirror, choose-next}
 use Rattle.theory_sums.specs.Sums.{sumBelow, sumSets, sumBelowℤ}
 use Rattle.theory_sums.proofs.Sums.{sumBelow-same, sumBelow-zero, sumBelow-mul}
 use Rattle.theory_sums.proofs.IntegerSums.{sumBelowℤ-same}
@@ -25,7 +25,6 @@ use Rattle.theory_orders.proofs.Counting.{count-and-taken}
 use Rattle.theory_orders.proofs.Pairs.{pairs}
 use Rattle.theory_orders.proofs.Totals.{counts-total}
 use Rattle.theory_figures.specs.Figures.{tail, signature}
-use Rattle.theory_figures.proofs.Binomials.{factor-same, factor-le, factorial-suc, choose-factorials, choose-mirror, choose-next}
 use Rattle.theory_sums.proofs.IntegerSums.{sumBelow-pos}
 use Rattle.theory_figures.proofs.Sizes.{size-none, size-meet-all}
 

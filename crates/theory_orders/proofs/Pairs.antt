@@ -4,13 +4,13 @@
 use mathlib.Core.Path.{_≡_, refl, sym, ap, _∙_}
 use mathlib.Core.Bool.{Bool, true, false, cond, not, _&&_}
 use mathlib.Core.Logic.{_⊎_, inl, inr}
-use Prim.Native.Nat.{ℕ, suc, _+_, _-_, _*_, _^_, _≤_, _<_}
+use Prim.Native.Nat.{ℕ, _+_, _-_, _*_, _^_, _≤_, _<_}
 use native.Mathlib.Nat.{le-refl, le-trans, le-of-eq, mul-le-mul-right}
-use native.Mathlib.Numerals.{add-one}
 use native.Mathlib.Omega.{arith}
 use lib.Dec.{eqb}
 use borrow.Author.Tests.{eqb-true, eq-eqb}
 use Rattle.numbers.specs.Counts.{factorial}
+use Rattle.numbers.proofs.Counts.{factorial-next, factorial-rest}
 use Rattle.theory_sums.specs.Sums.{indicator, sumBelow}
 use Rattle.theory_sums.proofs.Sums.{sumBelow-same, sumBelow-le, sumBelow-mul, sumBelow-weights}
 use Rattle.theory_sets.specs.Masks.{has, size}
@@ -73,25 +73,15 @@ pairs n works coherent j =
         (λ p. sym (size-bits n a h) ∙ of-size works (j + 1) a p)))
         ∙ sumBelow-mul (j + 1) (isPath works (j + 1)) (2 ^ n)
 
-factorial-suc : (k : ℕ) → factorial (suc k) ≡ suc k * factorial k
-unfolding factorial
-factorial-suc k = refl
-
 -- T(n-j) is not over T(n-j-1): the tail falls
 pub tail-falls : (n : ℕ) (works : ℕ → Bool) → Semicoherent n works → (j : ℕ) → j < n
     → pathCount n works j * factorial j * factorial (n - j) ≤ pathCount n works (j + 1) * factorial (j + 1) * factorial (n - (j + 1))
 tail-falls n works coherent j l =
-    rw (row, next)
+    rw (factorial-rest n j l, factorial-next j)
     (le-trans (le-of-eq (falling (pathCount n works j) (factorial j) (n - j) (factorial (n - (j + 1)))))
     (le-trans (mul-le-mul-right (factorial j * factorial (n - (j + 1))) (pairs n works coherent j))
     (le-of-eq (rising (pathCount n works (j + 1)) (factorial j) (j + 1) (factorial (n - (j + 1)))))))
   where
-    row : factorial (n - j) ≡ (n - j) * factorial (n - (j + 1))
-    row = let rest : n - j ≡ suc (n - (j + 1)) = omega arith in rw rest (factorial-suc (n - (j + 1)))
-
-    next : factorial (j + 1) ≡ (j + 1) * factorial j
-    next = rw (add-one j) (factorial-suc j)
-
     falling : (x p r q : ℕ) → x * p * (r * q) ≡ r * x * (p * q)
     falling x p r q = omega arith
 

@@ -2,7 +2,7 @@
 use mathlib.Core.Path.{_≡_, refl, sym, ap, _∙_, subst}
 use mathlib.Core.Bool.{Bool, true, false, not, _&&_, _||_}
 use mathlib.Core.List.{List}
-use Prim.Native.Nat.{ℕ, suc, _*_, _/_, _%_, _≤_, _<_, suc-le-suc}
+use Prim.Native.Nat.{ℕ, suc, _*_, _%_, _≤_, _<_, suc-le-suc}
 use native.Mathlib.Nat.{le-refl, le-trans, le-of-eq, le-of-suc-le-suc, div-add-mod', mul-mod-left}
 use native.Mathlib.Omega.{arith}
 use lib.Dec.{leb, ltb, eqb}

@@ -3,20 +3,19 @@
 use mathlib.Core.Path.{_≡_, refl, sym, ap, ap₂, _∙_, subst}
 use mathlib.Core.Bool.{Bool}
 use mathlib.Core.List.{List}
-use Prim.Native.Nat.{ℕ, zero, suc, _-_, _*_, _/_, _≤_, _<_}
-use native.Mathlib.Nat.{le-trans, le-of-eq, zero-mul, mul-assoc, mul-pos, mul-div-cancel, mul-le-mul-left, sub-add-cancel}
+use Prim.Native.Nat.{ℕ, suc, _-_, _*_, _/_, _≤_, _<_}
+use native.Mathlib.Nat.{le-trans, le-of-eq, mul-assoc, mul-pos, mul-div-cancel, mul-le-mul-left, sub-add-cancel}
 use native.Mathlib.Numerals.{add-one}
 use native.Mathlib.Omega.{arith}
 use lib.IntN.{ℤ, pos, natAbs, _-ℤ_, _*ℤ_, pos-+ℤ-pos, +ℤ-negℤ-cancel}
 use Rattle.answer.specs.declared.Verdict.the-variants.{Accepted}
 use Rattle.numbers.specs.Counts.{factorial, choose}
-use Rattle.numbers.proofs.Counts.{factorial-pos}
+use Rattle.numbers.proofs.Counts.{factor-le, choose-pos, choose-mirror}
 use Rattle.numbers.proofs.Tables.{tabulate-length, tabulate-at, tabulate-unique}
 use Rattle.theory_sums.proofs.IntegerSums.{sumBelowℤ-same}
 use Rattle.theory_orders.specs.Formulas.{pathCount}
 use Rattle.theory_sets.specs.Structures.{Semicoherent}
 use Rattle.theory_figures.specs.Figures.{tail, signature, domination, sign}
-use Rattle.theory_figures.proofs.Binomials.{factor-le, choose-factorials, choose-mirror}
 use Rattle.theory_figures.proofs.Tails.{tail-proportion, pathCount-empty, pathCount-full, pathCount-most, proportions-rise}
 use Rattle.vector_kind.specs.Kinds.{lengthOf}
 use Rattle.vector_conversion.specs.Vectors.{entryAt, unitOf, countsOf, vectorRefusal, figure, vectorOf, converted, figuresOf}
@@ -95,13 +94,6 @@ module _ (kind : Kind) (n : ℕ) (entries : List ℤ) (accepted : vectorRefusal 
 pub difference-positive : (a b : ℕ) → b ≤ a → pos a -ℤ pos b ≡ pos (a - b)
 difference-positive a b h =
     ap (λ (x : ℕ). pos x -ℤ pos b) (sym (sub-add-cancel h)) ∙ ap (λ (z : ℤ). z -ℤ pos b) (sym (pos-+ℤ-pos (a - b) b)) ∙ +ℤ-negℤ-cancel (pos (a - b)) (pos b)
-
-choose-pos : (n j : ℕ) → j ≤ n → 0 < choose n j
-choose-pos n j h = cases (choose n j) (choose-factorials n (n - j) j (sub-add-cancel h))
-  where
-    cases : (c : ℕ) → c * (factorial (n - j) * factorial j) ≡ factorial n → 0 < c
-    cases zero e = absurd (omega (arith, factorial-pos n, sym (zero-mul (factorial (n - j) * factorial j)) ∙ e))
-    cases (suc c) e = omega arith
 
 -- the tail falls as the proportions rise
 pub accepted-tail-falls : (n : ℕ) (φ : ℕ → ℕ) → AcceptedCounts n φ → (k : ℕ) → k < n → tail n φ (suc k) ≤ tail n φ k

@@ -27,7 +27,7 @@ use Rattle.vector_kind.specs.declared.Kind.{Kind}
 use Rattle.vector_kind.specs.declared.Kind.the-variants.{PathCounts, Tail, Signature, Domination}
 use Rattle.vector_conversion.proofs.Scaled.{last-term, sign-last, domination-unique}
 use Rattle.vector_conversion.proofs.Acceptance.{right-count}
-use Rattle.vector_conversion.proofs.Fits.{choose-few}
+use Rattle.theory_figures.proofs.Ranges.{choose-few}
 
 -- an entry as it is read
 pub entry-read : (entries : List ℤ) (k : ℕ) → mag (entryAt entries k) < 2 ^ 63 → toZ w64 (ofZ w64 (entryAt entries k)) ≡ entryAt entries k

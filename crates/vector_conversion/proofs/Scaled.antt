@@ -1,6 +1,6 @@
 -- Which path counts belong to which entries: the vector of a kind that some path counts give stands for these, and whole path counts give back
 -- the vector that stands for them. Assumes nothing.
-use mathlib.Core.Path.{_≡_, refl, sym, ap, ap₂, _∙_}
+use mathlib.Core.Path.{_≡_, sym, ap, ap₂, _∙_}
 use mathlib.Core.Logic.{_⊎_, inl, inr}
 use mathlib.Core.List.{List}
 use Prim.Native.Nat.{ℕ, zero, suc, _+_, _-_, _*_, _≤_, _<_}
@@ -9,7 +9,7 @@ use native.Mathlib.Omega.{arith}
 use lib.IntN.{ℤ, pos, _+ℤ_, _-ℤ_, _*ℤ_, pow, one, pos-+ℤ-pos}
 use lib.ListN.{length}
 use Rattle.numbers.specs.Counts.{factorial, choose}
-use Rattle.numbers.proofs.Counts.{factorial-pos}
+use Rattle.numbers.proofs.Counts.{factorial-pos, choose-none}
 use Rattle.numbers.proofs.Tables.{tabulate-at, tabulate-unique}
 use Rattle.theory_sums.specs.Sums.{sumBelowℤ}
 use Rattle.theory_sums.proofs.Integers.{ring, unit-*ℤ}
@@ -49,11 +49,6 @@ unfolding signature
 signature-step n φ k = let before : suc k - 1 ≡ k = omega arith in ap (λ (x : ℕ). pos (tail n φ x) -ℤ pos (tail n φ (suc k))) before
 
 -- ---- the domination
-
-pub choose-none : (n : ℕ) → choose n 0 ≡ 1
-unfolding choose
-choose-none zero = refl
-choose-none (suc n) = refl
 
 -- the last term of the sum for size k is d(k) itself
 pub last-term : (n k : ℕ) (x : ℤ) → pos (choose (n - k) (k - k)) *ℤ x ≡ x

@@ -1,17 +1,15 @@
 -- The entries of an accepted signature total n!, and a total other than n! shows at φ(n) at the latest (01, "Vector sheets").
 -- Assumes nothing.
 use mathlib.Core.Path.{_≡_, refl, sym, ap, _∙_}
-use mathlib.Core.Bool.{Bool, true, false, cond}
+use mathlib.Core.Bool.{true, false}
 use mathlib.Core.List.{List}
 use mathlib.Core.Logic.{_⊎_, inl, inr}
-use Prim.Native.Nat.{ℕ, zero, suc, _-_, _*_, _≤_}
+use Prim.Native.Nat.{ℕ, zero, suc, _-_, _*_}
 use native.Mathlib.Nat.{sub-self, suc-sub-suc, mul-one, one-mul, le-refl}
-use native.Mathlib.Omega.{arith}
-use borrow.Author.Tests.{eq-eqb, ne-eqb}
 use lib.IntN.{ℤ, pos}
 use Rattle.answer.specs.declared.Verdict.the-variants.{Accepted}
-use Rattle.numbers.specs.Counts.{factorial, choose}
-use Rattle.theory_sums.specs.Sums.{indicator, sumBelowℤ}
+use Rattle.numbers.specs.Counts.{factorial}
+use Rattle.theory_sums.specs.Sums.{sumBelowℤ}
 use Rattle.theory_sums.proofs.IntegerSums.{sumBelowℤ-same, sumBelowℤ-reversed}
 use Rattle.theory_sets.proofs.Bools.{true-or-false}
 use Rattle.vector_conversion.specs.Vectors.{entryAt, scaledCount, unitOf, standsFor, wrongCount, vectorRefusal}

@@ -2,12 +2,12 @@
 ghost use mathlib.Core.Path.{_≡_};
 ghost use Rattle.vector_kind.specs.Kinds.{kindNumber, entryCount, isKind, kindOf};
 
-// What a vector's entries are.
+// What a vector's entries are, each kind with its own number.
 pub enum Kind {
-    PathCounts,
-    Tail,
-    Signature,
-    Domination,
+    PathCounts = 1,
+    Tail = 2,
+    Signature = 3,
+    Domination = 4,
 }
 
 impl Kind {

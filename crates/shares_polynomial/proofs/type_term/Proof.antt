@@ -8,7 +8,7 @@ use borrow.Author.Needs.{needs}
 use Rattle.numbers.specs.Counts.{choose}
 use Rattle.numbers.proofs.Counts.{upTo16-given}
 use Rattle.shares_polynomial.specs.Inside.{typeTerm}
-use Rattle.shares_polynomial.proofs.Coefficients.{choose-few}
+use Rattle.numbers.proofs.Counts.{choose-small}
 use Rattle.shares_polynomial.proofs.type_term.Statement.{statement}
 use Rattle.shares_polynomial.proofs.type_term.Tie as tie
 
@@ -58,8 +58,8 @@ module _ (c : tie.After-binomial2) where
   few =
       let start = c .before .before .before in
       let a = start .args in
-      mul-le-mul (le-trans (le-of-eq first) (choose-few (a .m - a .a) (a .i - a .a) (omega (arith, start .pre .0, start .pre .1 .0))))
-      (le-trans (le-of-eq second) (choose-few (a .n - a .m - a .b) (a .j - a .b) (omega (arith, start .pre .0))))
+      mul-le-mul (le-trans (le-of-eq first) (choose-small (a .m - a .a) (a .i - a .a) (omega (arith, start .pre .0, start .pre .1 .0))))
+      (le-trans (le-of-eq second) (choose-small (a .n - a .m - a .b) (a .j - a .b) (omega (arith, start .pre .0))))
 
 mul-result : tie.Need-mul-result
 mul-result c = record { fits = omega (arith, few c) }

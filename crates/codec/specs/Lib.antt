@@ -1,3 +1,5 @@
 pub mod Fields
 pub mod ByteForm
+pub mod Reads
 pub mod Reading
+pub mod FieldReads

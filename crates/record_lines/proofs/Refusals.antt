@@ -16,7 +16,7 @@ use Rattle.answer.specs.declared.Written.the-variants.{Length}
 use Rattle.record_numbers.specs.Numbering.{mostParts, topNumber}
 use Rattle.theory_sets.specs.Masks.{has}
 use Rattle.theory_sets.proofs.Bools.{clash, false-of}
-use Rattle.record_head.specs.Headings.{Read, found}
+use Rattle.codec.specs.Reads.{Read, found}
 use Rattle.record.specs.Records.{Design, wholeRecord}
 use Rattle.record.specs.RecordBytes.{recordBytes, DesignRules}
 use Rattle.record_lines.specs.Changes.{Change, addPart, takeOut, addSet, every, changeRefusal, changed}

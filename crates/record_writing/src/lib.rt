@@ -10,7 +10,7 @@ ghost use Rattle.theory_orders.specs.Antichains.{mostSets};
 ghost use Rattle.record_numbers.specs.Numbering.{mostParts};
 ghost use Rattle.record_parts.specs.PartLists.{listOf};
 ghost use Rattle.structure.specs.Checks.{listRefusal};
-ghost use Rattle.record_head.specs.HeadingBytes.{formsOf};
+ghost use Rattle.codec.specs.ByteForm.{formsOf};
 ghost use Rattle.record.specs.Records.{design};
 ghost use Rattle.record.specs.RecordBytes.{recordBytes};
 

@@ -9,7 +9,8 @@ use Rattle.answer.specs.Refusals.{shortBuffer}
 use Rattle.answer.specs.declared.Refusal.{Refusal}
 use Rattle.answer.specs.declared.Written.the-variants as written
 use Rattle.vector_kind.specs.declared.Kind.the-variants.{PathCounts}
-use Rattle.sheet.specs.Sheets.{Sheet, Given, Refused}
+use Rattle.codec.specs.Reads.{Read, found, refused}
+use Rattle.sheet.specs.Sheets.{Sheet}
 use Rattle.sheet_entries.specs.declared.EntriesRead.{EntriesRead}
 
 -- what reading into a lent buffer leaves behind: its answer, and the buffer afterwards
@@ -26,9 +27,9 @@ entriesRefused r cells = entriesOutcome (record { kind = PathCounts; n = 0; answ
 
 -- A sheet's entries for a lent buffer. Long enough: the entries in front, the rest as it was, and their number as the length. Short: 11 with
 -- the length needed.
-abbrev pub entriesDelivered : Sheet → List ℤ → EntriesOutcome
-entriesDelivered (Refused r) cells = entriesRefused r cells
-entriesDelivered (Given kind n entries) cells =
-    cond (leb (length entries) (length cells))
-    (entriesOutcome (record { kind = kind; n = n; answer = written.Length (length entries) }) (entries ++ drop (length entries) cells))
-    (entriesRefused (at shortBuffer (length entries)) cells)
+abbrev pub entriesDelivered : Read Sheet → List ℤ → EntriesOutcome
+entriesDelivered (refused r) cells = entriesRefused r cells
+entriesDelivered (found sheet end) cells =
+    cond (leb (length (sheet .entries)) (length cells))
+    (entriesOutcome (record { kind = sheet .kind; n = sheet .n; answer = written.Length (length (sheet .entries)) }) (sheet .entries ++ drop (length (sheet .entries)) cells))
+    (entriesRefused (at shortBuffer (length (sheet .entries))) cells)

@@ -11,6 +11,7 @@ use Rattle.answer.specs.Refusals.{shortBuffer}
 use Rattle.answer.specs.declared.Written.the-variants.{Length}
 use Rattle.vector.specs.InStruct.{entriesOf}
 use Rattle.sheet_entries.specs.Answers.{entriesOutcome, entriesRefused, entriesDelivered}
+use Rattle.codec.specs.Reads.{Read}
 use Rattle.sheet.specs.Sheets.{Sheet, sheetOf}
 use Rattle.sheet_entries.specs.declared.EntriesRead.{EntriesRead}
 use Rattle.sheet_reading.proofs.Reading.{GivenAs, sheet-given, sheet-refused}
@@ -47,8 +48,8 @@ returns c =
     let sheet = accepted told in
     ap (λ (r : EntriesRead). entriesOutcome r cells) (c .entries-refused2 .ensures)
     ∙ ap (λ (k : ℕ). entriesRefused (at shortBuffer k) cells) (sym (sheet .counted))
-    ∙ entriesDelivered-short (vector .kind) (vector .n) (entriesOf vector) cells (omega (arith, sheet .counted, c .before .if1 .taken))
-    ∙ sym (ap (λ (s : Sheet). entriesDelivered s cells) (sheet .given))
+    ∙ entriesDelivered-short (vector .kind) (vector .n) (entriesOf vector) cells (sheet .end) (omega (arith, sheet .counted, c .before .if1 .taken))
+    ∙ sym (ap (λ (s : Read Sheet). entriesDelivered s cells) (sheet .given))
 
 array-share-prefix-entries : tie.Need-array-share-prefix-entries
 array-share-prefix-entries c = accepted (c .before .before .before) .inside
@@ -66,7 +67,7 @@ returns-2 c =
     let a = read .before .before .args in
     let cells = now (a .cells) in
     ap (λ (r : EntriesRead). entriesOutcome r cells) (c .entries-refused .ensures)
-    ∙ sym (ap (λ (s : Sheet). entriesDelivered s cells) (sheet-refused (sheetOf (now (a .bytes))) (read .vector-of-sheet .result) _ (read .vector-of-sheet .ensures) (told .verdict .given .1)))
+    ∙ sym (ap (λ (s : Read Sheet). entriesDelivered s cells) (sheet-refused (sheetOf (now (a .bytes))) (read .vector-of-sheet .result) _ (read .vector-of-sheet .ensures) (told .verdict .given .1)))
 
 same-length : tie.Need-same-length
 same-length c = search needs
@@ -79,8 +80,8 @@ returns-3 c =
     let cells = now (a .cells) in
     let sheet = accepted told in
     ap₂ (λ (k : ℕ) (l : List ℤ). entriesOutcome (record { kind = vector .kind; n = vector .n; answer = Length k }) l) (sym (sheet .counted)) (c .before .copy .ensures)
-    ∙ entriesDelivered-long (vector .kind) (vector .n) (entriesOf vector) cells (omega (arith, sheet .counted, c .before .before .before .before .before .if1 .left))
-    ∙ sym (ap (λ (s : Sheet). entriesDelivered s cells) (sheet .given))
+    ∙ entriesDelivered-long (vector .kind) (vector .n) (entriesOf vector) cells (sheet .end) (omega (arith, sheet .counted, c .before .before .before .before .before .if1 .left))
+    ∙ sym (ap (λ (s : Read Sheet). entriesDelivered s cells) (sheet .given))
 
 pub read-sheet-spec : {M : Type 1} → statement M
 read-sheet-spec =

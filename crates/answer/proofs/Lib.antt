@@ -1,4 +1,5 @@
 pub mod Outcomes
+pub mod Checks
 pub mod Deliveries
 pub mod Handing
 pub mod FixedCells

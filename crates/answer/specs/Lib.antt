@@ -1,3 +1,4 @@
 pub mod Refusals
 pub mod Outcome
+pub mod Checks
 pub mod Placed

@@ -5,63 +5,64 @@ use mathlib.Core.List.{[], _∷_, _++_}
 use Prim.Native.Nat.{_-_, _^_}
 use lib.ListN.{replicate}
 use Rattle.answer.specs.Refusals.{endOfBytes, wrongNumber}
-use Rattle.codec.specs.declared.Field.the-variants.{Record, Sheet}
-use Rattle.codec.specs.declared.Reading.the-variants.{Number}
+use Rattle.answer.specs.Outcome.{at}
+use Rattle.codec.specs.declared.Field.the-variants.{Count, PartNumber, Set, Sheet}
+use Rattle.codec.specs.Reads.{found, refused}
 use Rattle.codec.specs.ByteForm.{grouped, bytesOf}
-use Rattle.codec.specs.Reading.{refused, numberIn, numberAt}
+use Rattle.codec.specs.Reading.{numberIn, numberAt}
 
 -- 300 is AC 02
 three-hundred : bytesOf 300 ≡ 0xAC ∷ 0x02 ∷ []
 unfolding bytesOf grouped
 three-hundred = refl
 
-three-hundred-read : numberAt (0x07 ∷ 0xAC ∷ 0x02 ∷ 0x09 ∷ []) 1 Record ≡ Number 300 3
+three-hundred-read : numberAt (0x07 ∷ 0xAC ∷ 0x02 ∷ 0x09 ∷ []) 1 Set ≡ found 300 3
 unfolding numberAt numberIn
 three-hundred-read = refl
 
 -- 80 00 is not shortest
-two-for-zero : numberAt (0x80 ∷ 0x00 ∷ []) 0 Record ≡ refused wrongNumber 0
+two-for-zero : numberAt (0x80 ∷ 0x00 ∷ []) 0 Count ≡ refused (at wrongNumber 0)
 unfolding numberAt numberIn
 two-for-zero = refl
 
 -- a last group 0 behind four others
-five-for-zero : numberAt (0x01 ∷ replicate 4 0x80 ++ (0x00 ∷ [])) 1 Record ≡ refused wrongNumber 1
+five-for-zero : numberAt (0x01 ∷ replicate 4 0x80 ++ (0x00 ∷ [])) 1 Count ≡ refused (at wrongNumber 1)
 unfolding numberAt numberIn
 five-for-zero = refl
 
 -- four bytes with bit 7, and the end
-four-carried : numberAt (0x01 ∷ replicate 4 0xFF) 1 Record ≡ refused endOfBytes 5
+four-carried : numberAt (0x01 ∷ replicate 4 0xFF) 1 Count ≡ refused (at endOfBytes 5)
 unfolding numberAt numberIn
 four-carried = refl
 
 -- five bytes with bit 7, and the end
-five-carried : numberAt (0x01 ∷ replicate 5 0xFF) 1 Record ≡ refused wrongNumber 1
+five-carried : numberAt (0x01 ∷ replicate 5 0xFF) 1 Count ≡ refused (at wrongNumber 1)
 unfolding numberAt numberIn
 five-carried = refl
 
 -- the top value of a record, and one group over it
-record-top : numberAt (0x01 ∷ replicate 4 0xFF ++ (0x0F ∷ 0x01 ∷ [])) 1 Record ≡ Number (2 ^ 32 - 1) 6
+record-top : numberAt (0x01 ∷ replicate 4 0xFF ++ (0x0F ∷ 0x01 ∷ [])) 1 PartNumber ≡ found (2 ^ 32 - 1) 6
 unfolding numberAt numberIn
 record-top = refl
 
-record-over : numberAt (0x01 ∷ replicate 4 0x80 ++ (0x10 ∷ 0x01 ∷ [])) 1 Record ≡ refused wrongNumber 1
+record-over : numberAt (0x01 ∷ replicate 4 0x80 ++ (0x10 ∷ 0x01 ∷ [])) 1 PartNumber ≡ refused (at wrongNumber 1)
 unfolding numberAt numberIn
 record-over = refl
 
 -- the top value of a sheet, and its eight and nine bytes with bit 7
-sheet-top : numberAt (replicate 8 0xFF ++ (0x7F ∷ [])) 0 Sheet ≡ Number (2 ^ 63 - 1) 9
+sheet-top : numberAt (replicate 8 0xFF ++ (0x7F ∷ [])) 0 Sheet ≡ found (2 ^ 63 - 1) 9
 unfolding numberAt numberIn
 sheet-top = refl
 
-eight-carried : numberAt (replicate 8 0xFF) 0 Sheet ≡ refused endOfBytes 8
+eight-carried : numberAt (replicate 8 0xFF) 0 Sheet ≡ refused (at endOfBytes 8)
 unfolding numberAt numberIn
 eight-carried = refl
 
-nine-carried : numberAt (replicate 9 0xFF) 0 Sheet ≡ refused wrongNumber 0
+nine-carried : numberAt (replicate 9 0xFF) 0 Sheet ≡ refused (at wrongNumber 0)
 unfolding numberAt numberIn
 nine-carried = refl
 
 -- a position past the input
-past-the-end : numberAt (0x01 ∷ []) 4 Sheet ≡ refused endOfBytes 1
+past-the-end : numberAt (0x01 ∷ []) 4 Sheet ≡ refused (at endOfBytes 1)
 unfolding numberAt numberIn
 past-the-end = refl

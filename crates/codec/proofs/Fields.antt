@@ -3,7 +3,7 @@
 use Prim.Native.Nat.{ℕ, _^_, _≤_, _<_}
 use native.Mathlib.Omega.{arith}
 use Rattle.codec.specs.declared.Field.{Field}
-use Rattle.codec.specs.declared.Field.the-variants.{Record, Sheet}
+use Rattle.codec.specs.declared.Field.the-variants.{Count, PartNumber, Set, Sheet}
 use Rattle.codec.specs.Fields.{groups, top}
 
 -- there is a group, nine at most, which are 63 bits, and the groups hold the top value
@@ -13,5 +13,7 @@ pub record Allowed (most high : ℕ) : Type 0 where
   pub holds : high < 128 ^ most
 
 pub allowed : (field : Field) → Allowed (groups field) (top field)
-allowed Record = omega arith
+allowed Count = omega arith
+allowed PartNumber = omega arith
+allowed Set = omega arith
 allowed Sheet = omega arith

@@ -5,5 +5,7 @@ pub mod Readings
 pub mod Walk
 pub mod ReadAfterWrite
 pub mod WriteAfterRead
+pub mod Found
+pub mod FieldReads
 pub mod Window
 pub mod Examples

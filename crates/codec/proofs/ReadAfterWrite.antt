@@ -14,11 +14,12 @@ use lib.ListN.{length, take, drop, length-append}
 use lib.Seq.{take-append-seam, take-append-add, drop-append-seam, length-take-le}
 use Rattle.answer.specs.Refusals.{wrongNumber}
 use Rattle.codec.specs.declared.Field.{Field}
-use Rattle.codec.specs.declared.Reading.the-variants.{Number}
+use Rattle.codec.specs.Reads.{found, refused}
 use Rattle.codec.specs.Fields.{groups, top}
+use Rattle.answer.specs.Outcome.{at}
 use Rattle.answer.specs.Placed.{placed}
 use Rattle.codec.specs.ByteForm.{bytesOf}
-use Rattle.codec.specs.Reading.{carried, valueOf, least, check, refused, numberIn, numberAt}
+use Rattle.codec.specs.Reading.{carried, valueOf, least, check, numberIn, numberAt}
 use Rattle.codec.proofs.Fields.{allowed}
 use Rattle.codec.proofs.ByteForms.{by-groups, bytes-small, bytes-large, bytes-some, bytes-at-most, length-small, length-large}
 use Rattle.codec.proofs.Groups.{carried-none, carried-some, carried-take}
@@ -53,7 +54,7 @@ least-form =
     step v (suc (suc n)) h some ih = omega (arith, ih, pow-succ' 128 (suc n))
 
 -- a form of no more groups than allowed is read as its number, and only its top value can refuse it
-form-within : (most high start total v : ℕ) (rest : List ℕ) → length (bytesOf v) ≤ most → numberIn most high (take most (bytesOf v ++ rest)) start total ≡ check (ltb high v) (refused wrongNumber start) (Number v (start + length (bytesOf v)))
+form-within : (most high start total v : ℕ) (rest : List ℕ) → length (bytesOf v) ≤ most → numberIn most high (take most (bytesOf v ++ rest)) start total ≡ check (ltb high v) (refused (at wrongNumber start)) (found v (start + length (bytesOf v)))
 form-within most high start total v rest h =
     let n = length (bytesOf v) in
     let others : List ℕ = take (most - n) rest in
@@ -67,7 +68,7 @@ form-within most high start total v rest h =
     ∙ simp (k, s, take-append-seam, value-form, le-ltb v (least (pred n)) (least-form v))
 
 -- a form of more groups than allowed is refused
-form-over : (most high start total v : ℕ) (rest : List ℕ) → most < length (bytesOf v) → numberIn most high (take most (bytesOf v ++ rest)) start total ≡ refused wrongNumber start
+form-over : (most high start total v : ℕ) (rest : List ℕ) → most < length (bytesOf v) → numberIn most high (take most (bytesOf v ++ rest)) start total ≡ refused (at wrongNumber start)
 form-over most high start total v rest h =
     ends-over most high start total (take most (bytesOf v ++ rest))
     (carried-take most (bytesOf v ++ rest) (omega (arith, carried-form rest v)))
@@ -81,7 +82,7 @@ groups-over : (field : Field) (v : ℕ) → groups field < length (bytesOf v) �
 groups-over field v h = ⊎-elim (λ l. l) (λ l. absurd (omega (arith, form-groups field v l))) (below-or-above (top field) v)
 
 -- what is read where a number's form stands: the number, up to the field's top value, and 22 at its first byte above it
-pub form-read : (bytes : List ℕ) (start : ℕ) (field : Field) (v : ℕ) (rest : List ℕ) → drop start bytes ≡ bytesOf v ++ rest → numberAt bytes start field ≡ check (ltb (top field) v) (refused wrongNumber start) (Number v (start + length (bytesOf v)))
+pub form-read : (bytes : List ℕ) (start : ℕ) (field : Field) (v : ℕ) (rest : List ℕ) → drop start bytes ≡ bytesOf v ++ rest → numberAt bytes start field ≡ check (ltb (top field) v) (refused (at wrongNumber start)) (found v (start + length (bytesOf v)))
 unfolding numberAt
 form-read bytes start field v rest e =
     ap (λ (w : List ℕ). numberIn (groups field) (top field) (take (groups field) w) start (length bytes)) e
@@ -95,24 +96,24 @@ behind : (front form rest : List ℕ) → drop (length front) (front ++ form ++ 
 behind front form rest = ap (drop (length front)) (append-assoc front form rest) ∙ drop-append-seam front (form ++ rest)
 
 -- a number that the field allows is read back, with the position behind it
-pub read-written : (field : Field) (v : ℕ) (front rest : List ℕ) → v ≤ top field → numberAt (front ++ bytesOf v ++ rest) (length front) field ≡ Number v (length front + length (bytesOf v))
+pub read-written : (field : Field) (v : ℕ) (front rest : List ℕ) → v ≤ top field → numberAt (front ++ bytesOf v ++ rest) (length front) field ≡ found v (length front + length (bytesOf v))
 read-written field v front rest h =
     form-read (front ++ bytesOf v ++ rest) (length front) field v rest (behind front (bytesOf v) rest) ∙ simp (le-ltb (top field) v h)
 
 -- a number over the field's top value is refused by 22 at its first byte
-pub read-over : (field : Field) (v : ℕ) (front rest : List ℕ) → top field < v → numberAt (front ++ bytesOf v ++ rest) (length front) field ≡ refused wrongNumber (length front)
+pub read-over : (field : Field) (v : ℕ) (front rest : List ℕ) → top field < v → numberAt (front ++ bytesOf v ++ rest) (length front) field ≡ refused (at wrongNumber (length front))
 read-over field v front rest h =
     form-read (front ++ bytesOf v ++ rest) (length front) field v rest (behind front (bytesOf v) rest) ∙ simp (lt-ltb (top field) v h)
 
 -- so a number's form is read as that number exactly if the field allows the number
-pub read-exactly : (field : Field) (v : ℕ) (front rest : List ℕ) → (numberAt (front ++ bytesOf v ++ rest) (length front) field ≡ Number v (length front + length (bytesOf v))) ↔ (v ≤ top field)
+pub read-exactly : (field : Field) (v : ℕ) (front rest : List ℕ) → (numberAt (front ++ bytesOf v ++ rest) (length front) field ≡ found v (length front + length (bytesOf v))) ↔ (v ≤ top field)
 read-exactly field v front rest = (
   λ e. ⊎-elim (λ l. let z : _≡_ {A = ℕ} 0 1 = cc (read-over field v front rest l) in absurd (omega arith)) (λ l. l) (below-or-above (top field) v),
   read-written field v front rest,
 )
 
 -- what was written into a buffer is read back from it
-pub read-placed : (field : Field) (v : ℕ) (buffer : List ℕ) (start : ℕ) → v ≤ top field → start + length (bytesOf v) ≤ length buffer → numberAt (placed buffer start (bytesOf v) .buffer) start field ≡ Number v (placed buffer start (bytesOf v) .answer)
+pub read-placed : (field : Field) (v : ℕ) (buffer : List ℕ) (start : ℕ) → v ≤ top field → start + length (bytesOf v) ≤ length buffer → numberAt (placed buffer start (bytesOf v) .buffer) start field ≡ found v (placed buffer start (bytesOf v) .answer)
 read-placed field v buffer start h fits =
     let n : length (take start buffer) ≡ start = length-take-le start buffer (omega arith) in
     rw (placed-fits buffer start (bytesOf v) fits)

@@ -11,7 +11,9 @@ use borrow.Author.Tests.{lt-leb, le-leb, ne-eqb, eq-eqb}
 use lib.ListN.{length, take, length-append}
 use lib.Seq.{take-append-add}
 use Rattle.answer.specs.Refusals.{endOfBytes, wrongNumber}
-use Rattle.codec.specs.Reading.{carried, valueOf, least, refused, ended, numberIn}
+use Rattle.answer.specs.Outcome.{at}
+use Rattle.codec.specs.Reads.{refused}
+use Rattle.codec.specs.Reading.{carried, valueOf, least, ended, numberIn}
 use Rattle.codec.proofs.Groups.{carried-append, carried-none, value-append}
 
 -- a number whose last byte is found
@@ -21,12 +23,12 @@ found-last most high start total window m l = simp (ne-eqb (carried window) most
 
 module _ (most high start total : ℕ) (front : List ℕ) (carries : carried front ≡ length front) where
   -- every allowed byte has bit 7 set
-  pub ends-over : length front ≡ most → numberIn most high front start total ≡ refused wrongNumber start
+  pub ends-over : length front ≡ most → numberIn most high front start total ≡ refused (at wrongNumber start)
   unfolding numberIn
   ends-over h = simp (eq-eqb (carried front) most (carries ∙ h))
 
   -- the input ends before the number does
-  pub ends-short : length front < most → numberIn most high front start total ≡ refused endOfBytes total
+  pub ends-short : length front < most → numberIn most high front start total ≡ refused (at endOfBytes total)
   unfolding numberIn
   ends-short h = simp (ne-eqb (carried front) most (omega arith), le-leb (length front) (carried front) (omega arith))
 

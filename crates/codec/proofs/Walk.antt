@@ -12,7 +12,9 @@ use lib.Seq.{take-suc, take-add, take-nil, getD-drop, drop-drop, drop-cons}
 use Rattle.answer.specs.Refusals.{endOfBytes, wrongNumber}
 use Rattle.codec.specs.declared.Field.{Field}
 use Rattle.codec.specs.Fields.{groups, top}
-use Rattle.codec.specs.Reading.{carried, valueOf, least, refused, ended, numberIn, numberAt}
+use Rattle.answer.specs.Outcome.{at}
+use Rattle.codec.specs.Reads.{refused}
+use Rattle.codec.specs.Reading.{carried, valueOf, least, ended, numberIn, numberAt}
 use Rattle.codec.proofs.Groups.{carried-append, carried-some, value-append, value-below, group-below}
 use Rattle.codec.proofs.Readings.{ends-over, ends-short, ends-last}
 
@@ -116,13 +118,13 @@ module _ {bytes : List ℕ} {start most left value weight low next : ℕ} (walke
   alone e = window [] e ∙ ap (λ (w : List ℕ). numberIn most (top field) w start (length bytes)) (append-nil (soFar bytes start next))
 
   -- no group is left
-  pub walked-over : left ≡ 0 → numberAt bytes start field ≡ refused wrongNumber start
+  pub walked-over : left ≡ 0 → numberAt bytes start field ≡ refused (at wrongNumber start)
   walked-over none =
       alone (ap (λ (k : ℕ). take k (drop next bytes)) none)
       ∙ ends-over most (top field) start (length bytes) (soFar bytes start next) (walked .carries) (omega arith)
 
   -- no byte is left
-  pub walked-short : 1 ≤ left → length bytes ≤ next → numberAt bytes start field ≡ refused endOfBytes (length bytes)
+  pub walked-short : 1 ≤ left → length bytes ≤ next → numberAt bytes start field ≡ refused (at endOfBytes (length bytes))
   walked-short some over =
       alone (ap (take left) (drop-of-length-le bytes over) ∙ take-nil left)
       ∙ ends-short most (top field) start (length bytes) (soFar bytes start next) (walked .carries) (omega arith)

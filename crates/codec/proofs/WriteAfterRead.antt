@@ -15,13 +15,12 @@ use lib.Seq.{take-take, drop-drop, getD-take, getD-drop, length-take-le, take-ap
 use Rattle.answer.specs.Refusals.{endOfBytes, wrongNumber}
 use Rattle.codec.specs.Bytes.{Bytes}
 use Rattle.codec.specs.declared.Field.{Field}
-use Rattle.codec.specs.declared.Reading.{Reading}
-use Rattle.codec.specs.declared.Reading.the-variants.{Number}
+use Rattle.codec.specs.Reads.{Read, found, refused}
 use Rattle.codec.specs.Fields.{groups, top}
-use Rattle.answer.specs.Outcome.{outcome}
+use Rattle.answer.specs.Outcome.{at, outcome}
 use Rattle.answer.specs.Placed.{placed}
 use Rattle.codec.specs.ByteForm.{bytesOf}
-use Rattle.codec.specs.Reading.{carried, valueOf, least, check, refused, numberIn, numberAt}
+use Rattle.codec.specs.Reading.{carried, valueOf, least, check, numberIn, numberAt}
 use Rattle.codec.proofs.ByteForms.{bytes-small, bytes-large}
 use Rattle.answer.proofs.Placing.{placed-fits}
 use Rattle.theory_sets.proofs.Ranges.{below-or-above}
@@ -41,11 +40,11 @@ least-le zero = omega arith
 least-le (suc more) = omega arith
 
 -- a number is given only where a check does not refuse
-check-passed : (test : Bool) (number place : ℕ) (later : Reading) (v next : ℕ) → check test (refused number place) later ≡ Number v next → (test ≡ false) × (later ≡ Number v next)
+check-passed : (test : Bool) (number place : ℕ) (later : Read ℕ) (v next : ℕ) → check test (refused (at number place)) later ≡ found v next → (test ≡ false) × (later ≡ found v next)
 check-passed true number place later v next e = let z : _≡_ {A = ℕ} 0 1 = cc in absurd (omega arith)
 check-passed false number place later v next e = (refl, e)
 
-accepted : (most high start total : ℕ) (window : List ℕ) (v next : ℕ) → numberIn most high window start total ≡ Number v next → Accepted high start window v next
+accepted : (most high start total : ℕ) (window : List ℕ) (v next : ℕ) → numberIn most high window start total ≡ found v next → Accepted high start window v next
 unfolding numberIn
 accepted most high start total window v next e =
     let k = carried window in
@@ -98,7 +97,7 @@ part-small bytes start most small i =
     (λ (h : most ≤ i). rw (List·getD-eq-default (take most (drop start bytes)) 0 {n = i} (omega (arith, length-take most (drop start bytes)))) (omega arith))
     (below-or-above i most)
 
-pub read-form : (bytes : List ℕ) (start : ℕ) (field : Field) (v next : ℕ) → Bytes bytes → numberAt bytes start field ≡ Number v next → ReadForm bytes start field v next
+pub read-form : (bytes : List ℕ) (start : ℕ) (field : Field) (v next : ℕ) → Bytes bytes → numberAt bytes start field ≡ found v next → ReadForm bytes start field v next
 unfolding numberAt
 read-form bytes start field v next small e =
     let most : ℕ = groups field in
@@ -121,7 +120,7 @@ read-form bytes start field v next small e =
     }
 
 -- writing a number back to where it was read changes nothing, and ends where the reading ended
-pub write-read : (bytes : List ℕ) (start : ℕ) (field : Field) (v next : ℕ) → Bytes bytes → numberAt bytes start field ≡ Number v next → placed bytes start (bytesOf v) ≡ outcome next bytes
+pub write-read : (bytes : List ℕ) (start : ℕ) (field : Field) (v next : ℕ) → Bytes bytes → numberAt bytes start field ≡ found v next → placed bytes start (bytesOf v) ≡ outcome next bytes
 write-read bytes start field v next small e =
     let r = read-form bytes start field v next small e in
     let n : start + length (bytesOf v) ≡ next = sym (r .position) in
@@ -129,12 +128,12 @@ write-read bytes start field v next small e =
     ∙ simp (n, append-assoc, ← (r .form), take-append-drop)
 
 -- the bytes of a number are its byte form
-pub number-bytes : (bytes : List ℕ) (start : ℕ) (field : Field) (v next : ℕ) → Bytes bytes → numberAt bytes start field ≡ Number v next → take (next - start) (drop start bytes) ≡ bytesOf v
+pub number-bytes : (bytes : List ℕ) (start : ℕ) (field : Field) (v next : ℕ) → Bytes bytes → numberAt bytes start field ≡ found v next → take (next - start) (drop start bytes) ≡ bytesOf v
 number-bytes bytes start field v next small e =
     let r = read-form bytes start field v next small e in
     let n : next - start ≡ length (bytesOf v) = omega (arith, r .position) in
     rw (n, r .form) (take-append-seam (bytesOf v) (drop next bytes))
 
 -- so one number has the same bytes wherever it is read, in whichever field
-pub one-form : (a b : List ℕ) (i j : ℕ) (f g : Field) (v m n : ℕ) → Bytes a → Bytes b → numberAt a i f ≡ Number v m → numberAt b j g ≡ Number v n → take (m - i) (drop i a) ≡ take (n - j) (drop j b)
+pub one-form : (a b : List ℕ) (i j : ℕ) (f g : Field) (v m n : ℕ) → Bytes a → Bytes b → numberAt a i f ≡ found v m → numberAt b j g ≡ found v n → take (m - i) (drop i a) ≡ take (n - j) (drop j b)
 one-form a b i j f g v m n small-a small-b read-a read-b = number-bytes a i f v m small-a read-a ∙ sym (number-bytes b j g v n small-b read-b)

@@ -1,6 +1,6 @@
 -- How a number is written (01, "Records on disk").
 use mathlib.Core.Bool.{true, false}
-use mathlib.Core.List.{List, [], _∷_}
+use mathlib.Core.List.{List, [], _∷_, _++_}
 use Prim.Native.Nat.{ℕ, zero, suc, _+_, _/_, _%_}
 use lib.Dec.{ltb}
 
@@ -14,3 +14,8 @@ grouped (suc more) value =
 -- the byte form of a number: 300 is AC 02. Its own value is more than enough for the groups that follow the first.
 unfoldable pub bytesOf : ℕ → List ℕ
 bytesOf value = grouped value value
+
+-- numbers one after the other
+unfoldable pub formsOf : List ℕ → List ℕ
+formsOf [] = []
+formsOf (number ∷ numbers) = bytesOf number ++ formsOf numbers

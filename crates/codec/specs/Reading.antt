@@ -8,8 +8,7 @@ use Rattle.answer.specs.Refusals.{endOfBytes, wrongNumber}
 use Rattle.answer.specs.Outcome.{at}
 use Rattle.codec.specs.Fields.{groups, top}
 use Rattle.codec.specs.declared.Field.{Field}
-use Rattle.codec.specs.declared.Reading.{Reading}
-use Rattle.codec.specs.declared.Reading.the-variants.{Number, Refused}
+use Rattle.codec.specs.Reads.{Read, found, refused}
 
 -- how many bytes in front have bit 7 set, each of them with a group to follow
 abbrev pub carried : List ℕ → ℕ
@@ -26,27 +25,24 @@ abbrev pub least : ℕ → ℕ
 least zero = 0
 least (suc more) = 128 ^ suc more
 
-abbrev pub refused : ℕ → ℕ → Reading
-refused number place = Refused (at number place)
-
 -- one check of a number: where its condition holds it refuses, and else what comes later decides
-abbrev pub check : Bool → Reading → Reading → Reading
+abbrev pub check : Bool → Read ℕ → Read ℕ → Read ℕ
 check true refusal later = refusal
 check false refusal later = later
 
 -- a number whose last byte is found: 22 where it is not shortest, or over its top value
-abbrev pub ended : ℕ → ℕ → ℕ → ℕ → ℕ → Reading
+abbrev pub ended : ℕ → ℕ → ℕ → ℕ → ℕ → Read ℕ
 ended value low high start next =
-    check (ltb value low) (refused wrongNumber start) (check (ltb high value) (refused wrongNumber start) (Number value next))
+    check (ltb value low) (refused (at wrongNumber start)) (check (ltb high value) (refused (at wrongNumber start)) (found value next))
 
 -- The number of at most `most` groups, and `high` at most, in front of `window`: the bytes from its first on, `most` of them or fewer
 -- where the input ends. 22 where the last allowed byte has bit 7 set, 21 where the bytes end before the number does.
-unfoldable pub numberIn : ℕ → ℕ → List ℕ → ℕ → ℕ → Reading
+unfoldable pub numberIn : ℕ → ℕ → List ℕ → ℕ → ℕ → Read ℕ
 numberIn most high window start total =
-    check (eqb (carried window) most) (refused wrongNumber start)
-    (check (leb (length window) (carried window)) (refused endOfBytes total)
+    check (eqb (carried window) most) (refused (at wrongNumber start))
+    (check (leb (length window) (carried window)) (refused (at endOfBytes total))
     (ended (valueOf (take (suc (carried window)) window)) (least (carried window)) high start (start + suc (carried window))))
 
 -- the number of a field whose first byte is at that position
-unfoldable pub numberAt : List ℕ → ℕ → Field → Reading
+unfoldable pub numberAt : List ℕ → ℕ → Field → Read ℕ
 numberAt bytes start field = numberIn (groups field) (top field) (take (groups field) (drop start bytes)) start (length bytes)

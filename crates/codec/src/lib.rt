@@ -4,15 +4,22 @@ ghost use Prim.Native.Nat.{_+_, _≤_};
 ghost use lib.ListN.{length};
 ghost use lib.Seq.{sets};
 ghost use Rattle.codec.specs.Fields.{groups, top};
-ghost use Rattle.answer.specs.Outcome.{outcome};
+ghost use Rattle.answer.specs.Outcome.{at, outcome};
 ghost use Rattle.answer.specs.Placed.{placed};
 ghost use Rattle.codec.specs.ByteForm.{bytesOf};
-ghost use Rattle.codec.specs.Reading.{numberAt, ended, refused};
+ghost use Rattle.codec.specs.Reads.{readingOf};
+ghost use Rattle.codec.specs.Reading.{numberAt, ended};
 use answer::Refusal;
 
 // What a number is read for: its field says how large it may be, and how many groups it may take.
 pub enum Field {
-    Record,
+    // n, and the count of minimal sets.
+    Count,
+    // A part number, and the mark.
+    PartNumber,
+    // A minimal set.
+    Set,
+    // Any number of a sheet.
     Sheet,
 }
 
@@ -28,7 +35,9 @@ impl Field {
         ensures { λ r. ⌜ r ≡ groups self ⌝ }
     {
         match self {
-            Field::Record => 5,
+            Field::Count => 5,
+            Field::PartNumber => 5,
+            Field::Set => 5,
             Field::Sheet => 9,
         }
     }
@@ -38,7 +47,9 @@ impl Field {
         ensures { λ r. ⌜ r ≡ top self ⌝ }
     {
         match self {
-            Field::Record => 4294967295,
+            Field::Count => 4294967295,
+            Field::PartNumber => 4294967295,
+            Field::Set => 4294967295,
             Field::Sheet => 9223372036854775807,
         }
     }
@@ -46,7 +57,7 @@ impl Field {
 
 // The number whose first byte is at that position, as the field allows it.
 pub fn read_number(bytes: &[u8], at: usize, field: Field) -> Reading
-    ensures { λ r. ⌜ r ≡ numberAt (now (bytes .entry)) at field ⌝ }
+    ensures { λ r. ⌜ r ≡ readingOf (numberAt (now (bytes .entry)) at field) ⌝ }
 {
     let top = field.top();
     let mut left = field.groups();
@@ -101,7 +112,7 @@ pub fn write_number(buffer: &mut [u8], at: usize, value: u64) -> usize
 
 // The answer for a number whose last byte is read: 22 where it is below the least number of as many groups, or over its top value.
 fn ended(value: u64, least: u64, top: u64, start: usize, next: usize) -> Reading
-    ensures { λ r. ⌜ r ≡ ended value least top start next ⌝ }
+    ensures { λ r. ⌜ r ≡ readingOf (ended value least top start next) ⌝ }
 {
     if value < least {
         return refused(answer::WRONG_NUMBER, start);
@@ -114,7 +125,7 @@ fn ended(value: u64, least: u64, top: u64, start: usize, next: usize) -> Reading
 
 // The answer where a check refuses.
 pub fn refused(number: u8, place: usize) -> Reading
-    ensures { λ r. ⌜ r ≡ refused number place ⌝ }
+    ensures { λ r. ⌜ r ≡ Reading.Refused (at number place) ⌝ }
 {
     Reading::Refused(Refusal { number, place })
 }

@@ -26,7 +26,7 @@ fn numbers() {
 fn number(name: &[u8], bytes: &[u8]) {
     say(name);
     say(b": ");
-    let found = codec::read_number(bytes, 0, Field::Record);
+    let found = codec::read_number(bytes, 0, Field::Count);
     match found {
         Reading::Refused(refusal) => refused(refusal.number, refusal.place),
         Reading::Number { value, next: _ } => {

@@ -1,43 +1,51 @@
 -- What an answer of one of the reading functions tells of what stands at the bytes.
 -- Assumes nothing.
-use mathlib.Core.Path.{_≡_, refl, sym, ap, _∙_, subst}
-use mathlib.Core.Bool.{Bool, cond}
-use mathlib.Core.List.{List, [], _∷_, _++_}
-use Prim.Native.Nat.{ℕ, zero, suc, _+_, _≤_, _<_}
+use mathlib.Core.Path.{_≡_, refl, sym, ap, ap₂, _∙_, subst}
+use mathlib.Core.Bool.{Bool, cond, _&&_, and-false}
+use mathlib.Core.List.{List, [], List·Memᴰ}
+use Prim.Native.Nat.{ℕ, _^_, _≤_, _<_, min}
 use native.Mathlib.Nat.{zero-add}
-use native.Mathlib.Omega.{arith}
 use borrow.Author.Tests.{lt-ltb, le-ltb}
-use lib.ListN.{length, length-append}
+use lib.Dec.{ltb}
+use lib.ListN.{length, replicate}
 use Rattle.answer.specs.Outcome.{at}
 use Rattle.answer.specs.Refusals.{bytesLeft}
 use Rattle.answer.specs.declared.Refusal.{Refusal}
 use Rattle.answer.specs.declared.Verdict.{Verdict}
 use Rattle.answer.specs.declared.Verdict.the-variants.{Accepted, Refused}
-use Rattle.record.specs.declared.Contents.{Contents}
-use Rattle.record.specs.declared.Ending.the-variants as ending
-use Rattle.record_head.specs.Headings.{Read, found, refused, then, fieldAt, Head, headAt}
-use Rattle.record.specs.Records.{setRefusal, setsAt, Design, recordAt, alone, wholeRecord}
-use Rattle.record.specs.Contents.{nothing, contentsOf, contentsAt, wholeContents}
-use Rattle.record.specs.Inside.{endingOf, passed, Pass, decided}
-use Rattle.record_head.proofs.Found.{then-found}
+use Rattle.codec.specs.declared.Field.the-variants.{Set}
+use Rattle.codec.specs.Reads.{Read, found, refused, then, alone}
+use Rattle.codec.proofs.FieldReads.{fields-counted}
+use Rattle.record.specs.declared.SetsRead.{SetsRead}
+use Rattle.record.specs.declared.WithWords.{WithWords}
+use Rattle.record_head.specs.Headings.{Head, headAt}
+use Rattle.record.specs.Records.{setRefusal, setsAt, DesignAt, recordAt, onlyRecord}
+use Rattle.record.specs.Contents.{contentsOf, contentsAt, wholeContents, structureWords, withWordsOf, wholeWithWords}
+use Rattle.record.specs.Inside.{setsReadOf, passed, Pass, risingAt, decided}
+use Rattle.theory_sets.specs.Structures.{listed}
+use Rattle.structure_words.specs.Words.{inWords, wordsOf, among}
+use Rattle.structure_words.proofs.Words.{wordsOf-none}
+use Rattle.structure_closure.specs.Closure.{spread}
+use Rattle.structure.proofs.Walks.{listed-words}
+use Rattle.record.proofs.Marking.{climb}
 use Rattle.record_head.proofs.Answers.{not-both}
 
--- the end of the sets
-pub ending-given : (read : Read (List ℕ)) (end : ℕ) → ending.At end ≡ endingOf read → (sets : List ℕ) × (read ≡ found sets end)
-ending-given (found sets k) end e = (sets, cc)
-ending-given (refused why) end e = let z : _≡_ {A = ℕ} 0 1 = cc in absurd (omega arith)
+-- ---- the sets
 
-pub ending-refused : (read : Read (List ℕ)) (why : Refusal) → ending.Refused why ≡ endingOf read → read ≡ refused why
-ending-refused (found sets k) why e = let z : _≡_ {A = ℕ} 0 1 = cc in absurd (omega arith)
-ending-refused (refused r) why e = cc
+-- the sets that an accepting answer speaks of
+pub record SetsGiven (n : ℕ) (read : Read (List ℕ)) (answer : SetsRead) : Type 0 where
+  pub sets : List ℕ
+  pub given : read ≡ found sets (answer .end)
+  pub words : answer .words ≡ structureWords n sets
 
--- there are as many sets as were to be read
-pub sets-counted : (bytes : List ℕ) (n more : ℕ) (earlier : List ℕ) (start : ℕ) (sets : List ℕ) (end : ℕ) → setsAt bytes n more earlier start ≡ found sets end → length sets ≡ length earlier + more
-unfolding setsAt
-sets-counted bytes n zero earlier start sets end e = let same : earlier ≡ sets = cc in omega (arith, ap length same)
-sets-counted bytes n (suc more) earlier start sets end e =
-    let a = then-found (fieldAt bytes start (setRefusal n earlier start)) _ sets end e in
-    omega (arith, sets-counted bytes n more (earlier ++ (a .0 ∷ [])) (a .1) sets end (a .3), length-append earlier (a .0 ∷ []))
+pub sets-given : (n : ℕ) (read : Read (List ℕ)) (answer : SetsRead) → answer ≡ setsReadOf n read → answer .verdict ≡ Accepted → SetsGiven n read answer
+sets-given n (found sets end) answer e v =
+    record { sets = sets; given = ap (found sets) (sym (ap (λ (s : SetsRead). s .end) e)); words = ap (λ (s : SetsRead). s .words) e }
+sets-given n (refused why) answer e v = not-both v (ap (λ (s : SetsRead). s .verdict) e)
+
+pub sets-refused : (n : ℕ) (read : Read (List ℕ)) (answer : SetsRead) (why : Refusal) → answer ≡ setsReadOf n read → answer .verdict ≡ Refused why → read ≡ refused why
+sets-refused n (found sets end) answer why e v = not-both (ap (λ (s : SetsRead). s .verdict) e) v
+sets-refused n (refused r) answer why e v = let same : Refused r ≡ Refused why = sym (ap (λ (s : SetsRead). s .verdict) e) ∙ v in cc same
 
 -- ---- the sets, from the two passes
 
@@ -50,59 +58,83 @@ decided-refused v pass why e d = ap (λ (w : Verdict). decided w pass) e ∙ ap 
 pub decided-given : (v : Verdict) (pass : Pass) → v ≡ Accepted → pass .verdict ≡ Accepted → decided v pass ≡ found (pass .sets) (pass .next)
 decided-given v pass e d = ap (λ (w : Verdict). decided w pass) e ∙ ap (λ (w : Verdict). decided Accepted (passed (pass .sets) (pass .next) w)) d
 
--- ---- the contents, from what stands before the sets and the sets
+-- ---- the words
+
+-- zeros are the words of no set
+pub no-words : replicate 1024 0 ≡ structureWords 0 []
+unfolding listed
+no-words = wordsOf-none (λ a. ltb a (2 ^ 0) && listed [] a) (λ a. and-false (ltb a (2 ^ 0)))
+
+-- the sets that the first pass marks, carried over the parts, are the words of their structure
+pub pass-words : (bytes : List ℕ) (n count start : ℕ) → n ≤ 16
+    → wordsOf (spread (min n 16) (inWords (wordsOf (among (risingAt bytes n count [] start .sets))))) ≡ structureWords n (risingAt bytes n count [] start .sets)
+pass-words bytes n count start few =
+    let c = climb bytes n count [] start in
+    listed-words n (risingAt bytes n count [] start .sets) few (λ a m. c .within a (subst (List·Memᴰ a) (c .behind-earlier) m) .0)
+
+-- ---- the record, from what stands before the sets and the sets
 
 module _ (bytes : List ℕ) (start : ℕ) where
-  pub contents-no-head : (why : Refusal) → headAt bytes start ≡ refused why → nothing why ≡ contentsAt bytes start
-  unfolding contentsAt
-  contents-no-head why e = sym (ap (λ (h : Read Head). contentsOf h (recordAt bytes start)) e)
+  pub record-no-head : (why : Refusal) → headAt bytes start ≡ refused why → recordAt bytes start ≡ refused why
+  unfolding recordAt
+  record-no-head why e = rw e
 
   module _ (head : Head) (begin : ℕ) where
-    pub contents-no-sets : (why : Refusal) → headAt bytes start ≡ found head begin → setsAt bytes (head .parts .count) (head .count) [] begin ≡ refused why → nothing why ≡ contentsAt bytes start
-    unfolding contentsAt recordAt
-    contents-no-sets why e d = rw (e, d)
+    pub record-no-sets : (why : Refusal) → headAt bytes start ≡ found head begin → setsAt bytes (head .parts .count) (head .count) [] begin ≡ refused why → recordAt bytes start ≡ refused why
+    unfolding recordAt
+    record-no-sets why e d = rw (e, d)
 
-    pub contents-given : (sets : List ℕ) (end : ℕ) → headAt bytes start ≡ found head begin → setsAt bytes (head .parts .count) (head .count) [] begin ≡ found sets end
-        → record { list = head .parts; sets = head .count; begin = begin; end = end; verdict = Accepted } ≡ contentsAt bytes start
-    unfolding contentsAt recordAt
-    contents-given sets end e d =
-        let counted : head .count ≡ length sets = sym (sets-counted bytes (head .parts .count) (head .count) [] begin sets end d ∙ zero-add (head .count)) in
-        ap (λ (k : ℕ). record { list = head .parts; sets = k; begin = begin; end = end; verdict = Accepted }) counted ∙ rw (e, d)
+    pub record-given : (sets : List ℕ) (end : ℕ) (words : List ℕ) → headAt bytes start ≡ found head begin → setsAt bytes (head .parts .count) (head .count) [] begin ≡ found sets end
+        → words ≡ structureWords (head .parts .count) sets
+        → record { contents = record { list = head .parts; sets = head .count; begin = begin; end = end; next = end; verdict = Accepted }; words = words } ≡ withWordsOf (recordAt bytes start)
+    unfolding recordAt
+    record-given sets end words e d w =
+        let counted : head .count ≡ length sets = sym (fields-counted bytes Set (setRefusal (head .parts .count)) (head .count) [] begin sets end d ∙ zero-add (head .count)) in
+        ap₂ (λ (k : ℕ) (ws : List ℕ). record { contents = record { list = head .parts; sets = k; begin = begin; end = end; next = end; verdict = Accepted }; words = ws }) counted w
+        ∙ rw (e, d)
+
+-- the contents are those beside the words
+words-contents : (read : Read DesignAt) → withWordsOf read .contents ≡ contentsOf read
+words-contents (found here next) = refl
+words-contents (refused why) = refl
+
+pub contents-at : (bytes : List ℕ) (start : ℕ) (w : WithWords) → w ≡ withWordsOf (recordAt bytes start) → w .contents ≡ contentsAt bytes start
+unfolding contentsAt
+contents-at bytes start w e = ap (λ (x : WithWords). x .contents) e ∙ words-contents (recordAt bytes start)
+
+pub contents-whole : (bytes : List ℕ) (w : WithWords) → w ≡ wholeWithWords bytes → w .contents ≡ wholeContents bytes
+unfolding wholeContents wholeWithWords
+contents-whole bytes w e = ap (λ (x : WithWords). x .contents) e ∙ words-contents (onlyRecord bytes)
 
 -- ---- 25, after the record
 
 module _ (bytes : List ℕ) where
-  left-refused : (head : Read Head) (read : Read Design) (why : Refusal) → contentsOf head read .verdict ≡ Refused why → contentsOf head read ≡ contentsOf head (then read (alone bytes))
-  left-refused (refused r) read why v = refl
-  left-refused (found head begin) (refused r) why v = refl
-  left-refused (found head begin) (found d end) why v = not-both refl v
+  left-refused : (read : Read DesignAt) (why : Refusal) → withWordsOf read .contents .verdict ≡ Refused why → withWordsOf read ≡ withWordsOf (then read (alone bytes))
+  left-refused (refused r) why v = refl
+  left-refused (found here next) why v = not-both refl v
 
-  left-some : (head : Read Head) (read : Read Design) → contentsOf head read .verdict ≡ Accepted → contentsOf head read .end < length bytes
-      → nothing (at bytesLeft (contentsOf head read .end)) ≡ contentsOf head (then read (alone bytes))
-  left-some (refused r) read v h = not-both v refl
-  left-some (found head begin) (refused r) v h = not-both v refl
-  left-some (found head begin) (found d end) v h =
-      sym (ap (λ (t : Bool). contentsOf (found head begin) (cond t (refused (at bytesLeft end)) (found d end))) (lt-ltb end (length bytes) h))
+  left-some : (read : Read DesignAt) → withWordsOf read .contents .verdict ≡ Accepted → withWordsOf read .contents .next < length bytes
+      → withWordsOf (refused (at bytesLeft (withWordsOf read .contents .next))) ≡ withWordsOf (then read (alone bytes))
+  left-some (refused r) v h = not-both v refl
+  left-some (found here next) v h = sym (ap (λ (t : Bool). withWordsOf (cond t (refused (at bytesLeft next)) (found here next))) (lt-ltb next (length bytes) h))
 
-  left-none : (head : Read Head) (read : Read Design) → contentsOf head read .verdict ≡ Accepted → length bytes ≤ contentsOf head read .end
-      → contentsOf head read ≡ contentsOf head (then read (alone bytes))
-  left-none (refused r) read v h = not-both v refl
-  left-none (found head begin) (refused r) v h = not-both v refl
-  left-none (found head begin) (found d end) v h =
-      sym (ap (λ (t : Bool). contentsOf (found head begin) (cond t (refused (at bytesLeft end)) (found d end))) (le-ltb end (length bytes) h))
+  left-none : (read : Read DesignAt) → withWordsOf read .contents .verdict ≡ Accepted → length bytes ≤ withWordsOf read .contents .next
+      → withWordsOf read ≡ withWordsOf (then read (alone bytes))
+  left-none (refused r) v h = not-both v refl
+  left-none (found here next) v h = sym (ap (λ (t : Bool). withWordsOf (cond t (refused (at bytesLeft next)) (found here next))) (le-ltb next (length bytes) h))
 
-module _ (bytes : List ℕ) (contents : Contents) (read : contents ≡ contentsAt bytes 0) where
-  pub whole-refused : (why : Refusal) → contents .verdict ≡ Refused why → contents ≡ wholeContents bytes
-  unfolding contentsAt wholeContents wholeRecord
-  whole-refused why v = read ∙ left-refused bytes (headAt bytes 0) (recordAt bytes 0) why (sym (ap (λ (k : Contents). k .verdict) read) ∙ v)
+module _ (bytes : List ℕ) (w : WithWords) (read : w ≡ withWordsOf (recordAt bytes 0)) where
+  pub whole-refused : (why : Refusal) → w .contents .verdict ≡ Refused why → w ≡ wholeWithWords bytes
+  unfolding wholeWithWords onlyRecord
+  whole-refused why v = read ∙ left-refused bytes (recordAt bytes 0) why (sym (ap (λ (k : WithWords). k .contents .verdict) read) ∙ v)
 
-  pub whole-left : contents .verdict ≡ Accepted → contents .end < length bytes → nothing (at bytesLeft (contents .end)) ≡ wholeContents bytes
-  unfolding contentsAt wholeContents wholeRecord
+  pub whole-left : w .contents .verdict ≡ Accepted → w .contents .next < length bytes → withWordsOf (refused (at bytesLeft (w .contents .next))) ≡ wholeWithWords bytes
+  unfolding wholeWithWords onlyRecord
   whole-left v h =
-      ap (λ (k : Contents). nothing (at bytesLeft (k .end))) read
-      ∙ left-some bytes (headAt bytes 0) (recordAt bytes 0) (sym (ap (λ (k : Contents). k .verdict) read) ∙ v) (subst (λ (k : Contents). k .end < length bytes) read h)
+      ap (λ (k : WithWords). withWordsOf (refused (at bytesLeft (k .contents .next)))) read
+      ∙ left-some bytes (recordAt bytes 0) (sym (ap (λ (k : WithWords). k .contents .verdict) read) ∙ v) (subst (λ (k : WithWords). k .contents .next < length bytes) read h)
 
-  pub whole-alone : contents .verdict ≡ Accepted → length bytes ≤ contents .end → contents ≡ wholeContents bytes
-  unfolding contentsAt wholeContents wholeRecord
+  pub whole-alone : w .contents .verdict ≡ Accepted → length bytes ≤ w .contents .next → w ≡ wholeWithWords bytes
+  unfolding wholeWithWords onlyRecord
   whole-alone v h =
-      read ∙ left-none bytes (headAt bytes 0) (recordAt bytes 0) (sym (ap (λ (k : Contents). k .verdict) read) ∙ v) (subst (λ (k : Contents). length bytes ≤ k .end) read h)
+      read ∙ left-none bytes (recordAt bytes 0) (sym (ap (λ (k : WithWords). k .contents .verdict) read) ∙ v) (subst (λ (k : WithWords). length bytes ≤ k .contents .next) read h)

@@ -1,6 +1,6 @@
 pub mod Sets
-pub mod Answers
 pub mod Marking
+pub mod Answers
 pub mod Passes
 pub mod RoundTrip
 pub mod MinimalSets

@@ -5,32 +5,33 @@ use mathlib.Core.Bool.{Bool, true, false, not, _||_}
 use mathlib.Core.List.{List, [], _∷_, _++_, append-assoc, append-nil, List·Memᴰ, List·Memᴰ·not-nil, List·Memᴰ·cases-cons}
 use mathlib.Core.Logic.{_⊎_, inl, inr}
 use Prim.Native.Nat.{ℕ, zero, suc, _+_, _-_, _*_, _/_, _%_, _^_, _≤_, _<_}
-use native.Mathlib.Nat.{pos-of-ne-zero, add-zero, sub-zero, one-mul, mod-lt, mod-eq-of-lt, zero-lt-suc}
+use native.Mathlib.Nat.{add-zero, sub-zero, one-mul, mod-lt, mod-eq-of-lt, zero-lt-suc}
 use native.Mathlib.Numerals.{add-one}
 use native.Mathlib.Omega.{arith}
-use borrow.Author.Tests.{eqb-false, leb-false}
+use borrow.Author.Tests.{leb-false}
 use lib.Dec.{eqb, leb}
 use lib.ListN.{length, getD, set, replicate, length-append, List·getD-append}
 use lib.Pow.{pow-mono, pow-lt}
 use lib.Seq.{getD-append-add}
 use Rattle.answer.specs.Outcome.{at, refuse}
-use Rattle.answer.specs.Refusals.{unknownPart, emptySet, wrongSet}
+use Rattle.answer.specs.Refusals.{wrongSet}
 use Rattle.answer.specs.declared.Refusal.{Refusal}
 use Rattle.answer.specs.declared.Verdict.{Verdict}
 use Rattle.answer.specs.declared.Verdict.the-variants.{Accepted, Refused}
 use Rattle.answer.proofs.Outcomes.{refuse-accepted}
-use Rattle.codec.specs.declared.Field.the-variants.{Record}
-use Rattle.codec.specs.declared.Reading.{Reading}
-use Rattle.codec.specs.declared.Reading.the-variants as reading
+use Rattle.answer.proofs.Checks.{mask-right}
+use Rattle.codec.specs.declared.Field.the-variants.{Set}
+use Rattle.codec.specs.Reads.{Read, found, refused}
 use Rattle.codec.specs.Reading.{numberAt}
+use Rattle.codec.specs.FieldReads.{fieldAt}
+use Rattle.codec.proofs.Found.{field-checked}
 use Rattle.theory_sets.specs.Masks.{any, RisingFrom}
 use Rattle.theory_sets.proofs.Masks.{join}
 use Rattle.theory_sets.proofs.Ranges.{any-same}
 use Rattle.structure_words.specs.Words.{wordsOf, among}
 use Rattle.structure_words.proofs.Words.{wordsOf-none, wordsOf-same, marked-more}
-use Rattle.record_head.specs.Headings.{Read, found, refused, fieldAt, lastNumber}
+use Rattle.record_head.specs.Headings.{lastNumber}
 use Rattle.record.specs.Inside.{risingRefusal, Pass, passed, passOn, risingAt, markedOf, nestedOn, nestedAt}
-use Rattle.record_head.proofs.Found.{field-checked}
 use Rattle.record_head.proofs.PartNumbers.{last-more}
 
 -- ---- a set more among those marked
@@ -58,10 +59,8 @@ marked-one list m h =
 
 pub rising-right : (n previous place set : ℕ) → risingRefusal n previous place set ≡ Accepted → (set < 2 ^ n) × (0 < set) × (previous < set)
 rising-right n previous place set e =
-    let known = refuse-accepted (leb (2 ^ n) set) unknownPart place _ e in
-    let some = refuse-accepted (eqb set 0) emptySet place _ (known .1) in
-    let rises = refuse-accepted (leb set previous) wrongSet place Accepted (some .1) in
-    (leb-false (2 ^ n) set (known .0), pos-of-ne-zero (eqb-false set 0 (some .0)), leb-false set previous (rises .0))
+    let known = mask-right n place set (refuse (leb set previous) wrongSet place Accepted) e in
+    (known .0, known .1, leb-false set previous (refuse-accepted (leb set previous) wrongSet place Accepted (known .2) .0))
 
 -- what the first pass reads behind the earlier sets rises above them and is of n parts
 pub record Climb (bytes : List ℕ) (n more : ℕ) (earlier : List ℕ) (start : ℕ) : Type 0 where
@@ -79,12 +78,12 @@ unfolding risingAt
 climb bytes n zero earlier start =
     record { rest = []; behind-earlier = sym (append-nil earlier); rising = tt; within = λ a m. absurd (List·Memᴰ·not-nil m) }
 climb bytes n (suc more) earlier start =
-    cases (split (fieldAt bytes start (risingRefusal n (lastNumber 0 earlier) start))) (λ v next. climb bytes n more (earlier ++ (v ∷ [])) next)
+    cases (split (fieldAt bytes start Set (risingRefusal n (lastNumber 0 earlier) start))) (λ v next. climb bytes n more (earlier ++ (v ∷ [])) next)
   where
     later : ℕ → ℕ → Pass
     later v next = risingAt bytes n more (earlier ++ (v ∷ [])) next
 
-    cases : ((v : ℕ) × (next : ℕ) × (fieldAt bytes start (risingRefusal n (lastNumber 0 earlier) start) ≡ found v next)) ⊎ ((why : Refusal) × (fieldAt bytes start (risingRefusal n (lastNumber 0 earlier) start) ≡ refused why))
+    cases : ((v : ℕ) × (next : ℕ) × (fieldAt bytes start Set (risingRefusal n (lastNumber 0 earlier) start) ≡ found v next)) ⊎ ((why : Refusal) × (fieldAt bytes start Set (risingRefusal n (lastNumber 0 earlier) start) ≡ refused why))
         → ((v next : ℕ) → Climb bytes n more (earlier ++ (v ∷ [])) next) → Climb bytes n (suc more) earlier start
     cases (inr w) on =
         record {
@@ -96,7 +95,7 @@ climb bytes n (suc more) earlier start =
     cases (inl f) on =
         let v : ℕ = f .0 in
         let c = on v (f .1) in
-        let right = rising-right n (lastNumber 0 earlier) start v (field-checked bytes start (risingRefusal n (lastNumber 0 earlier) start) v (f .1) (f .2)) in
+        let right = rising-right n (lastNumber 0 earlier) start v (field-checked bytes start Set (risingRefusal n (lastNumber 0 earlier) start) v (f .1) (f .2)) in
         record {
           rest = v ∷ c .rest;
           behind-earlier = ap (λ (f : Read ℕ). passOn earlier start f later .sets) (f .2) ∙ c .behind-earlier ∙ append-assoc earlier (v ∷ []) (c .rest);
@@ -136,19 +135,19 @@ module _ {bytes : List ℕ} {n count start : ℕ} {words : List ℕ} {previous n
   abbrev later : ℕ → ℕ → Pass
   later v after = risingAt bytes n (count - (read + 1)) (walk .earlier ++ (v ∷ [])) after
 
-  step : read < count → risingAt bytes n count [] start ≡ passOn (walk .earlier) next (fieldAt bytes next (risingRefusal n previous next)) later
+  step : read < count → risingAt bytes n count [] start ≡ passOn (walk .earlier) next (fieldAt bytes next Set (risingRefusal n previous next)) later
   unfolding risingAt
   step h =
       let more : count - read ≡ suc (count - (read + 1)) = omega arith in
       sym (walk .rest) ∙ ap (λ (k : ℕ). risingAt bytes n k (walk .earlier) next) more
-      ∙ ap (λ (low : ℕ). passOn (walk .earlier) next (fieldAt bytes next (risingRefusal n low next)) later) (sym (walk .last))
+      ∙ ap (λ (low : ℕ). passOn (walk .earlier) next (fieldAt bytes next Set (risingRefusal n low next)) later) (sym (walk .last))
 
-  pub mark-walk-below : n ≤ 16 → (value after : ℕ) → found value after ≡ fieldAt bytes next (risingRefusal n previous next) → value < 65536
+  pub mark-walk-below : n ≤ 16 → (value after : ℕ) → found value after ≡ fieldAt bytes next Set (risingRefusal n previous next) → value < 65536
   mark-walk-below few value after e =
       let inside : 2 ^ n ≤ 2 ^ 16 = pow-mono few in
-      omega (arith, rising-right n previous next value (field-checked bytes next (risingRefusal n previous next) value after (sym e)) .0)
+      omega (arith, rising-right n previous next value (field-checked bytes next Set (risingRefusal n previous next) value after (sym e)) .0)
 
-  pub mark-walk-more : read < count → (value after : ℕ) → value < 65536 → found value after ≡ fieldAt bytes next (risingRefusal n previous next)
+  pub mark-walk-more : read < count → (value after : ℕ) → value < 65536 → found value after ≡ fieldAt bytes next Set (risingRefusal n previous next)
       → MarkWalk bytes n count start (set words (value / 64) (join (getD words (value / 64) 0) (1 * 2 ^ (value % 64) % 2 ^ 64))) value after (read + 1)
   mark-walk-more h value after small e = record {
     earlier = walk .earlier ++ (value ∷ []);
@@ -159,7 +158,7 @@ module _ {bytes : List ℕ} {n count start : ℕ} {words : List ℕ} {previous n
     rest = sym (step h ∙ ap (λ (r : Read ℕ). passOn (walk .earlier) next r later) (sym e));
   }
 
-  pub mark-walk-refused : read < count → (why : Refusal) → refused why ≡ fieldAt bytes next (risingRefusal n previous next) → risingAt bytes n count [] start ≡ passed (walk .earlier) next (Refused why)
+  pub mark-walk-refused : read < count → (why : Refusal) → refused why ≡ fieldAt bytes next Set (risingRefusal n previous next) → risingAt bytes n count [] start ≡ passed (walk .earlier) next (Refused why)
   mark-walk-refused h why e = step h ∙ ap (λ (r : Read ℕ). passOn (walk .earlier) next r later) (sym e)
 
   pub mark-walk-end : count ≤ read → risingAt bytes n count [] start ≡ passed (walk .earlier) next Accepted
@@ -178,21 +177,21 @@ module _ {bytes : List ℕ} {n count start : ℕ} {words : List ℕ} {previous n
 
 module _ (bytes : List ℕ) (kept : ℕ → Bool) (count index start : ℕ) where
   module _ (h : index < count) where
-    nested-step : nestedAt bytes kept (count - index) start ≡ nestedOn kept start (numberAt bytes start Record) (λ next. nestedAt bytes kept (count - (index + 1)) next)
+    nested-step : nestedAt bytes kept (count - index) start ≡ nestedOn kept start (numberAt bytes start Set) (λ next. nestedAt bytes kept (count - (index + 1)) next)
     unfolding nestedAt
     nested-step = let more : count - index ≡ suc (count - (index + 1)) = omega arith in ap (λ (k : ℕ). nestedAt bytes kept k start) more
 
-    on : (r : Reading) → numberAt bytes start Record ≡ r → nestedAt bytes kept (count - index) start ≡ nestedOn kept start r (λ next. nestedAt bytes kept (count - (index + 1)) next)
-    on r e = nested-step ∙ ap (λ (f : Reading). nestedOn kept start f (λ next. nestedAt bytes kept (count - (index + 1)) next)) e
+    on : (r : Read ℕ) → numberAt bytes start Set ≡ r → nestedAt bytes kept (count - index) start ≡ nestedOn kept start r (λ next. nestedAt bytes kept (count - (index + 1)) next)
+    on r e = nested-step ∙ ap (λ (f : Read ℕ). nestedOn kept start f (λ next. nestedAt bytes kept (count - (index + 1)) next)) e
 
-    pub nested-ended : (why : Refusal) → numberAt bytes start Record ≡ reading.Refused why → Accepted ≡ nestedAt bytes kept (count - index) start
-    nested-ended why e = sym (on (reading.Refused why) e)
+    pub nested-ended : (why : Refusal) → numberAt bytes start Set ≡ refused why → Accepted ≡ nestedAt bytes kept (count - index) start
+    nested-ended why e = sym (on (refused why) e)
 
-    pub nested-here : (value next : ℕ) → numberAt bytes start Record ≡ reading.Number value next → not (kept value) ≡ true → Refused (at wrongSet start) ≡ nestedAt bytes kept (count - index) start
-    nested-here value next e k = sym (on (reading.Number value next) e ∙ ap (λ (t : Bool). refuse t wrongSet start (nestedAt bytes kept (count - (index + 1)) next)) k)
+    pub nested-here : (value next : ℕ) → numberAt bytes start Set ≡ found value next → not (kept value) ≡ true → Refused (at wrongSet start) ≡ nestedAt bytes kept (count - index) start
+    nested-here value next e k = sym (on (found value next) e ∙ ap (λ (t : Bool). refuse t wrongSet start (nestedAt bytes kept (count - (index + 1)) next)) k)
 
-    pub nested-past : (value next : ℕ) → numberAt bytes start Record ≡ reading.Number value next → not (kept value) ≡ false → nestedAt bytes kept (count - (index + 1)) next ≡ nestedAt bytes kept (count - index) start
-    nested-past value next e k = sym (on (reading.Number value next) e ∙ ap (λ (t : Bool). refuse t wrongSet start (nestedAt bytes kept (count - (index + 1)) next)) k)
+    pub nested-past : (value next : ℕ) → numberAt bytes start Set ≡ found value next → not (kept value) ≡ false → nestedAt bytes kept (count - (index + 1)) next ≡ nestedAt bytes kept (count - index) start
+    nested-past value next e k = sym (on (found value next) e ∙ ap (λ (t : Bool). refuse t wrongSet start (nestedAt bytes kept (count - (index + 1)) next)) k)
 
   pub nested-none : count ≤ index → Accepted ≡ nestedAt bytes kept (count - index) start
   unfolding nestedAt

@@ -17,10 +17,10 @@ use Rattle.answer.specs.Refusals.{unknownPart, emptySet, wrongSet}
 use Rattle.answer.specs.declared.Refusal.{Refusal}
 use Rattle.answer.specs.declared.Verdict.{Verdict}
 use Rattle.answer.specs.declared.Verdict.the-variants.{Accepted, Refused}
-use Rattle.codec.specs.declared.Field.the-variants.{Record}
-use Rattle.codec.specs.declared.Reading.{Reading}
-use Rattle.codec.specs.declared.Reading.the-variants as reading
+use Rattle.codec.specs.declared.Field.the-variants.{Set}
+use Rattle.codec.specs.Reads.{Read, found, refused, then, unless}
 use Rattle.codec.specs.Reading.{numberAt}
+use Rattle.codec.specs.FieldReads.{judged, fieldAt, fieldsAt}
 use Rattle.theory_sets.specs.Masks.{has, holds, Rising, RisingFrom}
 use Rattle.theory_sets.specs.Structures.{Semicoherent, listed, minimal}
 use Rattle.theory_sets.proofs.Bools.{clash, false-of, true-or-false, same-test, not-not}
@@ -34,7 +34,7 @@ use Rattle.structure_words.proofs.Words.{inWords-wordsOf}
 use Rattle.structure_closure.proofs.ListedSets.{spread-listed}
 use Rattle.structure_closure.proofs.MinimalSets.{irredundant-minimal}
 use Rattle.structure.proofs.Walks.{irredundant-same, spread-same}
-use Rattle.record_head.specs.Headings.{Read, found, then, unless, judged, fieldAt, lastNumber}
+use Rattle.record_head.specs.Headings.{lastNumber}
 use Rattle.record.specs.Records.{misplaced, setRefusal, setsAt}
 use Rattle.record.specs.Inside.{risingRefusal, Pass, passed, passOn, risingAt, nestedOn, nestedAt, decided}
 use Rattle.record.proofs.Sets.{misplaced-none, none-misplaced, rising-before}
@@ -149,9 +149,9 @@ module _ (bytes : List ℕ) (n : ℕ) (p : Pass) (kept : ℕ → Bool) (rising :
   }
 
   decides : (more : ℕ) (earlier : List ℕ) (start : ℕ) → p ≡ risingAt bytes n more earlier start → Decides more earlier start
-  unfolding risingAt setsAt fieldAt nestedAt
+  unfolding risingAt fieldsAt fieldAt nestedAt
   decides zero earlier start e = nothing-more zero earlier start Accepted e refl
-  decides (suc more) earlier start e = number (λ v next k. decides more (earlier ++ (v ∷ [])) next k) (numberAt bytes start Record) refl
+  decides (suc more) earlier start e = number (λ v next k. decides more (earlier ++ (v ∷ [])) next k) (numberAt bytes start Set) refl
     where
       later : ℕ → ℕ → Pass
       later v next = risingAt bytes n more (earlier ++ (v ∷ [])) next
@@ -159,17 +159,17 @@ module _ (bytes : List ℕ) (n : ℕ) (p : Pass) (kept : ℕ → Bool) (rising :
       goes-on : ℕ → ℕ → Read (List ℕ)
       goes-on v next = setsAt bytes n more (earlier ++ (v ∷ [])) next
 
-      number : ((v next : ℕ) → p ≡ later v next → Decides more (earlier ++ (v ∷ [])) next) → (r : Reading) → numberAt bytes start Record ≡ r → Decides (suc more) earlier start
-      number on (reading.Refused why) read =
-          nothing-more (suc more) earlier start (Refused why) (e ∙ ap (λ (f : Reading). passOn earlier start (judged (risingRefusal n (lastNumber 0 earlier) start) f) later) read)
-          (ap (λ (f : Reading). then (judged (setRefusal n earlier start) f) goes-on) read)
-      number on (reading.Number v next) read = verdicts (alike n earlier start v)
+      number : ((v next : ℕ) → p ≡ later v next → Decides more (earlier ++ (v ∷ [])) next) → (r : Read ℕ) → numberAt bytes start Set ≡ r → Decides (suc more) earlier start
+      number on (refused why) read =
+          nothing-more (suc more) earlier start (Refused why) (e ∙ ap (λ (f : Read ℕ). passOn earlier start (judged (risingRefusal n (lastNumber 0 earlier) start) f) later) read)
+          (ap (λ (f : Read ℕ). then (judged (setRefusal n earlier start) f) goes-on) read)
+      number on (found v next) read = verdicts (alike n earlier start v)
         where
           pass-is : p ≡ passOn earlier start (unless (risingRefusal n (lastNumber 0 earlier) start v) (found v next)) later
-          pass-is = e ∙ ap (λ (f : Reading). passOn earlier start (judged (risingRefusal n (lastNumber 0 earlier) start) f) later) read
+          pass-is = e ∙ ap (λ (f : Read ℕ). passOn earlier start (judged (risingRefusal n (lastNumber 0 earlier) start) f) later) read
 
           sets-are : setsAt bytes n (suc more) earlier start ≡ then (unless (setRefusal n earlier start v) (found v next)) goes-on
-          sets-are = ap (λ (f : Reading). then (judged (setRefusal n earlier start) f) goes-on) read
+          sets-are = ap (λ (f : Read ℕ). then (judged (setRefusal n earlier start) f) goes-on) read
 
           verdicts : Alike n earlier start v → Decides (suc more) earlier start
           verdicts (inr both) =
@@ -187,7 +187,7 @@ module _ (bytes : List ℕ) (n : ℕ) (p : Pass) (kept : ℕ → Bool) (rising :
                 same =
                     sets-are ∙ ap (λ (w : Verdict). then (unless w (found v next)) goes-on) (both .1)
                     ∙ twice (misplaced earlier v) (kept v) keeps (nestedAt bytes kept (length (d .rest)) next) goes-on (d .same)
-                    ∙ sym (ap (λ (f : Reading). decided (nestedOn kept start f (λ after. nestedAt bytes kept (length (d .rest)) after)) p) read);
+                    ∙ sym (ap (λ (f : Read ℕ). decided (nestedOn kept start f (λ after. nestedAt bytes kept (length (d .rest)) after)) p) read);
               }
             where
               twice : (wrong keep : Bool) → keep ≡ not wrong → (nested : Verdict) (goes : ℕ → ℕ → Read (List ℕ)) → goes v next ≡ decided nested p

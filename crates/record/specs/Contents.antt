@@ -1,41 +1,51 @@
 -- What the reading functions answer: the contents of a record, the stretch of its sets, and a walk along them.
+use mathlib.Core.Bool.{_&&_}
 use mathlib.Core.List.{List, [], _∷_}
-use Prim.Native.Nat.{ℕ, zero, suc, _-_}
+use Prim.Native.Nat.{ℕ, zero, suc, _+_, _-_, _*_, _^_}
+use lib.Dec.{ltb}
 use lib.ListN.{length, take, drop}
 use Rattle.answer.specs.declared.Refusal.{Refusal}
 use Rattle.answer.specs.declared.Verdict.{Verdict}
 use Rattle.answer.specs.declared.Verdict.the-variants.{Accepted, Refused}
-use Rattle.codec.specs.declared.Field.the-variants.{Record}
-use Rattle.codec.specs.declared.Reading.{Reading}
-use Rattle.codec.specs.declared.Reading.the-variants as reading
+use Rattle.codec.specs.declared.Field.the-variants as field
+use Rattle.codec.specs.Reads.{Read, found, refused}
 use Rattle.codec.specs.Reading.{numberAt}
+use Rattle.numbers.specs.Counts.{upTo16}
+use Rattle.numbers.specs.Tables.{tabulate}
+use Rattle.theory_sets.specs.Structures.{listed}
+use Rattle.theory_sets.specs.Tables.{packed, tableLength}
+use Rattle.structure_words.specs.Words.{inWords, wordsOf}
 use Rattle.record_parts.specs.PartLists.{listOf}
 use Rattle.record.specs.declared.Contents.{Contents}
 use Rattle.record.specs.declared.Cursor.{Cursor}
 use Rattle.record.specs.declared.Step.{Step}
 use Rattle.record.specs.declared.Step.the-variants.{Set, End}
-use Rattle.record_head.specs.Headings.{Read, found, refused, Head, headAt}
-use Rattle.record.specs.Records.{Design, design, recordAt, wholeRecord}
+use Rattle.record.specs.declared.WithWords.{WithWords}
+use Rattle.record.specs.Records.{Design, design, DesignAt, recordAt, onlyRecord, wholeRecord}
 
 -- of a refused record: the refusal, a list of no parts and an empty stretch
 abbrev pub nothing : Refusal → Contents
-nothing refusal = record { list = listOf 0 []; sets = 0; begin = 0; end = 0; verdict = Refused refusal }
+nothing refusal = record { list = listOf 0 []; sets = 0; begin = 0; end = 0; next = 0; verdict = Refused refusal }
 
--- The contents of a record: its part list, the number of its sets, and from where to where their bytes stand, which is where the record
--- ends. What stands before the sets ends where they begin.
-abbrev pub contentsOf : Read Head → Read Design → Contents
-contentsOf (found head begin) (found d end) =
-    record { list = d .parts; sets = length (d .sets); begin = begin; end = end; verdict = Accepted }
-contentsOf (found head begin) (refused refusal) = nothing refusal
-contentsOf (refused refusal) read = nothing refusal
+-- The contents of a record: its part list, the number of its sets, from where to where their bytes stand, and the position after the record.
+abbrev pub contentsOf : Read DesignAt → Contents
+contentsOf (found here next) = record {
+  list = here .design .parts;
+  sets = length (here .design .sets);
+  begin = here .begin;
+  end = here .end;
+  next = next;
+  verdict = Accepted;
+}
+contentsOf (refused refusal) = nothing refusal
 
 -- the contents of the record at that position
 unfoldable pub contentsAt : List ℕ → ℕ → Contents
-contentsAt bytes start = contentsOf (headAt bytes start) (recordAt bytes start)
+contentsAt bytes start = contentsOf (recordAt bytes start)
 
 -- and of the record that the bytes are, 25 included
 unfoldable pub wholeContents : List ℕ → Contents
-wholeContents bytes = contentsOf (headAt bytes 0) (wholeRecord bytes)
+wholeContents bytes = contentsOf (onlyRecord bytes)
 
 -- the first refusal of a whole record
 abbrev pub recordRefusal : List ℕ → Verdict
@@ -48,6 +58,24 @@ designOr (refused refusal) = design (listOf 0 []) []
 
 unfoldable pub designIn : List ℕ → Design
 designIn bytes = designOr (wholeRecord bytes)
+
+-- the words of the structure that sets of n parts give: the bit of each set of these parts that holds one of them, and no other
+abbrev pub structureWords : ℕ → List ℕ → List ℕ
+structureWords n sets = wordsOf (λ a. ltb a (2 ^ n) && listed sets a)
+
+-- the contents of a record and the words of its structure, of a refused one all 0
+abbrev pub withWordsOf : Read DesignAt → WithWords
+withWordsOf (found here next) =
+    record { contents = contentsOf (found here next); words = structureWords (here .design .parts .count) (here .design .sets) }
+withWordsOf (refused refusal) = record { contents = nothing refusal; words = structureWords 0 [] }
+
+-- those of the record that the bytes are
+unfoldable pub wholeWithWords : List ℕ → WithWords
+wholeWithWords bytes = withWordsOf (onlyRecord bytes)
+
+-- the table that words give for n parts; empty where no structure has so many
+abbrev pub tableOfWords : ℕ → List ℕ → List ℕ
+tableOfWords n words = tabulate (upTo16 n (tableLength n)) (λ b. packed 8 (λ i. inWords words (8 * b + i)))
 
 -- the bytes that carry the sets, from the first set's first byte to the last set's last; empty for a refused record
 abbrev pub stretchOf : Contents → List ℕ → List ℕ
@@ -64,13 +92,13 @@ abbrev pub firstCursor : List ℕ → Cursor
 firstCursor bytes = cursor (wholeContents bytes .begin) (wholeContents bytes .sets)
 
 -- one step: the set at the cursor and the cursor behind it. Where no set is left, or no number stands there, the walk is at its end.
-abbrev pub stepOn : Reading → ℕ → Step
-stepOn (reading.Number value next) left = Set value (cursor next left)
-stepOn (reading.Refused refusal) left = End
+abbrev pub stepOn : Read ℕ → ℕ → Step
+stepOn (found value next) left = Set value (cursor next left)
+stepOn (refused refusal) left = End
 
 abbrev pub stepFrom : List ℕ → ℕ → ℕ → Step
 stepFrom bytes next zero = End
-stepFrom bytes next (suc left) = stepOn (numberAt bytes next Record) left
+stepFrom bytes next (suc left) = stepOn (numberAt bytes next field.Set) left
 
 unfoldable pub stepAt : List ℕ → Cursor → Step
 stepAt bytes at = stepFrom bytes (at .next) (at .left)

@@ -1,35 +1,34 @@
 -- What the private functions answer on the way to a record's contents: a reader of the promises may pass this file over.
 use mathlib.Core.Bool.{Bool, not}
 use mathlib.Core.List.{List, [], _∷_, _++_}
-use Prim.Native.Nat.{ℕ, zero, suc, _^_}
-use lib.Dec.{leb, eqb}
+use Prim.Native.Nat.{ℕ, zero, suc}
+use lib.Dec.{leb}
 use lib.ListN.{length}
-use Rattle.answer.specs.Refusals.{unknownPart, emptySet, wrongSet}
+use Rattle.answer.specs.Refusals.{wrongSet}
 use Rattle.answer.specs.Outcome.{refuse}
+use Rattle.answer.specs.Checks.{maskRefusal}
 use Rattle.answer.specs.declared.Verdict.{Verdict}
 use Rattle.answer.specs.declared.Verdict.the-variants as verdict
-use Rattle.codec.specs.declared.Field.the-variants.{Record}
-use Rattle.codec.specs.declared.Reading.{Reading}
-use Rattle.codec.specs.declared.Reading.the-variants as reading
+use Rattle.codec.specs.declared.Field.the-variants.{Set}
+use Rattle.codec.specs.Reads.{Read, found, refused}
 use Rattle.codec.specs.Reading.{numberAt}
+use Rattle.codec.specs.FieldReads.{fieldAt}
 use Rattle.structure_words.specs.Words.{wordsOf, among}
 use Rattle.record.specs.declared.Marked.{Marked}
-use Rattle.record.specs.declared.Ending.{Ending}
-use Rattle.record.specs.declared.Ending.the-variants as ending
-use Rattle.record_head.specs.Headings.{Read, found, refused, fieldAt, lastNumber}
+use Rattle.record.specs.declared.SetsRead.{SetsRead}
+use Rattle.record.specs.Contents.{structureWords}
+use Rattle.record_head.specs.Headings.{lastNumber}
 
--- where the sets end, or a refusal
-abbrev pub endingOf : Read (List ℕ) → Ending
-endingOf (found sets end) = ending.At end
-endingOf (refused refusal) = ending.Refused refusal
+-- sets of n parts with the words of their structure and where they end, or a refusal
+abbrev pub setsReadOf : ℕ → Read (List ℕ) → SetsRead
+setsReadOf n (found sets end) = record { words = structureWords n sets; end = end; verdict = verdict.Accepted }
+setsReadOf n (refused refusal) = record { words = structureWords 0 []; end = 0; verdict = verdict.Refused refusal }
 
 -- ---- the two passes over the sets
 
 -- a set without the question whether it holds an earlier one: 4, 5, and 24 where it is not above the one before it
 abbrev pub risingRefusal : ℕ → ℕ → ℕ → ℕ → Verdict
-risingRefusal n previous place set =
-    refuse (leb (2 ^ n) set) unknownPart place
-    (refuse (eqb set 0) emptySet place (refuse (leb set previous) wrongSet place verdict.Accepted))
+risingRefusal n previous place set = maskRefusal n place set (refuse (leb set previous) wrongSet place verdict.Accepted)
 
 -- the first pass: the sets up to the first that is refused by this, the position after them, and that refusal
 pub record Pass : Type 0 where
@@ -47,7 +46,7 @@ passOn earlier start (refused refusal) later = passed earlier start (verdict.Ref
 unfoldable pub risingAt : List ℕ → ℕ → ℕ → List ℕ → ℕ → Pass
 risingAt bytes n zero earlier start = passed earlier start verdict.Accepted
 risingAt bytes n (suc more) earlier start =
-    passOn earlier start (fieldAt bytes start (risingRefusal n (lastNumber 0 earlier) start)) (λ set next.
+    passOn earlier start (fieldAt bytes start Set (risingRefusal n (lastNumber 0 earlier) start)) (λ set next.
     risingAt bytes n more (earlier ++ (set ∷ [])) next)
 
 -- the sets of a pass, marked
@@ -55,13 +54,13 @@ abbrev pub markedOf : Pass → Marked
 markedOf pass = record { words = wordsOf (among (pass .sets)); read = length (pass .sets); next = pass .next; verdict = pass .verdict }
 
 -- the second pass: 24 at the first of so many sets that is none of those given
-abbrev pub nestedOn : (ℕ → Bool) → ℕ → Reading → (ℕ → Verdict) → Verdict
-nestedOn kept start (reading.Number set next) later = refuse (not (kept set)) wrongSet start (later next)
-nestedOn kept start (reading.Refused refusal) later = verdict.Accepted
+abbrev pub nestedOn : (ℕ → Bool) → ℕ → Read ℕ → (ℕ → Verdict) → Verdict
+nestedOn kept start (found set next) later = refuse (not (kept set)) wrongSet start (later next)
+nestedOn kept start (refused refusal) later = verdict.Accepted
 
 unfoldable pub nestedAt : List ℕ → (ℕ → Bool) → ℕ → ℕ → Verdict
 nestedAt bytes kept zero start = verdict.Accepted
-nestedAt bytes kept (suc more) start = nestedOn kept start (numberAt bytes start Record) (λ next. nestedAt bytes kept more next)
+nestedAt bytes kept (suc more) start = nestedOn kept start (numberAt bytes start Set) (λ next. nestedAt bytes kept more next)
 
 -- both passes together
 abbrev pub decided : Verdict → Pass → Read (List ℕ)

@@ -7,7 +7,8 @@ use lib.ListN.{length}
 use Rattle.theory_orders.specs.Antichains.{mostSets}
 use Rattle.record_parts.specs.PartLists.{WellFormed}
 use Rattle.theory_sets.specs.Masks.{holds, Rising}
-use Rattle.record_head.specs.HeadingBytes.{formsOf, headBytes}
+use Rattle.codec.specs.ByteForm.{formsOf}
+use Rattle.record_head.specs.HeadingBytes.{headBytes}
 use Rattle.record.specs.Records.{Design}
 
 -- n; the mark; n part numbers; the count of minimal sets; and then the sets

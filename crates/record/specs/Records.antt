@@ -1,17 +1,20 @@
 -- What design record stands at bytes from a position on (01, "Records on disk"), or which refusal at which place: each number is judged as it
 -- is read, and places are counted in the whole input.
-use mathlib.Core.Bool.{Bool, false, cond, _||_}
-use mathlib.Core.List.{List, [], _∷_, _++_}
-use Prim.Native.Nat.{ℕ, zero, suc, _^_}
-use lib.Dec.{leb, ltb, eqb}
-use lib.ListN.{length}
-use Rattle.answer.specs.Refusals.{unknownPart, emptySet, wrongSet, bytesLeft}
-use Rattle.answer.specs.Outcome.{at, refuse}
+use mathlib.Core.Bool.{Bool, false, _||_}
+use mathlib.Core.List.{List, [], _∷_}
+use Prim.Native.Nat.{ℕ}
+use lib.Dec.{leb}
+use Rattle.answer.specs.Refusals.{wrongSet}
+use Rattle.answer.specs.Outcome.{refuse}
+use Rattle.answer.specs.Checks.{maskRefusal}
 use Rattle.answer.specs.declared.Verdict.{Verdict}
 use Rattle.answer.specs.declared.Verdict.the-variants as verdict
+use Rattle.codec.specs.declared.Field.the-variants.{Set}
+use Rattle.codec.specs.Reads.{Read, found, then, alone}
+use Rattle.codec.specs.FieldReads.{fieldsAt}
 use Rattle.record_parts.specs.declared.PartList.{PartList}
 use Rattle.theory_sets.specs.Masks.{holds}
-use Rattle.record_head.specs.Headings.{Read, found, refused, then, fieldAt, headAt}
+use Rattle.record_head.specs.Headings.{headAt}
 
 -- ---- the checks of a set, with its first byte as place
 
@@ -22,18 +25,13 @@ misplaced (other ∷ earlier) set = leb set other || (holds set other || misplac
 
 -- a set of n parts: 4, 5, and then 24 against every earlier one. It is a number of 32 bits before it is a mask.
 abbrev pub setRefusal : ℕ → List ℕ → ℕ → ℕ → Verdict
-setRefusal n earlier place set =
-    refuse (leb (2 ^ n) set) unknownPart place
-    (refuse (eqb set 0) emptySet place (refuse (misplaced earlier set) wrongSet place verdict.Accepted))
+setRefusal n earlier place set = maskRefusal n place set (refuse (misplaced earlier set) wrongSet place verdict.Accepted)
 
 -- ---- the record
 
 -- so many sets of n parts more, behind the earlier ones
-unfoldable pub setsAt : List ℕ → ℕ → ℕ → List ℕ → ℕ → Read (List ℕ)
-setsAt bytes n zero earlier start = found earlier start
-setsAt bytes n (suc more) earlier start =
-    then (fieldAt bytes start (setRefusal n earlier start)) (λ set next.
-    setsAt bytes n more (earlier ++ (set ∷ [])) next)
+abbrev pub setsAt : List ℕ → ℕ → ℕ → List ℕ → ℕ → Read (List ℕ)
+setsAt bytes n = fieldsAt bytes Set (setRefusal n)
 
 -- a design: its part list and its minimal sets
 pub record Design : Type 0 where
@@ -43,17 +41,26 @@ pub record Design : Type 0 where
 abbrev pub design : PartList → List ℕ → Design
 design parts sets = record { parts = parts; sets = sets }
 
+-- a design where it stands: the bytes of its sets, from the first set's first byte to behind the last set's last
+pub record DesignAt : Type 0 where
+  pub design : Design
+  pub begin : ℕ
+  pub end : ℕ
+
+abbrev pub designAt : PartList → List ℕ → ℕ → ℕ → DesignAt
+designAt parts sets begin end = record { design = design parts sets; begin = begin; end = end }
+
 -- the design record at that position, with the position after it; what stands there is not looked at
-unfoldable pub recordAt : List ℕ → ℕ → Read Design
+unfoldable pub recordAt : List ℕ → ℕ → Read DesignAt
 recordAt bytes start =
     then (headAt bytes start) (λ head begin.
     then (setsAt bytes (head .parts .count) (head .count) [] begin) (λ sets end.
-    found (design (head .parts) sets) end))
+    found (designAt (head .parts) sets begin end) end))
 
--- 25 at the first byte that is left
-abbrev pub alone : {A : Type 0} → List ℕ → A → ℕ → Read A
-alone bytes value next = cond (ltb next (length bytes)) (refused (at bytesLeft next)) (found value next)
+-- the record that the bytes are
+unfoldable pub onlyRecord : List ℕ → Read DesignAt
+onlyRecord bytes = then (recordAt bytes 0) (alone bytes)
 
--- the design record that the bytes are
+-- and its design
 unfoldable pub wholeRecord : List ℕ → Read Design
-wholeRecord bytes = then (recordAt bytes 0) (alone bytes)
+wholeRecord bytes = then (onlyRecord bytes) (λ here next. found (here .design) next)

@@ -13,20 +13,28 @@ ghost use Rattle.answer.specs.Outcome.{at, outcome, delivered};
 ghost use Rattle.theory_sets.specs.Structures.{listed};
 ghost use Rattle.theory_sets.specs.Tables.{tableOf};
 ghost use Rattle.structure_words.specs.Words.{inWords};
-ghost use Rattle.record_head.specs.Headings.{fieldAt};
-ghost use Rattle.record.specs.Records.{setsAt};
-ghost use Rattle.record.specs.Contents.{nothing, contentsAt, wholeContents, recordRefusal, designIn, stretchOf, firstCursor, stepAt};
-ghost use Rattle.record_head.specs.Inside.{asRead};
-ghost use Rattle.record.specs.Inside.{endingOf, risingRefusal, risingAt, markedOf, nestedAt};
+ghost use Rattle.codec.specs.Reads.{refused, readingOf};
+ghost use Rattle.codec.specs.FieldReads.{fieldAt};
+ghost use Rattle.record.specs.Records.{setsAt, recordAt};
+ghost use Rattle.record.specs.Contents.{contentsAt, wholeContents, recordRefusal, designIn, structureWords, withWordsOf, wholeWithWords, tableOfWords, stretchOf, firstCursor, stepAt};
+ghost use Rattle.record.specs.Inside.{setsReadOf, risingRefusal, risingAt, markedOf, nestedAt};
 
-// What reading a record finds: its part list, the number of its sets, and where their bytes begin and end, which is where the record ends.
+// What reading a record finds: its part list, the number of its sets, where their bytes begin and end, and the position after the record.
 // Of a refused record: a list of no parts and an empty stretch at 0.
 pub struct Contents {
     pub list: PartList,
     pub sets: usize,
     pub begin: usize,
     pub end: usize,
+    pub next: usize,
     pub verdict: Verdict,
+}
+
+// The contents of a record and the words of its structure: the bit of each set of its parts that holds one of its sets. Of a refused record
+// all bits are 0.
+pub struct WithWords {
+    pub contents: Contents,
+    pub words: [u64; 1024],
 }
 
 // Where a walk along the sets of a record is: the position of the next set, and how many are left.
@@ -50,53 +58,44 @@ struct Marked {
     verdict: Verdict,
 }
 
-// Where the sets end, or why they are refused.
-enum Ending {
-    At(usize),
-    Refused(Refusal),
+// The words of the structure that the sets of a record give and where the sets end, or why they are refused.
+struct SetsRead {
+    words: [u64; 1024],
+    end: usize,
+    verdict: Verdict,
 }
 
 // The contents of the record that stands at a position. What comes after it is not looked at.
 pub fn read_record(bytes: &[u8], start: usize) -> Contents
     ensures { λ r. ⌜ r ≡ contentsAt (now (bytes .entry)) start ⌝ }
 {
-    let heading = record_head::read_heading(bytes, start);
-    let verdict = heading.verdict;
-    match verdict {
-        Verdict::Refused(refusal) => refused_contents(refusal.number, refusal.place),
-        Verdict::Accepted => {
-            let list = heading.list;
-            let sets = heading.sets;
-            let begin = heading.begin;
-            let ending = read_sets(bytes, begin, list.count, sets);
-            match ending {
-                Ending::Refused(refusal) => refused_contents(refusal.number, refusal.place),
-                Ending::At(end) => Contents {
-                    list,
-                    sets,
-                    begin,
-                    end,
-                    verdict: Verdict::Accepted,
-                },
-            }
-        }
-    }
+    let read = read_with_words(bytes, start);
+    read.contents
 }
 
 // The contents of the record that the bytes are.
 pub fn whole_record(bytes: &[u8]) -> Contents
     ensures { λ r. ⌜ r ≡ wholeContents (now (bytes .entry)) ⌝ }
 {
-    let contents = read_record(bytes, 0);
+    let read = whole_with_words(bytes);
+    read.contents
+}
+
+// The contents of the record that the bytes are and the words of its structure, from one reading.
+pub fn whole_with_words(bytes: &[u8]) -> WithWords
+    ensures { λ r. ⌜ r ≡ wholeWithWords (now (bytes .entry)) ⌝ }
+{
+    let read = read_with_words(bytes, 0);
+    let contents = read.contents;
     let verdict = contents.verdict;
     match verdict {
-        Verdict::Refused(_) => contents,
+        Verdict::Refused(_) => read,
         Verdict::Accepted => {
-            let next = contents.end;
+            let next = contents.next;
             if next < bytes.len() {
-                return refused_contents(answer::BYTES_LEFT, next);
+                return refused_with_words(answer::BYTES_LEFT, next);
             }
-            contents
+            read
         }
     }
 }
@@ -133,7 +132,7 @@ impl Cursor {
             return Step::End;
         }
         let next = self.next;
-        let number = codec::read_number(bytes, next, Field::Record);
+        let number = codec::read_number(bytes, next, Field::Set);
         match number {
             Reading::Refused(_) => Step::End,
             Reading::Number { value, next: after } => Step::Set {
@@ -151,22 +150,60 @@ impl Cursor {
 pub fn table_of_record(bytes: &[u8], table: &mut [u8]) -> Written
     ensures { λ r. ⌜ outcome r (now (table .exit)) ≡ delivered (recordRefusal (now (bytes .entry))) (tableOf (designIn (now (bytes .entry)) .parts .count) (listed (designIn (now (bytes .entry)) .sets))) (now (table .entry)) ⌝ }
 {
-    let contents = whole_record(bytes);
+    store_table(whole_with_words(bytes), table)
+}
+
+// The table of a record that was read with its words, into a lent buffer.
+pub fn store_table(read: WithWords, table: &mut [u8]) -> Written
+    ensures { λ r. ⌜ outcome r (now (table .exit)) ≡ delivered (read .contents .verdict) (tableOfWords (read .contents .list .count) (read .words)) (now (table .entry)) ⌝ }
+{
+    let contents = read.contents;
     let verdict = contents.verdict;
     match verdict {
         Verdict::Refused(refusal) => Written::Refused(refusal),
         Verdict::Accepted => {
             let list = contents.list;
-            let n = list.count;
-            let needed = structure::table_length(n);
+            let needed = structure::table_length(list.count);
             if table.len() < needed {
                 return answer::short(needed);
             }
-            let marked = mark_sets(bytes, contents.begin, n, contents.sets);
-            let words = marked.words;
-            let reached = structure_closure::spread(&words, n);
-            structure_words::store(&reached, &mut table[..needed]);
+            let words = read.words;
+            structure_words::store(&words, &mut table[..needed]);
             Written::Length(needed)
+        }
+    }
+}
+
+// The contents and the structure of the record that stands at a position.
+fn read_with_words(bytes: &[u8], start: usize) -> WithWords
+    ensures { λ r. ⌜ r ≡ withWordsOf (recordAt (now (bytes .entry)) start) ⌝ }
+{
+    let heading = record_head::read_heading(bytes, start);
+    let verdict = heading.verdict;
+    match verdict {
+        Verdict::Refused(refusal) => refused_with_words(refusal.number, refusal.place),
+        Verdict::Accepted => {
+            let list = heading.list;
+            let sets = heading.sets;
+            let begin = heading.begin;
+            let read = read_sets(bytes, begin, list.count, sets);
+            let judged = read.verdict;
+            match judged {
+                Verdict::Refused(refusal) => refused_with_words(refusal.number, refusal.place),
+                Verdict::Accepted => {
+                    let end = read.end;
+                    let words = read.words;
+                    let contents = Contents {
+                        list,
+                        sets,
+                        begin,
+                        end,
+                        next: end,
+                        verdict: Verdict::Accepted,
+                    };
+                    WithWords { contents, words }
+                }
+            }
         }
     }
 }
@@ -174,9 +211,9 @@ pub fn table_of_record(bytes: &[u8], table: &mut [u8]) -> Written
 // A set of n parts that rises above the one before it; whether it holds an earlier one is not asked here.
 fn read_set(bytes: &[u8], start: usize, n: usize, previous: u64) -> Reading
     requires { ⌜ n ≤ 16 ⌝ }
-    ensures { λ r. ⌜ asRead r ≡ fieldAt (now (bytes .entry)) start (risingRefusal n previous start) ⌝ }
+    ensures { λ r. ⌜ r ≡ readingOf (fieldAt (now (bytes .entry)) start Field.Set (risingRefusal n previous start)) ⌝ }
 {
-    let number = codec::read_number(bytes, start, Field::Record);
+    let number = codec::read_number(bytes, start, Field::Set);
     match number {
         Reading::Refused(refusal) => Reading::Refused(refusal),
         Reading::Number { value, next } => {
@@ -194,10 +231,10 @@ fn read_set(bytes: &[u8], start: usize, n: usize, previous: u64) -> Reading
     }
 }
 
-fn refused_contents(number: u8, place: usize) -> Contents
-    ensures { λ r. ⌜ r ≡ nothing (at number place) ⌝ }
+fn refused_with_words(number: u8, place: usize) -> WithWords
+    ensures { λ r. ⌜ r ≡ withWordsOf (refused (at number place)) ⌝ }
 {
-    Contents {
+    let contents = Contents {
         list: PartList {
             count: 0,
             mark: 0,
@@ -206,15 +243,20 @@ fn refused_contents(number: u8, place: usize) -> Contents
         sets: 0,
         begin: 0,
         end: 0,
+        next: 0,
         verdict: Verdict::Refused(Refusal { number, place }),
+    };
+    WithWords {
+        contents,
+        words: [0u64; 1024],
     }
 }
 
 // The sets of a record, so many of n parts from a position on: each is read and marked, then the marked sets are closed upwards, and a set
 // that is not minimal among them is one that holds an earlier one.
-fn read_sets(bytes: &[u8], start: usize, n: usize, count: usize) -> Ending
+fn read_sets(bytes: &[u8], start: usize, n: usize, count: usize) -> SetsRead
     requires { ⌜ n ≤ 16 ⌝ }
-    ensures { λ r. ⌜ r ≡ endingOf (setsAt (now (bytes .entry)) n count [] start) ⌝ }
+    ensures { λ r. ⌜ r ≡ setsReadOf n (setsAt (now (bytes .entry)) n count [] start) ⌝ }
 {
     let marked = mark_sets(bytes, start, n, count);
     let words = marked.words;
@@ -222,12 +264,26 @@ fn read_sets(bytes: &[u8], start: usize, n: usize, count: usize) -> Ending
     let minimal = structure_closure::irredundant(&reached, n);
     let nested = first_nested(bytes, start, marked.read, &minimal);
     if let Verdict::Refused(refusal) = nested {
-        return Ending::Refused(refusal);
+        return refused_sets(refusal.number, refusal.place);
     }
     let verdict = marked.verdict;
     match verdict {
-        Verdict::Refused(refusal) => Ending::Refused(refusal),
-        Verdict::Accepted => Ending::At(marked.next),
+        Verdict::Refused(refusal) => refused_sets(refusal.number, refusal.place),
+        Verdict::Accepted => SetsRead {
+            words: reached,
+            end: marked.next,
+            verdict: Verdict::Accepted,
+        },
+    }
+}
+
+fn refused_sets(number: u8, place: usize) -> SetsRead
+    ensures { λ r. ⌜ r ≡ record { words = structureWords 0 []; end = 0; verdict = Verdict.Refused (at number place) } ⌝ }
+{
+    SetsRead {
+        words: [0u64; 1024],
+        end: 0,
+        verdict: Verdict::Refused(Refusal { number, place }),
     }
 }
 
@@ -275,7 +331,7 @@ fn first_nested(bytes: &[u8], start: usize, count: usize, minimal: &[u64]) -> Ve
     let mut next = start;
     let mut index = 0;
     while index < count {
-        let number = codec::read_number(bytes, next, Field::Record);
+        let number = codec::read_number(bytes, next, Field::Set);
         let Reading::Number { value, next: after } = number else {
             return Verdict::Accepted;
         };

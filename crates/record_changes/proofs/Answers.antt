@@ -23,7 +23,7 @@ use Rattle.record_parts.specs.Changes.{addRefusal, partAdded, takenOut, withPar
 use Rattle.record_parts.specs.Changes as parts
 use Rattle.record_parts.proofs.OneChange.{added-whole, taken-out-whole, take-out-accepted}
 use Rattle.masks.specs.Groups.{meets}
-use Rattle.record_head.specs.Headings.{Read, found, refused}
+use Rattle.codec.specs.Reads.{Read, found, refused}
 use Rattle.record.specs.Records.{Design, design, wholeRecord}
 use Rattle.record.specs.RecordBytes.{recordBytes, DesignRules}
 use Rattle.record.proofs.RoundTrip.{whole-written}

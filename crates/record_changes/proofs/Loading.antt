@@ -15,7 +15,7 @@ use Rattle.record.specs.declared.Contents.{Contents}
 use Rattle.record.specs.declared.Cursor.{Cursor}
 use Rattle.record.specs.declared.Step.{Step}
 use Rattle.record.specs.declared.Step.the-variants.{Set, End}
-use Rattle.record_head.specs.Headings.{Read, found, refused}
+use Rattle.codec.specs.Reads.{Read, found, refused}
 use Rattle.record.specs.Records.{Design, wholeRecord}
 use Rattle.record.specs.Contents.{wholeContents, cursor, stepAt, metIn}
 use Rattle.record.proofs.Whole.{refused-contents, design-read, walk-meets}

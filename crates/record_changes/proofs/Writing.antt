@@ -11,12 +11,12 @@ use lib.ListN.{length, getD, take, drop, length-append, take-append-drop}
 use lib.Seq.{take-suc, take-all}
 use Rattle.answer.specs.Outcome.{outcome}
 use Rattle.answer.specs.Placed.{placed}
-use Rattle.codec.specs.ByteForm.{bytesOf}
+use Rattle.codec.specs.ByteForm.{bytesOf, formsOf}
 use Rattle.answer.proofs.Forms.{placed-more, wrote-none}
 use Rattle.record_parts.specs.PartLists.{listOf}
 use Rattle.record_parts.proofs.WellFormed.{numbers-of-list}
 use Rattle.record.specs.Records.{design}
-use Rattle.record_head.specs.HeadingBytes.{formsOf, partsBytes, headBytes}
+use Rattle.record_head.specs.HeadingBytes.{partsBytes, headBytes}
 use Rattle.record.specs.RecordBytes.{recordBytes}
 
 pub forms-append : (front behind : List ℕ) → formsOf (front ++ behind) ≡ formsOf front ++ formsOf behind

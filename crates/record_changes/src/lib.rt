@@ -15,7 +15,7 @@ ghost use Rattle.answer.specs.Placed.{placed};
 ghost use Rattle.theory_orders.specs.Antichains.{mostSets};
 ghost use Rattle.record_numbers.specs.Numbering.{mostParts};
 ghost use Rattle.record_parts.specs.PartLists.{listOf};
-ghost use Rattle.record_head.specs.HeadingBytes.{formsOf};
+ghost use Rattle.codec.specs.ByteForm.{formsOf};
 ghost use Rattle.record.specs.Records.{design, wholeRecord};
 ghost use Rattle.record.specs.Contents.{stepAt, metIn};
 ghost use Rattle.record.specs.RecordBytes.{recordBytes, DesignRules};

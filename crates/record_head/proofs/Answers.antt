@@ -10,10 +10,13 @@ use Rattle.answer.specs.declared.Verdict.the-variants.{Accepted, Refused}
 use Rattle.record_parts.specs.declared.PartList.{PartList}
 use Rattle.record_head.specs.declared.Parts.{Parts}
 use Rattle.record_head.specs.declared.Heading.{Heading}
-use Rattle.record_head.specs.Headings.{Read, found, refused, fieldAt, setCountRefusal, partsAt, Head, headAt, headingOf}
+use Rattle.codec.specs.declared.Field.the-variants.{Count}
+use Rattle.codec.specs.Reads.{Read, found, refused}
+use Rattle.codec.specs.FieldReads.{fieldAt}
+use Rattle.record_head.specs.Headings.{setCountRefusal, partsAt, Head, headAt, headingOf}
 use Rattle.record_head.specs.Inside.{partsOf}
 use Rattle.record_numbers.specs.Numbering.{mostParts}
-use Rattle.record_head.proofs.Found.{then-found}
+use Rattle.codec.proofs.Found.{then-found}
 use Rattle.record_head.proofs.PartNumbers.{parts-few}
 
 -- an accepting verdict is no refusal
@@ -49,11 +52,11 @@ module _ (bytes : List ℕ) (start : ℕ) where
   head-no-parts why e = rw e
 
   module _ (parts : PartList) (next : ℕ) where
-    pub head-no-count : (why : Refusal) → partsAt bytes start ≡ found parts next → fieldAt bytes next (setCountRefusal next) ≡ refused why → headAt bytes start ≡ refused why
+    pub head-no-count : (why : Refusal) → partsAt bytes start ≡ found parts next → fieldAt bytes next Count (setCountRefusal next) ≡ refused why → headAt bytes start ≡ refused why
     unfolding headAt
     head-no-count why e d = rw (e, d)
 
-    pub head-given : (count begin : ℕ) → partsAt bytes start ≡ found parts next → fieldAt bytes next (setCountRefusal next) ≡ found count begin
+    pub head-given : (count begin : ℕ) → partsAt bytes start ≡ found parts next → fieldAt bytes next Count (setCountRefusal next) ≡ found count begin
         → headAt bytes start ≡ found (record { parts = parts; count = count }) begin
     unfolding headAt
     head-given count begin e d = rw (e, d)
@@ -63,6 +66,6 @@ pub head-few : (bytes : List ℕ) (start : ℕ) (head : Head) (begin : ℕ) → 
 unfolding headAt
 head-few bytes start head begin e =
     let a = then-found (partsAt bytes start) _ head begin e in
-    let b = then-found (fieldAt bytes (a .1) (setCountRefusal (a .1))) _ head begin (a .3) in
+    let b = then-found (fieldAt bytes (a .1) Count (setCountRefusal (a .1))) _ head begin (a .3) in
     let same : record { parts = a .0; count = b .0 } ≡ head = cc (b .3) in
     subst (λ (h : Head). h .parts .count ≤ mostParts) same (parts-few bytes start (a .0) (a .1) (a .2))

@@ -1,4 +1,3 @@
-pub mod Found
 pub mod PartNumbers
 mod PartWalk
 pub mod Answers

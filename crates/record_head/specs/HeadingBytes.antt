@@ -1,14 +1,9 @@
 -- How what stands before the sets of a design record is written (01, "Records on disk").
-use mathlib.Core.List.{List, [], _∷_, _++_}
+use mathlib.Core.List.{List, _++_}
 use Prim.Native.Nat.{ℕ}
-use Rattle.codec.specs.ByteForm.{bytesOf}
+use Rattle.codec.specs.ByteForm.{bytesOf, formsOf}
 use Rattle.record_parts.specs.declared.PartList.{PartList}
 use Rattle.record_parts.specs.PartLists.{numbersOf}
-
--- numbers one after the other
-unfoldable pub formsOf : List ℕ → List ℕ
-formsOf [] = []
-formsOf (number ∷ numbers) = bytesOf number ++ formsOf numbers
 
 -- n; the mark; n part numbers
 unfoldable pub partsBytes : PartList → List ℕ

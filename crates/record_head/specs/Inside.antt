@@ -1,18 +1,10 @@
 -- What the private functions answer on the way to a heading: a reader of the promises may pass this file over.
 use mathlib.Core.List.{[]}
-use Prim.Native.Nat.{ℕ}
 use Rattle.answer.specs.declared.Verdict.the-variants as verdict
-use Rattle.codec.specs.declared.Reading.{Reading}
-use Rattle.codec.specs.declared.Reading.the-variants as reading
+use Rattle.codec.specs.Reads.{Read, found, refused}
 use Rattle.record_parts.specs.declared.PartList.{PartList}
 use Rattle.record_parts.specs.PartLists.{listOf}
 use Rattle.record_head.specs.declared.Parts.{Parts}
-use Rattle.record_head.specs.Headings.{Read, found, refused}
-
--- a number as it is read
-abbrev pub asRead : Reading → Read ℕ
-asRead (reading.Number value next) = found value next
-asRead (reading.Refused refusal) = refused refusal
 
 -- a part list and the position after it, or a refusal
 abbrev pub partsOf : Read PartList → Parts

@@ -11,8 +11,10 @@ ghost use Prim.Native.Nat.{_≤_};
 ghost use Rattle.answer.specs.Outcome.{at};
 ghost use Rattle.record_numbers.specs.Numbering.{mostParts};
 ghost use Rattle.record_parts.specs.PartLists.{listOf};
-ghost use Rattle.record_head.specs.Headings.{found, then, fieldAt, partCountRefusal, partNumberRefusal, setCountRefusal, numbersAt, partsAt, headAt, headingOf};
-ghost use Rattle.record_head.specs.Inside.{asRead, partsOf};
+ghost use Rattle.codec.specs.Reads.{found, then, readingOf};
+ghost use Rattle.codec.specs.FieldReads.{fieldAt};
+ghost use Rattle.record_head.specs.Headings.{partsRefusal, partNumberRefusal, setCountRefusal, numbersAt, partsAt, headAt, headingOf};
+ghost use Rattle.record_head.specs.Inside.{partsOf};
 
 // What stands before the sets: the part list and the number of sets, and where the sets begin. Where it is refused: a list of no parts, no
 // set and 0.
@@ -63,7 +65,7 @@ fn read_parts(bytes: &[u8], start: usize) -> Parts
     match count {
         Reading::Refused(refusal) => refused_parts(refusal.number, refusal.place),
         Reading::Number { value, next } => {
-            let mark = codec::read_number(bytes, next, Field::Record);
+            let mark = codec::read_number(bytes, next, Field::PartNumber);
             match mark {
                 Reading::Refused(refusal) => refused_parts(refusal.number, refusal.place),
                 Reading::Number {
@@ -109,9 +111,9 @@ fn read_part_numbers(bytes: &[u8], start: usize, count: usize, mark: u64) -> Par
 
 // n, of 1 to 16.
 fn read_part_count(bytes: &[u8], start: usize) -> Reading
-    ensures { λ r. ⌜ asRead r ≡ fieldAt (now (bytes .entry)) start (partCountRefusal start) ⌝ }
+    ensures { λ r. ⌜ r ≡ readingOf (fieldAt (now (bytes .entry)) start Field.Count (partsRefusal start)) ⌝ }
 {
-    let number = codec::read_number(bytes, start, Field::Record);
+    let number = codec::read_number(bytes, start, Field::Count);
     match number {
         Reading::Refused(refusal) => Reading::Refused(refusal),
         Reading::Number { value, next } => {
@@ -128,9 +130,9 @@ fn read_part_count(bytes: &[u8], start: usize) -> Reading
 
 // A part number, after the one before it and under the mark.
 fn read_part_number(bytes: &[u8], start: usize, previous: u64, mark: u64) -> Reading
-    ensures { λ r. ⌜ asRead r ≡ fieldAt (now (bytes .entry)) start (partNumberRefusal mark previous start) ⌝ }
+    ensures { λ r. ⌜ r ≡ readingOf (fieldAt (now (bytes .entry)) start Field.PartNumber (partNumberRefusal mark previous start)) ⌝ }
 {
-    let number = codec::read_number(bytes, start, Field::Record);
+    let number = codec::read_number(bytes, start, Field::PartNumber);
     match number {
         Reading::Refused(refusal) => Reading::Refused(refusal),
         Reading::Number { value, next } => {
@@ -144,9 +146,9 @@ fn read_part_number(bytes: &[u8], start: usize, previous: u64, mark: u64) -> Rea
 
 // The count of sets, of 1 to 12,870.
 fn read_set_count(bytes: &[u8], start: usize) -> Reading
-    ensures { λ r. ⌜ asRead r ≡ fieldAt (now (bytes .entry)) start (setCountRefusal start) ⌝ }
+    ensures { λ r. ⌜ r ≡ readingOf (fieldAt (now (bytes .entry)) start Field.Count (setCountRefusal start)) ⌝ }
 {
-    let number = codec::read_number(bytes, start, Field::Record);
+    let number = codec::read_number(bytes, start, Field::Count);
     match number {
         Reading::Refused(refusal) => Reading::Refused(refusal),
         Reading::Number { value, next } => {

@@ -8,7 +8,7 @@ use Rattle.answer.specs.Outcome.{at, outcome}
 use Rattle.answer.specs.declared.Written.{Written}
 use Rattle.answer.specs.declared.Written.the-variants.{Length, Refused}
 use Rattle.codec.specs.Reading.{numberIn, numberAt}
-use Rattle.codec.specs.ByteForm.{grouped, bytesOf}
+use Rattle.codec.specs.ByteForm.{grouped, bytesOf, formsOf}
 use Rattle.numbers.specs.Tables.{tabulate}
 use Rattle.masks.specs.Groups.{meets, squeezed}
 use Rattle.record_numbers.specs.Numbering.{partListRefusal, others}
@@ -16,9 +16,10 @@ use Rattle.record_parts.specs.Changes.{partAdded}
 use Rattle.theory_sets.specs.Masks.{has, holds, any, those}
 use Rattle.theory_sets.specs.Structures.{listed, minimal}
 use Rattle.structure.specs.Checks as structure
-use Rattle.record_head.specs.Headings.{fieldAt, numbersAt, partsAt, headAt}
-use Rattle.record.specs.Records.{misplaced, setsAt, recordAt, wholeRecord}
-use Rattle.record_head.specs.HeadingBytes.{formsOf, partsBytes, headBytes}
+use Rattle.codec.specs.FieldReads.{fieldAt, fieldsAt}
+use Rattle.record_head.specs.Headings.{partsAt, headAt}
+use Rattle.record.specs.Records.{misplaced, recordAt, onlyRecord, wholeRecord}
+use Rattle.record_head.specs.HeadingBytes.{partsBytes, headBytes}
 use Rattle.record.specs.RecordBytes.{recordBytes}
 use Rattle.record_lines.specs.Changes.{Change, addPart, takeOut, addSet, setsWithout}
 use Rattle.record_lines.specs.Records.{changedRecord, firstRecord}
@@ -45,7 +46,7 @@ made :
     ≡ (4 ∷ 5 ∷ 1 ∷ 2 ∷ 3 ∷ 4 ∷ 2 ∷ 9 ∷ 14 ∷ []) ∷ (5 ∷ 6 ∷ 1 ∷ 2 ∷ 3 ∷ 4 ∷ 6 ∷ 2 ∷ 9 ∷ 14 ∷ []) ∷ (2 ∷ 10 ∷ 3 ∷ 10 ∷ 1 ∷ 1 ∷ [])
     ∷ (1 ∷ 2 ∷ 1 ∷ 1 ∷ 1 ∷ []) ∷ (4 ∷ 5 ∷ 1 ∷ 2 ∷ 4 ∷ 5 ∷ 2 ∷ 5 ∷ 10 ∷ []) ∷ bridge ∷ bridge
     ∷ (5 ∷ 5 ∷ 1 ∷ 2 ∷ 3 ∷ 4 ∷ 5 ∷ 3 ∷ 1 ∷ 14 ∷ 18 ∷ []) ∷ []
-unfolding changedRecord wholeRecord recordAt headAt partsAt numbersAt setsAt fieldAt misplaced has holds any those listed minimal numberAt numberIn recordBytes headBytes partsBytes formsOf bytesOf grouped partAdded partListRefusal others meets squeezed setsWithout
+unfolding changedRecord wholeRecord onlyRecord recordAt headAt partsAt fieldsAt fieldAt misplaced has holds any those listed minimal numberAt numberIn recordBytes headBytes partsBytes formsOf bytesOf grouped partAdded partListRefusal others meets squeezed setsWithout
 made = refl
 
 -- Changes that are refused: the last part is 18; a position that is not there is 17, before 18; 20 looks at the mark; 4 and 5 at place 0; 11 with the
@@ -56,12 +57,12 @@ not-made :
     ∷ answer (addSet 0) (1 ∷ 1 ∷ 1 ∷ 1 ∷ 1 ∷ []) 9 ∷ answer (addSet 2) (1 ∷ 1 ∷ 1 ∷ 1 ∷ 1 ∷ []) 9 ∷ answer (takeOut 3) bridge 8
     ∷ answer (takeOut 9) bridge 0 ∷ answer (takeOut 9) (1 ∷ 1 ∷ 1 ∷ 1 ∷ 1 ∷ 0 ∷ []) 9 ∷ []
     ≡ map Refused (at 18 0 ∷ at 18 0 ∷ at 17 0 ∷ at 17 0 ∷ at 20 0 ∷ at 5 0 ∷ at 4 0 ∷ at 11 9 ∷ at 17 0 ∷ at 25 5 ∷ [])
-unfolding changedRecord wholeRecord recordAt headAt partsAt numbersAt setsAt fieldAt misplaced has holds any those listed minimal numberAt numberIn recordBytes headBytes partsBytes formsOf bytesOf grouped partAdded partListRefusal others meets squeezed setsWithout
+unfolding changedRecord wholeRecord onlyRecord recordAt headAt partsAt fieldsAt fieldAt misplaced has holds any those listed minimal numberAt numberIn recordBytes headBytes partsBytes formsOf bytesOf grouped partAdded partListRefusal others meets squeezed setsWithout
 not-made = refl
 
 -- The spreadsheet's fault: a pump, part 3, is taken out and a sensor is added. The sensor is part 6 and stands in no set.
 sensor : lastOf (call (takeOut 3) ∷ call addPart ∷ []) bridge ≡ 5 ∷ 6 ∷ 1 ∷ 2 ∷ 4 ∷ 5 ∷ 6 ∷ 2 ∷ 5 ∷ 10 ∷ []
-unfolding changedRecord wholeRecord recordAt headAt partsAt numbersAt setsAt fieldAt misplaced has holds any those listed minimal numberAt numberIn recordBytes headBytes partsBytes formsOf bytesOf grouped partAdded partListRefusal others meets squeezed setsWithout
+unfolding changedRecord wholeRecord onlyRecord recordAt headAt partsAt fieldsAt fieldAt misplaced has holds any those listed minimal numberAt numberIn recordBytes headBytes partsBytes formsOf bytesOf grouped partAdded partListRefusal others meets squeezed setsWithout
 sensor = refl
 
 -- a first record of a list with a repeat and a nested set

@@ -22,7 +22,7 @@ use Rattle.record_parts.specs.Lines as lines
 use Rattle.record_parts.proofs.Numbers.{rising-in}
 use Rattle.record_parts.proofs.OneChange.{line-none, line-one, line-without}
 use Rattle.record_parts.proofs.Lines.{line-append}
-use Rattle.record_head.specs.Headings.{found}
+use Rattle.codec.specs.Reads.{found}
 use Rattle.record.specs.Records.{Design, wholeRecord}
 use Rattle.record.specs.RecordBytes.{DesignRules}
 use Rattle.record.proofs.RoundTrip.{whole-written}

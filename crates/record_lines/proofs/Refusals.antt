@@ -20,7 +20,7 @@ use Rattle.masks.specs.Groups.{meets}
 use Rattle.masks.proofs.Groups.{meets-single}
 use Rattle.record_parts.specs.Changes.{single}
 use Rattle.theory_sets.proofs.Bools.{clash, false-of}
-use Rattle.record_head.specs.Headings.{Read, found}
+use Rattle.codec.specs.Reads.{Read, found}
 use Rattle.record.specs.Records.{Design, wholeRecord}
 use Rattle.record.specs.RecordBytes.{recordBytes, DesignRules}
 use Rattle.record_lines.specs.Changes.{Change, addPart, takeOut, addSet, every, changeRefusal, changed}

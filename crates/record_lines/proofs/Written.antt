@@ -12,7 +12,7 @@ use Rattle.answer.specs.declared.Written.the-variants as written
 use Rattle.answer.proofs.Deliveries.{given}
 use Rattle.codec.specs.Bytes.{Bytes}
 use Rattle.structure.specs.Checks.{listRefusal}
-use Rattle.record_head.specs.Headings.{Read, found, refused}
+use Rattle.codec.specs.Reads.{Read, found, refused}
 use Rattle.record.specs.Records.{Design, wholeRecord}
 use Rattle.record.specs.RecordBytes.{recordBytes, DesignRules}
 use Rattle.record.proofs.RoundTrip.{whole-written, whole-read}

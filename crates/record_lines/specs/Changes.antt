@@ -1,10 +1,11 @@
 -- Changes of a design (01, "Records on disk"): add part, take out the part at a position, add set; and a first design.
 use mathlib.Core.Bool.{Bool, true, not, cond, _&&_}
 use mathlib.Core.List.{List, [], _∷_, map}
-use Prim.Native.Nat.{ℕ, _+_, _^_}
-use lib.Dec.{leb, ltb, eqb}
-use Rattle.answer.specs.Refusals.{unknownPart, emptySet, unknownPosition, inEverySet}
+use Prim.Native.Nat.{ℕ, _+_}
+use lib.Dec.{ltb, eqb}
+use Rattle.answer.specs.Refusals.{unknownPosition, inEverySet}
 use Rattle.answer.specs.Outcome.{refuse}
+use Rattle.answer.specs.Checks.{maskRefusal}
 use Rattle.answer.specs.declared.Verdict.{Verdict}
 use Rattle.answer.specs.declared.Verdict.the-variants as verdict
 use Rattle.numbers.specs.Tables.{tabulate}
@@ -55,7 +56,7 @@ takeOutRefusal position d =
 
 -- a set that is added to a machine of n parts, 4: bit n or above; 5: mask 0
 abbrev pub newSetRefusal : ℕ → ℕ → Verdict
-newSetRefusal n set = refuse (leb (2 ^ n) set) unknownPart 0 (refuse (eqb set 0) emptySet 0 verdict.Accepted)
+newSetRefusal n set = maskRefusal n 0 set verdict.Accepted
 
 abbrev pub addSetRefusal : ℕ → Design → Verdict
 addSetRefusal set d = newSetRefusal (d .parts .count) set

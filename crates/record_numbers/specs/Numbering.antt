@@ -1,7 +1,7 @@
 -- The part numbers and the mark of a part list (01, "Records on disk"): the rules that they keep, and what refuses them.
 use mathlib.Core.Bool.{Bool, true, cond}
 use mathlib.Core.List.{List, [], _∷_, _++_}
-use Prim.Native.Nat.{ℕ, suc, _-_, _/_, _^_, _≤_, _<_, max}
+use Prim.Native.Nat.{ℕ, suc, _-_, _/_, _≤_, _<_, max}
 use lib.Dec.{leb, ltb, eqb}
 use lib.ListN.{length, replicate}
 use Rattle.answer.specs.Refusals.{wrongPartCount, wrongPartNumber}
@@ -9,14 +9,16 @@ use Rattle.answer.specs.Outcome.{refuse}
 use Rattle.answer.specs.declared.Verdict.{Verdict}
 use Rattle.answer.specs.declared.Verdict.the-variants.{Accepted}
 use Rattle.theory_sets.specs.Masks.{has}
+use Rattle.codec.specs.Fields.{top}
+use Rattle.codec.specs.declared.Field.the-variants.{PartNumber}
 
 -- the most parts of a machine
 abbrev pub mostParts : ℕ
 mostParts = 16
 
--- the top part number: record numbers reach 2^32-1
+-- the top part number: the largest that a record can hold, 2^32-1
 abbrev pub topNumber : ℕ
-topNumber = 2 ^ 32 - 1
+topNumber = top PartNumber
 
 -- strictly rising, each above `low` and none above `high`
 abbrev pub RisingWithin : ℕ → ℕ → List ℕ → Type 0

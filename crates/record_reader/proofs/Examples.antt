@@ -4,7 +4,6 @@ use mathlib.Core.Path.{_≡_, refl}
 use mathlib.Core.List.{List, [], _∷_}
 use Prim.Native.Nat.{ℕ}
 use Rattle.codec.specs.Reading.{numberIn, numberAt}
-use Rattle.record.specs.Contents.{stepAt}
 use Rattle.record_reader.specs.Places.{setAt, metFrom}
 use Rattle.record_reader.specs.declared.Found.the-variants.{Set, End}
 
@@ -13,27 +12,27 @@ abbrev bridge : List ℕ
 bridge = 5 ∷ 5 ∷ 1 ∷ 2 ∷ 3 ∷ 4 ∷ 5 ∷ 4 ∷ 9 ∷ 14 ∷ 18 ∷ 21 ∷ []
 
 second-set : setAt bridge 9 ≡ Set 14 10
-unfolding setAt stepAt numberAt numberIn
+unfolding setAt numberAt numberIn
 second-set = refl
 
 behind-the-last : setAt bridge 12 ≡ End
-unfolding setAt stepAt numberAt numberIn
+unfolding setAt numberAt numberIn
 behind-the-last = refl
 
 bridge-met : metFrom 5 bridge (setAt bridge 8) ≡ 9 ∷ 14 ∷ 18 ∷ 21 ∷ []
-unfolding setAt stepAt numberAt numberIn
+unfolding setAt numberAt numberIn
 bridge-met = refl
 
 -- 300 is AC 02, and a place inside it is not the place of a set of the record: what stands there is read for itself
 two-bytes : setAt (1 ∷ 0xAC ∷ 2 ∷ []) 1 ≡ Set 300 3
-unfolding setAt stepAt numberAt numberIn
+unfolding setAt numberAt numberIn
 two-bytes = refl
 
 inside-a-set : setAt (1 ∷ 0xAC ∷ 2 ∷ []) 2 ≡ Set 2 3
-unfolding setAt stepAt numberAt numberIn
+unfolding setAt numberAt numberIn
 inside-a-set = refl
 
 -- no number stands where the bytes end inside it
 end-inside : setAt (1 ∷ 0xAC ∷ []) 1 ≡ End
-unfolding setAt stepAt numberAt numberIn
+unfolding setAt numberAt numberIn
 end-inside = refl

@@ -9,64 +9,68 @@ use native.Mathlib.Omega.{arith}
 use borrow.Author.Tests.{le-ltb}
 use lib.ListN.{length, take, drop, getD, length-append}
 use lib.Pow.{pow-mono}
-use Rattle.codec.specs.declared.Field.the-variants.{Record}
-use Rattle.codec.specs.declared.Reading.{Reading}
-use Rattle.codec.specs.declared.Reading.the-variants as reading
+use Rattle.codec.specs.declared.Field.the-variants as field
 use Rattle.codec.specs.Fields.{top}
-use Rattle.codec.specs.ByteForm.{bytesOf}
+use Rattle.codec.specs.ByteForm.{bytesOf, formsOf}
 use Rattle.codec.specs.Reading.{numberAt}
 use Rattle.codec.proofs.Walk.{walked-none, walked-short}
 use Rattle.codec.proofs.ReadAfterWrite.{form-read}
 use Rattle.codec.specs.Bytes.{Bytes}
 use Rattle.codec.proofs.WriteAfterRead.{read-form}
 use Rattle.record.specs.declared.Contents.{Contents}
-use Rattle.record_head.specs.Headings.{found}
+use Rattle.codec.specs.Reads.{Read, found, refused}
 use Rattle.record.specs.Records.{Design, wholeRecord}
-use Rattle.record_head.specs.HeadingBytes.{formsOf}
+use Rattle.record.specs.declared.Step.{Step}
+use Rattle.record.specs.declared.Step.the-variants as step
 use Rattle.record.specs.Contents.{wholeContents, cursor, stepOn, stepAt}
-use Rattle.record_head.proofs.Found.{Stands, behind}
+use Rattle.codec.proofs.Found.{Stands, behind}
 use Rattle.record.proofs.RoundTrip.{whole-found}
 use Rattle.record.proofs.Whole.{design-read}
-use Rattle.record_reader.specs.Places.{foundBy, setAt, metFrom}
+use Rattle.record_reader.specs.Places.{foundOf, setAt, metFrom}
+use Rattle.record_reader.specs.declared.Found.{Found}
 use Rattle.record_reader.specs.declared.Found.the-variants.{Set, End}
 
 -- ---- at any place of any bytes
 
 -- what is found is a number in its byte form, with the place right behind it
 pub set-stands : (bytes : List ℕ) (offset set next : ℕ) → Bytes bytes → setAt bytes offset ≡ Set set next → Stands bytes offset next (bytesOf set)
-unfolding setAt stepAt
-set-stands bytes offset set next small = cases (numberAt bytes offset Record) refl
+unfolding setAt
+set-stands bytes offset set next small = cases (numberAt bytes offset field.Set) refl
   where
-    cases : (r : Reading) → numberAt bytes offset Record ≡ r → foundBy (stepOn r 0) ≡ Set set next → Stands bytes offset next (bytesOf set)
-    cases (reading.Refused why) read e = let z : _≡_ {A = ℕ} 0 1 = cc in absurd (omega arith)
-    cases (reading.Number value after) read e =
+    cases : (r : Read ℕ) → numberAt bytes offset field.Set ≡ r → foundOf r ≡ Set set next → Stands bytes offset next (bytesOf set)
+    cases (refused why) read e = let z : _≡_ {A = ℕ} 0 1 = cc in absurd (omega arith)
+    cases (found value after) read e =
         let same : value ≡ set = cc e in
         let ends : after ≡ next = cc e in
-        let r = read-form bytes offset Record set next small (read ∙ ap₂ (λ (v k : ℕ). reading.Number v k) same ends) in
+        let r = read-form bytes offset field.Set set next small (read ∙ ap₂ (λ (v k : ℕ). found v k) same ends) in
         record { stands = r .form; position = r .position; inside = r .inside }
 
 -- a number that a record allows is found where its byte form stands
-pub stands-set : (bytes : List ℕ) (offset set : ℕ) (rest : List ℕ) → set ≤ top Record → drop offset bytes ≡ bytesOf set ++ rest → setAt bytes offset ≡ Set set (offset + length (bytesOf set))
-unfolding setAt stepAt
+pub stands-set : (bytes : List ℕ) (offset set : ℕ) (rest : List ℕ) → set ≤ top field.Set → drop offset bytes ≡ bytesOf set ++ rest → setAt bytes offset ≡ Set set (offset + length (bytesOf set))
+unfolding setAt
 stands-set bytes offset set rest allowed e =
-    let read : numberAt bytes offset Record ≡ reading.Number set (offset + length (bytesOf set)) =
-    form-read bytes offset Record set rest e ∙ simp (le-ltb (top Record) set allowed) in
-    ap (λ (r : Reading). foundBy (stepOn r 0)) read
+    let read : numberAt bytes offset field.Set ≡ found set (offset + length (bytesOf set)) =
+    form-read bytes offset field.Set set rest e ∙ simp (le-ltb (top field.Set) set allowed) in
+    ap foundOf read
 
 -- nothing is found behind the last byte
 pub none-behind : (bytes : List ℕ) (offset : ℕ) → length bytes ≤ offset → setAt bytes offset ≡ End
-unfolding setAt stepAt
-none-behind bytes offset over =
-    ap (λ (r : Reading). foundBy (stepOn r 0)) (walked-short (walked-none bytes offset 5) Record refl (omega arith) over)
+unfolding setAt
+none-behind bytes offset over = ap foundOf (walked-short (walked-none bytes offset 5) field.Set refl (omega arith) over)
+
+-- what one step along the sets finds, and the place behind it
+abbrev pub foundBy : Step → Found
+foundBy (step.Set set after) = Set set (after .next)
+foundBy step.End = End
 
 -- a cursor with sets left finds what a reader at its place finds
 pub cursor-found : (bytes : List ℕ) (next left : ℕ) → foundBy (stepAt bytes (cursor next (suc left))) ≡ setAt bytes next
 unfolding setAt stepAt
-cursor-found bytes next left = cases (numberAt bytes next Record)
+cursor-found bytes next left = cases (numberAt bytes next field.Set)
   where
-    cases : (r : Reading) → foundBy (stepOn r left) ≡ foundBy (stepOn r 0)
-    cases (reading.Number value after) = refl
-    cases (reading.Refused why) = refl
+    cases : (r : Read ℕ) → foundBy (stepOn r left) ≡ foundOf r
+    cases (found value after) = refl
+    cases (refused why) = refl
 
 -- ---- along sets that stand one after the other
 
@@ -79,11 +83,11 @@ module _ (bytes : List ℕ) (end : ℕ) where
     inside = s .inside;
   }
 
-  first-found : (start set : ℕ) (rest : List ℕ) → set ≤ top Record → Stands bytes start end (bytesOf set ++ rest) → setAt bytes start ≡ Set set (start + length (bytesOf set))
+  first-found : (start set : ℕ) (rest : List ℕ) → set ≤ top field.Set → Stands bytes start end (bytesOf set ++ rest) → setAt bytes start ≡ Set set (start + length (bytesOf set))
   first-found start set rest allowed s =
       stands-set bytes start set (rest ++ drop end bytes) allowed (s .stands ∙ append-assoc (bytesOf set) rest (drop end bytes))
 
-  placed : (sets : List ℕ) (start i : ℕ) → ((a : ℕ) → List·Memᴰ a sets → a ≤ top Record) → Stands bytes start end (formsOf sets) → i < length sets
+  placed : (sets : List ℕ) (start i : ℕ) → ((a : ℕ) → List·Memᴰ a sets → a ≤ top field.Set) → Stands bytes start end (formsOf sets) → i < length sets
       → setAt bytes (start + length (formsOf (take i sets))) ≡ Set (getD sets i 0) (start + length (formsOf (take (suc i) sets)))
   unfolding formsOf
   placed [] start i allowed s h = absurd (omega arith)
@@ -96,7 +100,7 @@ module _ (bytes : List ℕ) (end : ℕ) where
       ∙ placed sets (start + length (bytesOf set)) i (λ a m. allowed a (List·Memᴰ·tail m)) (others start (bytesOf set) (formsOf sets) s) (omega (arith, h))
       ∙ ap (Set (getD sets i 0)) (sym (from (formsOf (take (suc i) sets))))
 
-  meets : (sets : List ℕ) (start : ℕ) → ((a : ℕ) → List·Memᴰ a sets → a ≤ top Record) → Stands bytes start end (formsOf sets) → length bytes ≤ end
+  meets : (sets : List ℕ) (start : ℕ) → ((a : ℕ) → List·Memᴰ a sets → a ≤ top field.Set) → Stands bytes start end (formsOf sets) → length bytes ≤ end
       → metFrom (suc (length sets)) bytes (setAt bytes start) ≡ sets
   unfolding formsOf
   meets [] start allowed s over = ap (metFrom 1 bytes) (none-behind bytes start (omega (arith, s .position, over)))
@@ -107,7 +111,7 @@ module _ (bytes : List ℕ) (end : ℕ) where
 -- ---- along an accepted record
 
 module _ (bytes : List ℕ) (small : Bytes bytes) (d : Design) (end : ℕ) (accepted : wholeRecord bytes ≡ found d end) where
-  allowed : (a : ℕ) → List·Memᴰ a (d .sets) → a ≤ top Record
+  allowed : (a : ℕ) → List·Memᴰ a (d .sets) → a ≤ top field.Set
   allowed a m =
       let rules = design-read bytes small d end accepted .rules in
       let inside : 2 ^ d .parts .count ≤ 2 ^ 16 = pow-mono (rules .parts .rules .few) in
@@ -127,4 +131,4 @@ module _ (bytes : List ℕ) (small : Bytes bytes) (d : Design) (end : ℕ) (acce
   reader-meets =
       let r = design-read bytes small d end accepted in
       ap (λ (c : Contents). metFrom (suc (length (d .sets))) bytes (setAt bytes (c .begin))) (r .contents)
-      ∙ meets bytes end (d .sets) (r .begin) allowed (r .stands) (whole-found bytes d end accepted .1)
+      ∙ meets bytes end (d .sets) (r .begin) allowed (r .stands) (whole-found bytes d end accepted .nothing-left)

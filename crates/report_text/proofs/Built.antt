@@ -20,12 +20,13 @@ use Rattle.theory_sets.specs.Tables.{tableOf}
 use Rattle.theory_sets.proofs.Ranges.{below-or-above}
 use Rattle.theory_sets.proofs.Tables.{tableOf-length, tableLength-small, tableLength-large}
 use Rattle.record.specs.declared.Contents.{Contents}
-use Rattle.record_head.specs.Headings.{Read, found, refused, Head, headAt}
+use Rattle.codec.specs.Reads.{Read, found, refused}
 use Rattle.record.specs.Records.{Design, wholeRecord}
 use Rattle.record.specs.RecordBytes.{DesignRules}
-use Rattle.record_head.specs.Headings.{headingOf}
-use Rattle.record.specs.Contents.{recordRefusal, designOr, designIn}
-use Rattle.record.proofs.Whole.{design-read, refused-contents}
+use Rattle.record.specs.declared.WithWords.{WithWords}
+use Rattle.record.specs.Contents.{wholeContents, recordRefusal, designOr, designIn, wholeWithWords, tableOfWords}
+use Rattle.record.proofs.Answers.{contents-whole}
+use Rattle.record.proofs.Whole.{design-read, refused-contents, words-delivered}
 
 -- the table of a design
 abbrev pub designTable : Design → List ℕ
@@ -41,13 +42,13 @@ table-most d few =
     (λ (large : 3 ≤ n). omega (arith, long, tableLength-large n large, pow-mono few))
     (below-or-above n 3)
 
-pub record Built (bytes own : List ℕ) (size : ℕ) : Type 0 where
+pub record Built (bytes : List ℕ) (contents : Contents) (own : List ℕ) (size : ℕ) : Type 0 where
   pub design : Design
   pub end : ℕ
   pub read : wholeRecord bytes ≡ found design end
   pub rules : DesignRules design
-  pub parts : headingOf (headAt bytes 0) .list ≡ design .parts
-  pub sets : headingOf (headAt bytes 0) .sets ≡ length (design .sets)
+  pub parts : contents .list ≡ design .parts
+  pub sets : contents .sets ≡ length (design .sets)
   pub counted : size ≡ length (designTable design)
   pub most : size ≤ 8192
   pub front : take size own ≡ designTable design
@@ -57,7 +58,11 @@ pub design-in : (bytes : List ℕ) (d : Design) (end : ℕ) → wholeRecord byte
 unfolding designIn
 design-in bytes d end here = ap designOr here
 
-module _ (bytes : List ℕ) (small : Bytes bytes) (w : Written) (own : List ℕ) (wrote : outcome w own ≡ delivered (recordRefusal bytes) (designTable (designIn bytes)) (replicate 8192 0)) where
+module _ (bytes : List ℕ) (small : Bytes bytes) (known : WithWords) (with-words : known ≡ wholeWithWords bytes) (w : Written) (own : List ℕ)
+    (stored : outcome w own ≡ delivered (known .contents .verdict) (tableOfWords (known .contents .list .count) (known .words)) (replicate 8192 0)) where
+  wrote : outcome w own ≡ delivered (recordRefusal bytes) (designTable (designIn bytes)) (replicate 8192 0)
+  wrote = stored ∙ words-delivered bytes known small with-words (replicate 8192 0)
+
   -- what the call left for an answer
   left-by : (answer : Written) → w ≡ answer → outcome answer own ≡ delivered (recordRefusal bytes) (designTable (designIn bytes)) (replicate 8192 0)
   left-by answer e = ap (λ (x : Written). outcome x own) (sym e) ∙ wrote
@@ -65,26 +70,27 @@ module _ (bytes : List ℕ) (small : Bytes bytes) (w : Written) (own : List ℕ)
   refused-verdict : (why : Refusal) → wholeRecord bytes ≡ refused why → recordRefusal bytes ≡ verdict.Refused why
   refused-verdict why here = ap (λ (k : Contents). k .verdict) (refused-contents bytes why here)
 
-  pub built-given : (size : ℕ) → w ≡ Length size → Built bytes own size
+  pub built-given : (size : ℕ) → w ≡ Length size → Built bytes (known .contents) own size
   built-given size e = cases (wholeRecord bytes) refl
     where
       all : Given (recordRefusal bytes) (designTable (designIn bytes)) (replicate 8192 0) own size
       all = given (recordRefusal bytes) (designTable (designIn bytes)) (replicate 8192 0) own size (left-by (Length size) e)
 
-      cases : (read : Read Design) → wholeRecord bytes ≡ read → Built bytes own size
+      cases : (read : Read Design) → wholeRecord bytes ≡ read → Built bytes (known .contents) own size
       cases (refused why) here =
           let clash : _≡_ {A = ℕ} 0 1 = cc (sym (refused-verdict why here) ∙ all .accepted) in
           absurd (omega arith)
       cases (found d end) here =
           let r = design-read bytes small d end here in
+          let whole : known .contents ≡ wholeContents bytes = contents-whole bytes known with-words in
           let counted : size ≡ length (designTable d) = all .counted ∙ ap (λ (x : Design). length (designTable x)) (design-in bytes d end here) in
           record {
             design = d;
             end = end;
             read = here;
             rules = r .rules;
-            parts = ap (λ (h : Read Head). headingOf h .list) (r .head);
-            sets = ap (λ (h : Read Head). headingOf h .sets) (r .head);
+            parts = ap (λ (k : Contents). k .list) (whole ∙ r .contents);
+            sets = ap (λ (k : Contents). k .sets) (whole ∙ r .contents);
             counted = counted;
             most = omega (arith, table-most d (r .rules .parts .rules .few));
             front = all .front ∙ ap designTable (design-in bytes d end here);

@@ -14,8 +14,9 @@ use Rattle.theory_orders.specs.Counting.{entries, stops, inGroup, stopsAsKth, c
 use Rattle.theory_orders.specs.Formulas.{pathCount}
 use Rattle.codec.specs.Reading.{numberIn, numberAt}
 use Rattle.theory_figures.specs.Figures.{domination}
-use Rattle.record_head.specs.Headings.{fieldAt, numbersAt, partsAt, headAt}
-use Rattle.record.specs.Records.{misplaced, setsAt, recordAt, wholeRecord}
+use Rattle.codec.specs.FieldReads.{fieldAt, fieldsAt}
+use Rattle.record_head.specs.Headings.{partsAt, headAt}
+use Rattle.record.specs.Records.{misplaced, recordAt, onlyRecord, wholeRecord}
 use Rattle.text.specs.Texts.{ascii, spelled, decimal, signed, lines}
 use Rattle.report_lines.specs.Lines.{headLine, restOfLine, refusedLine}
 use Rattle.report_text.specs.Reports.{firstLine, orderLine, domLine, partLine, reportOf, printed}
@@ -26,16 +27,16 @@ bridge = 5 ∷ 5 ∷ 1 ∷ 2 ∷ 3 ∷ 4 ∷ 5 ∷ 4 ∷ 9 ∷ 14 ∷ 18 ∷ 21 
 
 bridge-report : printed bridge
     ≡ ascii "parts 5 sets 4 mark 5\norder 1 0\norder 2 24\norder 3 72\norder 4 24\norder 5 0\ndom 1 0\ndom 2 2\ndom 3 2\ndom 4 -5\ndom 5 2\npart 1 28\npart 2 28\npart 3 8\npart 4 28\npart 5 28\n"
-unfolding printed reportOf firstLine headLine restOfLine orderLine domLine partLine lines decimal spelled signed wholeRecord recordAt headAt partsAt numbersAt setsAt fieldAt misplaced holds numberAt numberIn count orders inserted flatMap stopsAsKth inGroup has stops entries mask sum some listed domination pathCount sumBelow sumBelowℤ choose ones onesIn pow one
+unfolding printed reportOf firstLine headLine restOfLine orderLine domLine partLine lines decimal spelled signed wholeRecord onlyRecord recordAt headAt partsAt fieldsAt fieldAt misplaced holds numberAt numberIn count orders inserted flatMap stopsAsKth inGroup has stops entries mask sum some listed domination pathCount sumBelow sumBelowℤ choose ones onesIn pow one
 bridge-report = refl
 
 -- two parts with the numbers 2 and 5 under the mark 7, and both are needed
 numbers-report : printed (2 ∷ 7 ∷ 2 ∷ 5 ∷ 1 ∷ 3 ∷ [])
     ≡ ascii "parts 2 sets 1 mark 7\norder 1 2\norder 2 0\ndom 1 0\ndom 2 1\npart 2 1\npart 5 1\n"
-unfolding printed reportOf firstLine headLine restOfLine orderLine domLine partLine lines decimal spelled signed wholeRecord recordAt headAt partsAt numbersAt setsAt fieldAt misplaced holds numberAt numberIn count orders inserted flatMap stopsAsKth inGroup has stops entries mask sum some listed domination pathCount sumBelow sumBelowℤ choose ones onesIn pow one
+unfolding printed reportOf firstLine headLine restOfLine orderLine domLine partLine lines decimal spelled signed wholeRecord onlyRecord recordAt headAt partsAt fieldsAt fieldAt misplaced holds numberAt numberIn count orders inserted flatMap stopsAsKth inGroup has stops entries mask sum some listed domination pathCount sumBelow sumBelowℤ choose ones onesIn pow one
 numbers-report = refl
 
 -- the mark is 4 and a part number 5
 refused-line : printed (5 ∷ 4 ∷ 1 ∷ 2 ∷ 3 ∷ 4 ∷ 5 ∷ 4 ∷ 9 ∷ 14 ∷ 18 ∷ 21 ∷ []) ≡ ascii "refused 23 6\n"
-unfolding printed refusedLine decimal spelled wholeRecord recordAt headAt partsAt numbersAt setsAt fieldAt misplaced holds numberAt numberIn
+unfolding printed refusedLine decimal spelled wholeRecord onlyRecord recordAt headAt partsAt fieldsAt fieldAt misplaced holds numberAt numberIn
 refused-line = refl

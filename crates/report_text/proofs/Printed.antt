@@ -14,7 +14,7 @@ use Rattle.answer.specs.declared.Written.{Written}
 use Rattle.answer.specs.declared.Written.the-variants.{Length, Refused}
 use Rattle.answer.proofs.Outcomes.{in-front-delivered}
 use Rattle.codec.specs.Bytes.{Bytes}
-use Rattle.record_head.specs.Headings.{Read, found, refused}
+use Rattle.codec.specs.Reads.{Read, found, refused}
 use Rattle.record.specs.Records.{Design, wholeRecord}
 use Rattle.record.specs.Contents.{designIn}
 use Rattle.record.proofs.Whole.{design-read}

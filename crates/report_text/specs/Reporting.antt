@@ -7,7 +7,7 @@ use Rattle.answer.specs.declared.Written.{Written}
 use Rattle.answer.specs.declared.Written.the-variants.{Length, Refused}
 use Rattle.theory_sets.specs.Structures.{listed}
 use Rattle.theory_sets.specs.Tables.{tableOf}
-use Rattle.record_head.specs.Headings.{Read, found, refused}
+use Rattle.codec.specs.Reads.{Read, found, refused}
 use Rattle.record.specs.Records.{Design, wholeRecord}
 use Rattle.report_text.specs.Reports.{reportOf}
 

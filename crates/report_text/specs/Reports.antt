@@ -8,7 +8,7 @@ use Rattle.theory_orders.specs.Counting.{count}
 use Rattle.theory_orders.specs.Formulas.{pathCount}
 use Rattle.record_parts.specs.PartLists.{numbersOf}
 use Rattle.theory_figures.specs.Figures.{domination}
-use Rattle.record_head.specs.Headings.{Read, found, refused}
+use Rattle.codec.specs.Reads.{Read, found, refused}
 use Rattle.record.specs.Records.{Design, wholeRecord}
 use Rattle.text.specs.Texts.{decimal, signed, lines}
 use Rattle.report_lines.specs.Lines.{headLine, figureLine, refusedLine}

@@ -21,13 +21,14 @@ pub fn report(bytes: &[u8], table: &mut [u8], text: &mut [u8]) -> Written
 {
     let mut own_table = [0u8; 8192];
     let mut own_text = [0u8; 4096];
-    let built = record::table_of_record(bytes, &mut own_table);
+    let read = record::whole_with_words(bytes);
+    let built = record::store_table(read, &mut own_table);
     match built {
         Written::Refused(refusal) => Written::Refused(refusal),
         Written::Length(size) => {
-            let heading = record_head::read_heading(bytes, 0);
-            let list = heading.list;
-            let end = put_table(&mut own_text, list, heading.sets, &own_table[..size]);
+            let contents = read.contents;
+            let list = contents.list;
+            let end = put_table(&mut own_text, list, contents.sets, &own_table[..size]);
             hand_out_both(&own_table[..size], &own_text[..end], table, text)
         }
     }

@@ -6,7 +6,7 @@ use native.Mathlib.Omega.{arith}
 use lib.IntN.{ℤ, pos}
 use lib.ListN.{length, take, drop, length-append, take-append-drop}
 use lib.Seq.{take-suc}
-use Rattle.codec.specs.ByteForm.{bytesOf}
+use Rattle.codec.specs.ByteForm.{bytesOf, formsOf}
 use Rattle.vector_kind.specs.Kinds.{kindNumber}
 use Rattle.vector_conversion.specs.Vectors.{entryAt}
 use Rattle.vector_kind.specs.declared.Kind.{Kind}
@@ -14,14 +14,14 @@ use Rattle.sheet.specs.Sheets.{coded, entryBytes, sheetBytes}
 
 module _ (kind : Kind) where
   entries-append : (front behind : List ℤ) → entryBytes kind (front ++ behind) ≡ entryBytes kind front ++ entryBytes kind behind
-  unfolding entryBytes
+  unfolding entryBytes formsOf
   entries-append [] behind = refl
   entries-append (x ∷ xs) behind =
       ap (λ (l : List ℕ). bytesOf (coded kind x) ++ l) (entries-append xs behind)
       ∙ sym (append-assoc (bytesOf (coded kind x)) (entryBytes kind xs) (entryBytes kind behind))
 
   entry-form : (entry : ℤ) → entryBytes kind (entry ∷ []) ≡ bytesOf (coded kind entry)
-  unfolding entryBytes
+  unfolding entryBytes formsOf
   entry-form entry = append-nil (bytesOf (coded kind entry))
 
   module _ (n : ℕ) where
@@ -31,7 +31,7 @@ module _ (kind : Kind) where
 
     -- kind and n stand in front
     pub sheet-front : sheetBytes kind n [] ≡ bytesOf (kindNumber kind) ++ bytesOf n
-    unfolding sheetBytes entryBytes
+    unfolding sheetBytes entryBytes formsOf
     sheet-front = ap (λ (l : List ℕ). bytesOf (kindNumber kind) ++ l) (append-nil (bytesOf n))
 
     -- one entry more

@@ -1,21 +1,17 @@
 -- Vector sheets (01, "Records on disk" and "Where each refusal is found"): kind, n, entries, each a number in groups of seven bits.
-use mathlib.Core.Bool.{Bool, true, false, not, cond, _&&_}
-use mathlib.Core.List.{List, [], _∷_, _++_}
-use Prim.Native.Nat.{ℕ, zero, suc, _+_, _*_, _/_, _%_}
-use lib.Dec.{leb, ltb, eqb}
+use mathlib.Core.Bool.{cond}
+use mathlib.Core.List.{List, [], _++_, map}
+use Prim.Native.Nat.{ℕ, _+_, _*_, _/_, _%_}
+use lib.Dec.{eqb}
 use lib.IntN.{ℤ, pos, negsuc, natAbs}
-use lib.ListN.{length}
-use Rattle.answer.specs.Outcome.{at}
-use Rattle.answer.specs.Refusals.{wrongPartCount, bytesLeft, wrongKind}
-use Rattle.answer.specs.declared.Refusal.{Refusal}
+use Rattle.answer.specs.Checks.{partCountRefusal}
 use Rattle.answer.specs.declared.Verdict.{Verdict}
-use Rattle.answer.specs.declared.Verdict.the-variants as verdict
-use Rattle.codec.specs.ByteForm.{bytesOf}
-use Rattle.codec.specs.Reading.{numberAt}
+use Rattle.answer.specs.declared.Verdict.the-variants.{Accepted}
+use Rattle.codec.specs.ByteForm.{bytesOf, formsOf}
 use Rattle.codec.specs.declared.Field.the-variants as field
-use Rattle.codec.specs.declared.Reading.{Reading}
-use Rattle.codec.specs.declared.Reading.the-variants as reading
-use Rattle.vector_kind.specs.Kinds.{kindNumber, lengthOf, isKind, kindOf}
+use Rattle.codec.specs.Reads.{Read, found, then, unless, alone}
+use Rattle.codec.specs.FieldReads.{fieldAt, anyNumber, fieldsAt}
+use Rattle.vector_kind.specs.Kinds.{kindNumber, lengthOf, kindOf, kindRefusal}
 use Rattle.vector_conversion.specs.Vectors.{countsRefusal}
 use Rattle.vector_kind.specs.declared.Kind.{Kind}
 use Rattle.vector_kind.specs.declared.Kind.the-variants.{PathCounts, Tail, Signature, Domination}
@@ -37,49 +33,42 @@ decoded PathCounts u = pos u
 decoded Tail u = pos u
 decoded Signature u = pos u
 
+-- entries one after the other
 unfoldable pub entryBytes : Kind → List ℤ → List ℕ
-entryBytes kind [] = []
-entryBytes kind (entry ∷ entries) = bytesOf (coded kind entry) ++ entryBytes kind entries
+entryBytes kind entries = formsOf (map (coded kind) entries)
 
 unfoldable pub sheetBytes : Kind → ℕ → List ℤ → List ℕ
 sheetBytes kind n entries = bytesOf (kindNumber kind) ++ (bytesOf n ++ entryBytes kind entries)
 
 -- ---- what bytes stand for
 
--- a vector, or why there is none
-pub data Sheet : Type 0 where
-  Given : Kind → ℕ → List ℤ → Sheet
-  Refused : Refusal → Sheet
+-- a vector as a sheet holds it
+pub record Sheet : Type 0 where
+  pub kind : Kind
+  pub n : ℕ
+  pub entries : List ℤ
 
--- one check: where its condition holds it refuses, and else what comes later decides
-abbrev pub refuse : Bool → ℕ → ℕ → Sheet → Sheet
-refuse true number place later = Refused (at number place)
-refuse false number place later = later
+abbrev pub sheet : Kind → ℕ → List ℤ → Sheet
+sheet kind n entries = record { kind = kind; n = n; entries = entries }
 
--- a number that is read, 21 and 22, and what comes after it
-abbrev pub afterNumber : Reading → (ℕ → ℕ → Sheet) → Sheet
-afterNumber (reading.Number value next) later = later value next
-afterNumber (reading.Refused r) later = Refused r
+-- the kind's number: 26, at place 0
+abbrev pub kindJudged : ℕ → Verdict
+kindJudged number = kindRefusal number Accepted
 
--- so many entries from a position on, and what comes after them
-unfoldable pub afterEntries : List ℕ → Kind → ℕ → ℕ → (List ℤ → ℕ → Sheet) → Sheet
-afterEntries bytes kind zero start later = later [] start
-afterEntries bytes kind (suc left) start later =
-    afterNumber (numberAt bytes start field.Sheet) (λ value next.
-    afterEntries bytes kind left next (λ entries end. later (decoded kind value ∷ entries) end))
+-- n: 1, at place 0
+abbrev pub partsJudged : ℕ → Verdict
+partsJudged n = partCountRefusal 0 n Accepted
 
--- a verdict on a vector that is read
-abbrev pub judged : Verdict → Sheet → Sheet
-judged verdict.Accepted later = later
-judged (verdict.Refused r) later = Refused r
+-- so many entries from a position on; 21 and 22 alone refuse one
+unfoldable pub entriesAt : List ℕ → Kind → ℕ → ℕ → Read (List ℤ)
+entriesAt bytes kind count start =
+    then (fieldsAt bytes field.Sheet anyNumber count [] start) (λ numbers end. found (map (decoded kind) numbers) end)
 
 -- Kind and n are read first; 26 comes before n, 1 is at place 0, 25 after the last entry, and then 13 and 14.
-unfoldable pub sheetOf : List ℕ → Sheet
+unfoldable pub sheetOf : List ℕ → Read Sheet
 sheetOf bytes =
-    afterNumber (numberAt bytes 0 field.Sheet) (λ number next.
-    refuse (not (isKind number)) wrongKind 0
-    (afterNumber (numberAt bytes next field.Sheet) (λ n start.
-    refuse (not (leb 1 n && leb n 16)) wrongPartCount 0
-    (afterEntries bytes (kindOf number) (lengthOf (kindOf number) n) start (λ entries end.
-    refuse (ltb end (length bytes)) bytesLeft end
-    (judged (countsRefusal (kindOf number) n entries) (Given (kindOf number) n entries)))))))
+    then (fieldAt bytes 0 field.Sheet kindJudged) (λ number next.
+    then (fieldAt bytes next field.Sheet partsJudged) (λ n start.
+    then (entriesAt bytes (kindOf number) (lengthOf (kindOf number) n) start) (λ entries end.
+    then (alone bytes entries end) (λ all last.
+    unless (countsRefusal (kindOf number) n all) (found (sheet (kindOf number) n all) last)))))

@@ -8,7 +8,8 @@ use Rattle.answer.specs.declared.Written.{Written}
 use Rattle.answer.specs.declared.Written.the-variants as written
 use Rattle.vector_kind.specs.declared.Kind.{Kind}
 use Rattle.vector_kind.specs.declared.Kind.the-variants.{PathCounts}
-use Rattle.sheet.specs.Sheets.{Sheet, Given, Refused}
+use Rattle.codec.specs.Reads.{Read, found, refused}
+use Rattle.sheet.specs.Sheets.{Sheet}
 use Rattle.sheet_entries.specs.declared.EntriesRead.{EntriesRead}
 
 -- what is told of a sheet with the answer to handing its entries out: its kind and n, and of a refusal path counts and 0
@@ -17,6 +18,6 @@ entriesRead kind n (written.Length count) = record { kind = kind; n = n; answer 
 entriesRead kind n (written.Refused r) = record { kind = PathCounts; n = 0; answer = written.Refused r }
 
 -- a sheet's entries for a lent buffer
-abbrev pub entriesDelivered : Sheet → List ℤ → Outcome EntriesRead (List ℤ)
-entriesDelivered (Refused r) cells = retold (entriesRead PathCounts 0) (delivered (verdict.Refused r) [] cells)
-entriesDelivered (Given kind n entries) cells = retold (entriesRead kind n) (delivered verdict.Accepted entries cells)
+abbrev pub entriesDelivered : Read Sheet → List ℤ → Outcome EntriesRead (List ℤ)
+entriesDelivered (refused r) cells = retold (entriesRead PathCounts 0) (delivered (verdict.Refused r) [] cells)
+entriesDelivered (found sheet end) cells = retold (entriesRead (sheet .kind) (sheet .n)) (delivered verdict.Accepted (sheet .entries) cells)

@@ -11,7 +11,7 @@ use Rattle.answer.specs.Refusals.{wrongVectorLength}
 use Rattle.answer.specs.declared.Verdict.{Verdict}
 use Rattle.answer.specs.declared.Verdict.the-variants.{Accepted}
 use Rattle.codec.specs.Bytes.{Bytes}
-use Rattle.structure.specs.Checks.{partsRefusal}
+use Rattle.answer.specs.Checks.{partCountRefusal}
 use Rattle.vector.specs.InStruct.{vectorHolding, entriesOf, structRefusal}
 use Rattle.vector_kind.specs.Kinds.{lengthOf}
 use Rattle.vector_conversion.specs.Vectors.{countsRefusal, vectorRefusal}
@@ -32,7 +32,7 @@ written-read kind n entries accepted = ap sheetRead (sheet-read kind n entries a
 held-entries : (vector : Vector) → length (entriesOf vector) ≡ vector .length → structRefusal vector ≡ vectorRefusal (vector .kind) (vector .n) (entriesOf vector)
 unfolding structRefusal vectorRefusal
 held-entries vector counted =
-    ap (λ (k : ℕ). partsRefusal (vector .n) (refuse (not (eqb k (lengthOf (vector .kind) (vector .n)))) wrongVectorLength 0 (countsRefusal (vector .kind) (vector .n) (entriesOf vector))))
+    ap (λ (k : ℕ). partCountRefusal 0 (vector .n) (refuse (not (eqb k (lengthOf (vector .kind) (vector .n)))) wrongVectorLength 0 (countsRefusal (vector .kind) (vector .n) (entriesOf vector))))
     (sym counted)
 
 -- and what is read is written back as the very bytes that it was read from
@@ -43,5 +43,5 @@ pub read-written : (bytes buffer : List ℕ) → Bytes bytes → sheetRead (shee
 read-written bytes buffer narrow accepted =
     let vector : Vector = sheetRead (sheetOf bytes) .vector in
     let read : GivenAs (sheetOf bytes) (sheetRead (sheetOf bytes)) = sheet-given (sheetOf bytes) (sheetRead (sheetOf bytes)) refl accepted in
-    let form = sheet-form bytes narrow (vector .kind) (vector .n) (entriesOf vector) (read .given) in
+    let form = sheet-form bytes narrow (vector .kind) (vector .n) (entriesOf vector) (read .end) (read .given) in
     ap₂ (λ (v : Verdict) (l : List ℕ). delivered v l buffer) (held-entries vector (read .counted) ∙ form .1) (form .0)

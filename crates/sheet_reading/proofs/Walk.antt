@@ -1,84 +1,72 @@
--- The walk along the entries of a sheet: what it knows before the entry at an index, how it ends, and what is judged behind it.
+-- The walk along the entries of a sheet: those so far stand in the cells, and what is judged behind them.
 -- Assumes nothing.
-use mathlib.Core.Path.{_≡_, refl, sym, ap, ap₂, _∙_, fun-ext}
-use mathlib.Core.Bool.{Bool, true, false, not}
-use mathlib.Core.List.{List, [], _∷_, _++_, append-assoc, append-nil}
-use Prim.Native.Nat.{ℕ, suc, _+_, _-_, _≤_, _<_}
-use native.Mathlib.Nat.{sub-zero}
+use mathlib.Core.Path.{_≡_, refl, sym, ap, ap₂, _∙_}
+use mathlib.Core.Bool.{Bool, true, false, cond, not}
+use mathlib.Core.List.{List, [], _∷_, _++_, map, map-append}
+use Prim.Native.Nat.{ℕ, _+_, _-_, _≤_, _<_}
 use native.Mathlib.Omega.{arith}
 use lib.IntN.{ℤ, pos}
 use lib.Dec.{ltb}
 use lib.ListN.{length, take, set, replicate, length-append}
 use lib.Seq.{take-append-seam}
-use borrow.Author.Tests.{le-leb, eq-eqb}
-use Rattle.answer.specs.Outcome as answer
-use Rattle.answer.specs.Refusals.{wrongPartCount, wrongVectorLength, bytesLeft}
+use borrow.Author.Tests.{eq-eqb}
+use Rattle.answer.specs.Outcome.{at, refuse, andThen}
+use Rattle.answer.specs.Refusals.{wrongVectorLength, bytesLeft}
+use Rattle.answer.specs.declared.Refusal.{Refusal}
 use Rattle.answer.specs.declared.Verdict.the-variants.{Accepted}
 use Rattle.answer.proofs.Outcomes.{refuse-passed}
-use Rattle.theory_sets.proofs.Bools.{and-both}
-use Rattle.answer.specs.declared.Refusal.{Refusal}
+use Rattle.answer.proofs.Checks.{parts-passed}
 use Rattle.answer.proofs.FixedCells.{cells-more}
-use Rattle.codec.specs.Reading.{numberAt}
 use Rattle.codec.specs.declared.Field.the-variants as field
-use Rattle.codec.specs.declared.Reading.{Reading}
-use Rattle.codec.specs.declared.Reading.the-variants as reading
+use Rattle.codec.specs.Reads.{Read, found, refused, then, unless}
+use Rattle.codec.specs.Reading.{numberAt}
+use Rattle.codec.specs.FieldReads.{judged, fieldAt, anyNumber, fieldsAt}
+use Rattle.codec.proofs.FieldReads.{FieldsWalk, fields-walk-none, fields-walk-more, fields-walk-refused, fields-walk-end}
 use Rattle.vector.specs.InStruct.{mostEntries, entryCells}
 use Rattle.vector_kind.specs.Kinds.{lengthOf}
 use Rattle.vector_conversion.specs.Vectors.{countsRefusal, vectorRefusal}
 use Rattle.vector_kind.specs.declared.Kind.{Kind}
-use Rattle.sheet.specs.Sheets.{decoded, Sheet, Given, Refused, refuse, afterNumber, afterEntries, judged}
+use Rattle.sheet.specs.Sheets.{decoded, sheet, entriesAt}
 use Rattle.sheet_reading.specs.Inside.{ended}
 
-pub record EntriesWalk (bytes : List ℕ) (kind : Kind) (count start : ℕ) (later : List ℤ → ℕ → Sheet) (cells : List ℤ) (next index : ℕ) : Type 0 where
+pub record EntriesWalk (bytes : List ℕ) (kind : Kind) (count start : ℕ) (cells : List ℤ) (next index : ℕ) : Type 0 where
+  pub numbers : List ℕ
+  pub walk : FieldsWalk bytes field.Sheet anyNumber count start numbers next index
   pub earlier : List ℤ
-  pub within : index ≤ count
+  pub decodes : map (decoded kind) numbers ≡ earlier
   pub counted : length earlier ≡ index
   pub stands : cells ≡ entryCells earlier
-  pub rest : afterEntries bytes kind (count - index) next (λ entries end. later (earlier ++ entries) end) ≡ afterEntries bytes kind count start later
 
-pub walk-none : (bytes : List ℕ) (kind : Kind) (count start : ℕ) (later : List ℤ → ℕ → Sheet) → EntriesWalk bytes kind count start later (replicate mostEntries (pos 0)) start 0
-walk-none bytes kind count start later = record {
-  earlier = [];
-  within = omega arith;
-  counted = refl;
-  stands = refl;
-  rest = ap (λ (k : ℕ). afterEntries bytes kind k start later) (sub-zero count);
-}
+pub walk-none : (bytes : List ℕ) (kind : Kind) (count start : ℕ) → EntriesWalk bytes kind count start (replicate mostEntries (pos 0)) start 0
+walk-none bytes kind count start =
+    record { numbers = []; walk = fields-walk-none bytes field.Sheet anyNumber count start; earlier = []; decodes = refl; counted = refl; stands = refl }
 
-module _ {bytes : List ℕ} {kind : Kind} {count start : ℕ} {later : List ℤ → ℕ → Sheet} {cells : List ℤ} {next index : ℕ} (walk : EntriesWalk bytes kind count start later cells next index) where
-  -- the entries from here on, the one at the index first
-  abbrev onward : ℕ → ℕ → Sheet
-  onward value after = afterEntries bytes kind (count - (index + 1)) after (λ entries end. later (walk .earlier ++ (decoded kind value ∷ entries)) end)
-
-  step : index < count → afterEntries bytes kind count start later ≡ afterNumber (numberAt bytes next field.Sheet) onward
-  unfolding afterEntries
-  step h =
-      let more : count - index ≡ suc (count - (index + 1)) = omega arith in
-      sym (walk .rest) ∙ ap (λ (k : ℕ). afterEntries bytes kind k next (λ entries end. later (walk .earlier ++ entries) end)) more
-
-  pub walk-more : index < count → count ≤ mostEntries → (value after : ℕ) → numberAt bytes next field.Sheet ≡ reading.Number value after
-      → EntriesWalk bytes kind count start later (set cells index (decoded kind value)) after (index + 1)
+module _ {bytes : List ℕ} {kind : Kind} {count start : ℕ} {cells : List ℤ} {next index : ℕ} (w : EntriesWalk bytes kind count start cells next index) where
+  pub walk-more : index < count → count ≤ mostEntries → (value after : ℕ) → numberAt bytes next field.Sheet ≡ found value after
+      → EntriesWalk bytes kind count start (set cells index (decoded kind value)) after (index + 1)
+  unfolding fieldAt
   walk-more h few value after e =
       let entry : ℤ = decoded kind value in
       record {
-        earlier = walk .earlier ++ (entry ∷ []);
-        within = omega arith;
-        counted = length-append (walk .earlier) (entry ∷ []) ∙ ap (λ (k : ℕ). k + 1) (walk .counted);
-        stands = ap (λ (l : List ℤ). set l index entry) (walk .stands) ∙ cells-more mostEntries (pos 0) (walk .earlier) index entry (walk .counted) (omega arith);
-        rest = ap (λ (f : List ℤ → ℕ → Sheet). afterEntries bytes kind (count - (index + 1)) after f)
-            (fun-ext (λ entries. fun-ext (λ end. ap (λ (l : List ℤ). later l end) (append-assoc (walk .earlier) (entry ∷ []) entries))))
-            ∙ sym (step h ∙ ap (λ (r : Reading). afterNumber r onward) e);
+        numbers = w .numbers ++ (value ∷ []);
+        walk = fields-walk-more (w .walk) h value after (sym (ap (judged (anyNumber (w .numbers) next)) e));
+        earlier = w .earlier ++ (entry ∷ []);
+        decodes = map-append (decoded kind) (w .numbers) (value ∷ []) ∙ ap (λ (l : List ℤ). l ++ (entry ∷ [])) (w .decodes);
+        counted = length-append (w .earlier) (entry ∷ []) ∙ ap (λ (k : ℕ). k + 1) (w .counted);
+        stands = ap (λ (l : List ℤ). set l index entry) (w .stands) ∙ cells-more mostEntries (pos 0) (w .earlier) index entry (w .counted) (omega arith);
       }
 
-  pub walk-refused : index < count → (why : Refusal) → numberAt bytes next field.Sheet ≡ reading.Refused why → afterEntries bytes kind count start later ≡ Refused why
-  walk-refused h why e = step h ∙ ap (λ (r : Reading). afterNumber r onward) e
+  pub walk-refused : index < count → (why : Refusal) → numberAt bytes next field.Sheet ≡ refused why → entriesAt bytes kind count start ≡ refused why
+  unfolding entriesAt fieldAt
+  walk-refused h why e =
+      ap (λ (r : Read (List ℕ)). then r (λ numbers end. found (map (decoded kind) numbers) end))
+      (fields-walk-refused (w .walk) h why (sym (ap (judged (anyNumber (w .numbers) next)) e)))
 
-  pub walk-end : count ≤ index → afterEntries bytes kind count start later ≡ later (walk .earlier) next
-  unfolding afterEntries
+  pub walk-end : count ≤ index → entriesAt bytes kind count start ≡ found (w .earlier) next
+  unfolding entriesAt
   walk-end h =
-      let none : count - index ≡ 0 = omega arith in
-      sym (walk .rest) ∙ ap (λ (k : ℕ). afterEntries bytes kind k next (λ entries end. later (walk .earlier ++ entries) end)) none
-      ∙ ap (λ (l : List ℤ). later l next) (append-nil (walk .earlier))
+      ap (λ (r : Read (List ℕ)). then r (λ numbers end. found (map (decoded kind) numbers) end)) (fields-walk-end (w .walk) h)
+      ∙ ap (λ (l : List ℤ). found l next) (w .decodes)
 
 -- ---- behind the entries
 
@@ -91,15 +79,15 @@ entries-held count cells entries counted stands =
 pub vector-counts : (kind : Kind) (n : ℕ) (entries : List ℤ) → 1 ≤ n → n ≤ 16 → length entries ≡ lengthOf kind n → vectorRefusal kind n entries ≡ countsRefusal kind n entries
 unfolding vectorRefusal
 vector-counts kind n entries some few long =
-    refuse-passed _ wrongPartCount 0 _ (ap not (and-both (le-leb 1 n some) (le-leb n 16 few)))
+    parts-passed 0 n _ some few
     ∙ refuse-passed _ wrongVectorLength 0 _ (ap not (eq-eqb (length entries) (lengthOf kind n) long))
 
 -- 25, and then 13 and 14, are the first of two verdicts
 pub ended-first : (bytes : List ℕ) (kind : Kind) (n : ℕ) (entries : List ℤ) (end : ℕ) → ended bytes kind n entries end
-    ≡ judged (answer.andThen (answer.refuse (ltb end (length bytes)) bytesLeft end Accepted) (countsRefusal kind n entries)) (Given kind n entries)
+    ≡ unless (andThen (refuse (ltb end (length bytes)) bytesLeft end Accepted) (countsRefusal kind n entries)) (found (sheet kind n entries) end)
 ended-first bytes kind n entries end = either (ltb end (length bytes))
   where
-    either : (t : Bool) → refuse t bytesLeft end (judged (countsRefusal kind n entries) (Given kind n entries))
-        ≡ judged (answer.andThen (answer.refuse t bytesLeft end Accepted) (countsRefusal kind n entries)) (Given kind n entries)
+    either : (t : Bool) → then (cond t (refused (at bytesLeft end)) (found entries end)) (λ all last. unless (countsRefusal kind n all) (found (sheet kind n all) last))
+        ≡ unless (andThen (refuse t bytesLeft end Accepted) (countsRefusal kind n entries)) (found (sheet kind n entries) end)
     either true = refl
     either false = refl

@@ -11,12 +11,12 @@ ghost use lib.ListN.{length};
 ghost use Rattle.answer.specs.Outcome.{at, refuse, andThen};
 ghost use Rattle.answer.specs.Refusals.{bytesLeft};
 ghost use Rattle.codec.specs.Fields.{top};
-ghost use Rattle.codec.specs.Reading.{numberAt};
+ghost use Rattle.codec.specs.Reads.{refused};
 ghost use Rattle.vector.specs.InStruct.{entryCells, entriesOf};
 ghost use Rattle.vector_conversion.specs.Vectors.{vectorRefusal, countsRefusal};
-ghost use Rattle.sheet.specs.Sheets.{decoded, Refused, sheetOf, afterNumber};
+ghost use Rattle.sheet.specs.Sheets.{decoded, sheetOf};
 ghost use Rattle.sheet_reading.specs.Answers.{sheetRead};
-ghost use Rattle.sheet_reading.specs.Inside.{ended, entered, numbered};
+ghost use Rattle.sheet_reading.specs.Inside.{ended, entered, kinded};
 
 // What reading a sheet finds: its vector, or why there is none, and then a vector of no entries.
 pub struct SheetRead {
@@ -45,7 +45,7 @@ pub fn vector_of_sheet(bytes: &[u8]) -> SheetRead
 
 // A refused sheet.
 fn refused_sheet(number: u8, place: usize) -> SheetRead
-    ensures { λ r. ⌜ r ≡ sheetRead (Refused (at number place)) ⌝ }
+    ensures { λ r. ⌜ r ≡ sheetRead (refused (at number place)) ⌝ }
 {
     SheetRead {
         vector: Vector {
@@ -60,7 +60,7 @@ fn refused_sheet(number: u8, place: usize) -> SheetRead
 
 // n and what stands behind it, of a sheet of a kind.
 fn read_parts(bytes: &[u8], kind: Kind, start: usize) -> SheetRead
-    ensures { λ r. ⌜ r ≡ sheetRead (afterNumber (numberAt (now (bytes .entry)) start Field.Sheet) (numbered (now (bytes .entry)) kind)) ⌝ }
+    ensures { λ r. ⌜ r ≡ sheetRead (kinded (now (bytes .entry)) kind start) ⌝ }
 {
     let number = codec::read_number(bytes, start, Field::Sheet);
     match number {

@@ -2,7 +2,7 @@
 -- Assumes nothing.
 use mathlib.Core.Path.{_≡_, sym, ap, ap₂, _∙_}
 use mathlib.Core.Bool.{Bool, true, false, not, _&&_, _||_}
-use mathlib.Core.List.{List}
+use mathlib.Core.List.{List, List·Memᴰ}
 use mathlib.Core.Logic.{_⊎_, inl, inr}
 use Prim.Native.Nat.{ℕ, zero, suc, _+_, _-_, _*_, _^_, _≤_, _<_, min}
 use native.Mathlib.Nat.{add-sub-of-le, sub-le, lt-of-le-of-lt, lt-of-lt-of-le, min-eq-left}
@@ -22,7 +22,7 @@ use Rattle.theory_sets.proofs.Ranges.{any-same, those-same, those-skip, those-e
 use Rattle.theory_sets.proofs.Tables.{packed-same, tableLength-small, tableLength-large}
 use Rattle.structure_words.specs.Words.{inWords, wordsOf, among, bytesIn}
 use Rattle.structure_closure.specs.Closure.{without, spread, irredundant}
-use Rattle.structure_words.proofs.Words.{inWords-wordsOf}
+use Rattle.structure_words.proofs.Words.{inWords-wordsOf, wordsOf-same}
 use Rattle.structure_closure.proofs.ListedSets.{spread-listed, spread-beyond}
 use Rattle.structure_closure.proofs.MinimalSets.{irredundant-minimal}
 use Rattle.structure.specs.Accepted.{AcceptedTable}
@@ -122,20 +122,22 @@ minimal-walk n table t =
     ∙ those-near n (irredundant n works) few (λ a h. irredundant-beyond n works a (table-beyond n table (t .long) (t .clear) a h))
     ∙ those-same (irredundant n works) (minimal n works) (2 ^ n) (irredundant-minimal n works (t .semicoherent))
 
--- ---- the bytes of a list's table
+-- ---- the words and the bytes of a structure
 
-pub listed-walk : (n : ℕ) (list : List ℕ) → AcceptedList n list
-    → bytesIn (tableLength n) (wordsOf (spread (min n 16) (inWords (wordsOf (among list))))) ≡ tableOf n (listed list)
+-- the words of a structure give its table
+pub words-table : (n : ℕ) (works : ℕ → Bool) → n ≤ 16 → bytesIn (tableLength n) (wordsOf (λ a. ltb a (2 ^ n) && works a)) ≡ tableOf n works
 unfolding tableOf
-listed-walk n list l =
-    tabulate-unique (tableLength n) (λ b. packed 8 (λ i. ltb (8 * b + i) (2 ^ n) && listed list (8 * b + i))) (tabulate (tableLength n) stored) 0
+words-table n works few =
+    tabulate-unique (tableLength n) (λ b. packed 8 (λ i. bit (8 * b + i))) (tabulate (tableLength n) stored) 0
     (tabulate-length (tableLength n) stored) (λ b h.
     tabulate-at (tableLength n) stored b 0 h
-    ∙ packed-same 8 (λ i. inWords (wordsOf (spread (min n 16) (inWords (wordsOf (among list))))) (8 * b + i))
-    (λ i. ltb (8 * b + i) (2 ^ n) && listed list (8 * b + i)) (λ i k. bit (8 * b + i) (near b i h k)))
+    ∙ packed-same 8 (λ i. inWords (wordsOf bit) (8 * b + i)) (λ i. bit (8 * b + i)) (λ i k. inWords-wordsOf bit (8 * b + i) (near b i h k)))
   where
+    bit : ℕ → Bool
+    bit a = ltb a (2 ^ n) && works a
+
     stored : ℕ → ℕ
-    stored b = packed 8 (λ i. inWords (wordsOf (spread (min n 16) (inWords (wordsOf (among list))))) (8 * b + i))
+    stored b = packed 8 (λ i. inWords (wordsOf bit) (8 * b + i))
 
     near : (b i : ℕ) → b < tableLength n → i < 8 → 8 * b + i < 65536
     near b i h k = cases (below-or-above n 3)
@@ -144,15 +146,24 @@ listed-walk n list l =
         cases (inl small) = omega (arith, tableLength-small n small)
         cases (inr large) =
             let whole : 8 * tableLength n ≡ 2 ^ n = tableLength-large n large in
-            let inside : 2 ^ n ≤ 65536 = pow-mono (l .few) in
+            let inside : 2 ^ n ≤ 65536 = pow-mono few in
             omega arith
 
-    bit : (a : ℕ) → a < 65536 → inWords (wordsOf (spread (min n 16) (inWords (wordsOf (among list))))) a ≡ ltb a (2 ^ n) && listed list a
-    bit a h =
-        inWords-wordsOf (spread (min n 16) (inWords (wordsOf (among list)))) a h
-        ∙ ap (λ (k : ℕ). spread k (inWords (wordsOf (among list))) a) (min-eq-left (l .few))
-        ∙ spread-same (inWords (wordsOf (among list))) (among list) (inWords-wordsOf (among list)) n a h ∙ cases (below-or-above a (2 ^ n))
-      where
-        cases : (a < 2 ^ n) ⊎ (2 ^ n ≤ a) → spread n (among list) a ≡ ltb a (2 ^ n) && listed list a
-        cases (inl below) = spread-listed n list (λ b m. l .sets b m .0) a below ∙ sym (rw (lt-ltb a (2 ^ n) below))
-        cases (inr above) = spread-beyond n list (λ b m. l .sets b m .0) a above ∙ sym (rw (le-ltb a (2 ^ n) above))
+-- the marked sets of a list, carried over its parts, are the words of its structure
+pub listed-words : (n : ℕ) (list : List ℕ) → n ≤ 16 → ((a : ℕ) → List·Memᴰ a list → a < 2 ^ n)
+    → wordsOf (spread (min n 16) (inWords (wordsOf (among list)))) ≡ wordsOf (λ a. ltb a (2 ^ n) && listed list a)
+listed-words n list few within =
+    wordsOf-same (spread (min n 16) (inWords (wordsOf (among list)))) (λ a. ltb a (2 ^ n) && listed list a) (λ a h.
+    ap (λ (k : ℕ). spread k (inWords (wordsOf (among list))) a) (min-eq-left few)
+    ∙ spread-same (inWords (wordsOf (among list))) (among list) (inWords-wordsOf (among list)) n a h ∙ cases a (below-or-above a (2 ^ n)))
+  where
+    cases : (a : ℕ) → (a < 2 ^ n) ⊎ (2 ^ n ≤ a) → spread n (among list) a ≡ ltb a (2 ^ n) && listed list a
+    cases a (inl below) = spread-listed n list within a below ∙ sym (rw (lt-ltb a (2 ^ n) below))
+    cases a (inr above) = spread-beyond n list within a above ∙ sym (rw (le-ltb a (2 ^ n) above))
+
+-- so they give its table
+pub listed-walk : (n : ℕ) (list : List ℕ) → AcceptedList n list
+    → bytesIn (tableLength n) (wordsOf (spread (min n 16) (inWords (wordsOf (among list))))) ≡ tableOf n (listed list)
+listed-walk n list l =
+    ap (bytesIn (tableLength n)) (listed-words n list (l .few) (λ a m. l .sets a m .0))
+    ∙ words-table n (listed list) (l .few)

@@ -5,7 +5,8 @@ use Prim.Native.Nat.{ℕ, suc, _-_, _^_}
 use lib.Dec.{leb, ltb, eqb}
 use lib.ListN.{length}
 use Rattle.answer.specs.Outcome.{refuse}
-use Rattle.answer.specs.Refusals.{wrongPartCount, emptyList, longList, unknownPart, emptySet, wrongTableLength, unusedBit, emptySetWorks, fullSetFails, brokenSet, emptyGroup, unknownGroupPart}
+use Rattle.answer.specs.Checks.{partCountRefusal, maskRefusal}
+use Rattle.answer.specs.Refusals.{emptyList, longList, wrongTableLength, unusedBit, emptySetWorks, fullSetFails, brokenSet, emptyGroup, unknownGroupPart}
 use Rattle.answer.specs.declared.Verdict.{Verdict}
 use Rattle.answer.specs.declared.Verdict.the-variants.{Accepted}
 use Rattle.theory_orders.specs.Antichains.{mostSets}
@@ -13,20 +14,15 @@ use Rattle.theory_sets.specs.Masks.{any, least}
 use Rattle.theory_sets.specs.Structures.{broken}
 use Rattle.theory_sets.specs.Tables.{inTable, tableLength}
 
--- n, always first
-abbrev pub partsRefusal : ℕ → Verdict → Verdict
-partsRefusal n later = refuse (not (leb 1 n && leb n 16)) wrongPartCount 0 later
-
 -- list entries, in order, each with its index as place
 unfoldable pub entriesRefusal : ℕ → ℕ → List ℕ → Verdict
 entriesRefusal n index [] = Accepted
-entriesRefusal n index (mask ∷ rest) =
-    refuse (leb (2 ^ n) mask) unknownPart index (refuse (eqb mask 0) emptySet index (entriesRefusal n (suc index) rest))
+entriesRefusal n index (mask ∷ rest) = maskRefusal n index mask (entriesRefusal n (suc index) rest)
 
--- the first refusal of a list of sets
+-- the first refusal of a list of sets: n always first
 unfoldable pub listRefusal : ℕ → List ℕ → Verdict
 listRefusal n list =
-    partsRefusal n (refuse (eqb (length list) 0) emptyList 0 (refuse (ltb mostSets (length list)) longList 0 (entriesRefusal n 0 list)))
+    partCountRefusal 0 n (refuse (eqb (length list) 0) emptyList 0 (refuse (ltb mostSets (length list)) longList 0 (entriesRefusal n 0 list)))
 
 -- a bit of a table's only byte that stands for no set of n parts
 abbrev pub unused : ℕ → List ℕ → Bool
@@ -42,7 +38,7 @@ structureRefusal n works =
 -- the first refusal of a table
 unfoldable pub tableRefusal : ℕ → List ℕ → Verdict
 tableRefusal n table =
-    partsRefusal n
+    partCountRefusal 0 n
     (refuse (not (eqb (length table) (tableLength n))) wrongTableLength 0
     (refuse (unused n table) unusedBit 0 (structureRefusal n (inTable table))))
 

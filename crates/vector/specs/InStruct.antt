@@ -9,7 +9,7 @@ use Rattle.answer.specs.Outcome.{refuse}
 use Rattle.answer.specs.Refusals.{wrongVectorLength}
 use Rattle.answer.specs.declared.Verdict.{Verdict}
 use Rattle.answer.specs.declared.Verdict.the-variants.{Accepted, Refused}
-use Rattle.structure.specs.Checks.{partsRefusal}
+use Rattle.answer.specs.Checks.{partCountRefusal}
 use Rattle.vector_kind.specs.Kinds.{lengthOf}
 use Rattle.vector_conversion.specs.Vectors.{countsRefusal, converted}
 use Rattle.vector.specs.declared.Converted.{Converted}
@@ -40,7 +40,7 @@ entriesOf vector = take (vector .length) (vector .entries)
 -- the first refusal of a vector: 1, then 12 where its length is not the kind's, then 13 and 14
 unfoldable pub structRefusal : Vector → Verdict
 structRefusal vector =
-    partsRefusal (vector .n)
+    partCountRefusal 0 (vector .n)
     (refuse (not (eqb (vector .length) (lengthOf (vector .kind) (vector .n)))) wrongVectorLength 0
     (countsRefusal (vector .kind) (vector .n) (entriesOf vector)))
 

@@ -15,7 +15,7 @@ use Rattle.answer.specs.Outcome.{refuse}
 use Rattle.answer.specs.Refusals.{wrongVectorLength, wrongPathCount, fallingProportion}
 use Rattle.answer.specs.declared.Verdict.{Verdict}
 use Rattle.answer.specs.declared.Verdict.the-variants.{Accepted}
-use Rattle.structure.specs.Checks.{partsRefusal}
+use Rattle.answer.specs.Checks.{partCountRefusal}
 use Rattle.theory_figures.specs.Figures.{tail, signature, domination, pathCounts, tails, signatures, dominations}
 use Rattle.vector_kind.specs.Kinds.{lengthOf}
 use Rattle.vector_kind.specs.declared.Kind.{Kind}
@@ -85,7 +85,7 @@ countsRefusal kind n entries = pathCountsRefusal n (standsFor kind n entries)
 -- the first refusal of a vector
 unfoldable pub vectorRefusal : Kind → ℕ → List ℤ → Verdict
 vectorRefusal kind n entries =
-    partsRefusal n (refuse (not (eqb (length entries) (lengthOf kind n))) wrongVectorLength 0 (countsRefusal kind n entries))
+    partCountRefusal 0 n (refuse (not (eqb (length entries) (lengthOf kind n))) wrongVectorLength 0 (countsRefusal kind n entries))
 
 -- ---- what it converts to
 

@@ -1,10 +1,11 @@
 -- `codec::read_number` meets its contract. The loop's invariant: it walks along the number's bytes (`Walked`), all with bit 7 set so far; the
 -- three ways out are the three ways in which a walk ends. The measure is the groups left. Nine groups are 63 bits, so no sum wraps.
 -- Assumes nothing.
-use mathlib.Core.Path.{sym, _∙_}
+use mathlib.Core.Path.{sym, ap, _∙_}
 use Prim.Native.Nat.{_+_, _-_, _*_, _^_, _<_, _≤_}
 use native.Mathlib.Omega.{arith}
 use borrow.Author.Needs.{needs}
+use Rattle.codec.specs.Reads.{readingOf}
 use Rattle.codec.proofs.Fields.{allowed}
 use Rattle.codec.proofs.Walk.{Walked, walked-none, walked-more, walked-over, walked-short, walked-last, walked-fits, walked-weight}
 use Rattle.codec.proofs.read_number.Statement.{statement}
@@ -32,7 +33,7 @@ refused-requires c κs = search needs
 returns : tie.Need-returns Inv-loop μ-loop
 returns c =
     let l = c .before .before .before in
-    c .refused .ensures ∙ sym (walked-short (l .loop .inv) _ (l .before .groups .ensures) (omega arith) (omega arith))
+    c .refused .ensures ∙ sym (ap readingOf (walked-short (l .loop .inv) _ (l .before .groups .ensures) (omega arith) (omega arith)))
 
 shared-slice-read-wide : tie.Need-shared-slice-read-wide Inv-loop μ-loop
 shared-slice-read-wide c = search needs
@@ -65,8 +66,9 @@ returns-2 c =
     let l = c .before .before .before .before .before .before in
     rw (c .ended .ensures)
     (sym
+    (ap readingOf
     (walked-last (l .loop .inv) _ (l .before .groups .ensures) _ _ (c .before .before .wide .ensures) (l .before .before .top .ensures)
-    (omega arith) (omega arith) (omega arith)))
+    (omega arith) (omega arith) (omega arith))))
 
 group-fits : (c : tie.Else2 Inv-loop μ-loop) → c .before .before .before .before .before .loop .value + (c .before .wide .result - 128) * c .before .before .before .before .before .loop .weight < 2 ^ 63
 group-fits c =
@@ -103,7 +105,7 @@ refused-requires-2 c κs = search needs
 returns-3 : tie.Need-returns-3 Inv-loop μ-loop
 returns-3 c =
     let l = c .before .before in
-    c .refused2 .ensures ∙ sym (walked-over (l .loop .inv) _ (l .before .groups .ensures) (omega arith))
+    c .refused2 .ensures ∙ sym (ap readingOf (walked-over (l .loop .inv) _ (l .before .groups .ensures) (omega arith)))
 
 pub read-number-spec : {M : Type 1} → statement M
 read-number-spec =

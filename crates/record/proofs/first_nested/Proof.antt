@@ -7,6 +7,7 @@ use native.Mathlib.Nat.{sub-zero}
 use native.Mathlib.Omega.{arith}
 use denote.Ref.{now}
 use borrow.Author.Needs.{needs}
+use Rattle.codec.proofs.Found.{answer-number, answer-refused}
 use Rattle.structure_words.specs.Words.{inWords}
 use Rattle.record.specs.Inside.{nestedAt}
 use Rattle.record.proofs.Marking.{nested-ended, nested-here, nested-past, nested-none}
@@ -40,7 +41,7 @@ returns c =
     let l = read .before .before in
     let a = l .before .before .before .args in
     nested-ended (now (a .bytes)) (inWords (now (a .minimal))) (a .count) (l .loop .index) (l .loop .next) (read .before .loop-test .taken) _
-    (sym (read .read-number .ensures) ∙ c .enum-told .given .1) ∙ l .loop .inv .1
+    (answer-refused _ _ (sym (c .enum-told .given .1) ∙ read .read-number .ensures)) ∙ l .loop .inv .1
 
 works-requires : tie.Need-works-requires Inv-loop μ-loop
 works-requires c κs = search needs
@@ -56,7 +57,7 @@ returns-2 c =
     let a = l .before .before .before .args in
     c .refused .ensures
     ∙ nested-here (now (a .bytes)) (inWords (now (a .minimal))) (a .count) (l .loop .index) (l .loop .next) (read .before .loop-test .taken) _ _
-    (sym (read .read-number .ensures) ∙ told .number .given .1) (ap not (sym (c .before .before .works .ensures)) ∙ c .before .if1 .taken) ∙ l .loop .inv .1
+    (answer-number _ _ _ (sym (told .number .given .1) ∙ read .read-number .ensures)) (ap not (sym (c .before .before .works .ensures)) ∙ c .before .if1 .taken) ∙ l .loop .inv .1
 
 add-index : tie.Need-add-index Inv-loop μ-loop
 add-index c = omega arith
@@ -72,7 +73,7 @@ loop-again c =
     let a = l .before .before .before .args in (
       omega arith,
       nested-past (now (a .bytes)) (inWords (now (a .minimal))) (a .count) (l .loop .index) (l .loop .next) (read .before .loop-test .taken) _ _
-          (sym (read .read-number .ensures) ∙ told .number .given .1) (ap not (sym (c .before .works .ensures)) ∙ c .if1 .left) ∙ l .loop .inv .1,
+          (answer-number _ _ _ (sym (told .number .given .1) ∙ read .read-number .ensures)) (ap not (sym (c .before .works .ensures)) ∙ c .if1 .left) ∙ l .loop .inv .1,
     )
 
 returns-3 : tie.Need-returns-3 Inv-loop μ-loop

@@ -1,13 +1,13 @@
 -- `record::mark_sets` meets its contract. The loop's invariant: it walks along the sets (`MarkWalk`), those so far marked. The measure is the
 -- sets left.
 -- Assumes nothing.
-use mathlib.Core.Path.{sym, ap, _∙_}
+use mathlib.Core.Path.{sym, _∙_}
 use Prim.Native.Nat.{_-_, _<_}
 use native.Mathlib.Omega.{arith}
 use denote.Ref.{now}
 use borrow.Author.Needs.{needs}
 use Rattle.answer.specs.declared.Verdict.the-variants.{Accepted}
-use Rattle.record_head.specs.Inside.{asRead}
+use Rattle.codec.proofs.Found.{answer-number, answer-refused}
 use Rattle.record.proofs.Marking.{MarkWalk, mark-walk-none, mark-walk-below, mark-walk-more, mark-walk-refused, mark-walk-end, marked-of}
 use Rattle.record.proofs.mark_sets.Statement.{statement}
 use Rattle.record.proofs.mark_sets.Tie as tie
@@ -34,7 +34,7 @@ returns c =
     let read = told .before .before in
     let l = read .before .before in
     marked-of (l .loop .inv) _
-    (mark-walk-refused (l .loop .inv) (read .before .loop-test .taken) _ (sym (ap asRead (told .set .given .1)) ∙ read .read-set .ensures))
+    (mark-walk-refused (l .loop .inv) (read .before .loop-test .taken) _ (sym (answer-refused _ _ (sym (told .set .given .1) ∙ read .read-set .ensures))))
 
 enum-known-set-2 : tie.Need-enum-known-set-2 Inv-loop μ-loop
 enum-known-set-2 c = search needs
@@ -44,7 +44,7 @@ small : (c : tie.After-known-told2 Inv-loop μ-loop) → c .before .set2 .given 
 small c =
     let read = c .before .before .before in
     let l = read .before .before in
-    mark-walk-below (l .loop .inv) (l .before .before .pre) _ _ (sym (ap asRead (c .before .set2 .given .1)) ∙ read .read-set .ensures)
+    mark-walk-below (l .loop .inv) (l .before .before .pre) _ _ (sym (answer-number _ _ _ (sym (c .before .set2 .given .1) ∙ read .read-set .ensures)))
 
 mul-words : tie.Need-mul-words Inv-loop μ-loop
 mul-words c = omega (arith, small c)
@@ -71,7 +71,7 @@ loop-again : tie.Need-loop-again Inv-loop μ-loop
 loop-again c =
     let read = c .before .before .before in
     let l = read .before .before in
-    mark-walk-more (l .loop .inv) (read .before .loop-test .taken) _ _ (small c) (sym (ap asRead (c .before .set2 .given .1)) ∙ read .read-set .ensures)
+    mark-walk-more (l .loop .inv) (read .before .loop-test .taken) _ _ (small c) (sym (answer-number _ _ _ (sym (c .before .set2 .given .1) ∙ read .read-set .ensures)))
 
 returns-2 : tie.Need-returns-2 Inv-loop μ-loop
 returns-2 c =

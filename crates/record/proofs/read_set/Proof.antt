@@ -9,9 +9,10 @@ use Rattle.answer.specs.Refusals.{unknownPart, emptySet, wrongSet}
 use Rattle.answer.specs.Outcome.{at}
 use Rattle.answer.proofs.Outcomes.{refuse-held, refuse-passed}
 use Rattle.numbers.proofs.Counts.{upTo16-given}
-use Rattle.record_head.specs.Inside.{asRead}
+use Rattle.codec.specs.declared.Field.the-variants.{Set}
+use Rattle.codec.specs.Reads.{readingOf}
 use Rattle.record.specs.Inside.{risingRefusal}
-use Rattle.record_head.proofs.Found.{field-ended, field-passed, field-held}
+use Rattle.codec.proofs.Found.{field-ended, field-passed, field-held}
 use Rattle.record.proofs.read_set.Statement.{statement}
 use Rattle.record.proofs.read_set.Tie as tie
 
@@ -41,9 +42,9 @@ returns c =
     let a = read .before .before .args in
     let v : ℕ = told .number2 .given .0 .0 in
     let unknown : 2 ^ (a .n) ≤ v = subst (λ (x : ℕ). x ≤ v) (whole (c .before .before)) (c .before .if1 .taken) in
-    ap asRead (c .refused .ensures)
-    ∙ field-held (now (a .bytes)) (a .start) (risingRefusal (a .n) (a .previous) (a .start)) (read .read-number .ensures) _ _ (at unknownPart (a .start)) (told .number2 .given .1)
-    (refuse-held _ unknownPart (a .start) _ (le-leb (2 ^ (a .n)) v unknown))
+    c .refused .ensures
+    ∙ ap readingOf (field-held (now (a .bytes)) (a .start) Set (risingRefusal (a .n) (a .previous) (a .start)) (read .read-number .ensures) _ _ (at unknownPart (a .start)) (told .number2 .given .1)
+    (refuse-held _ unknownPart (a .start) _ (le-leb (2 ^ (a .n)) v unknown)))
 
 refused-requires-2 : tie.Need-refused-requires-2
 refused-requires-2 c κs = search needs
@@ -55,9 +56,9 @@ returns-2 c =
     let a = read .before .before .args in
     let v : ℕ = told .number2 .given .0 .0 in
     let known : v < 2 ^ (a .n) = subst (λ (x : ℕ). v < x) (whole (c .before .before .before)) (c .before .before .if1 .left) in
-    ap asRead (c .refused2 .ensures)
-    ∙ field-held (now (a .bytes)) (a .start) (risingRefusal (a .n) (a .previous) (a .start)) (read .read-number .ensures) _ _ (at emptySet (a .start)) (told .number2 .given .1)
-    (refuse-passed _ unknownPart (a .start) _ (lt-leb (2 ^ (a .n)) v known) ∙ refuse-held _ emptySet (a .start) _ (eq-eqb v 0 (c .before .if2 .taken)))
+    c .refused2 .ensures
+    ∙ ap readingOf (field-held (now (a .bytes)) (a .start) Set (risingRefusal (a .n) (a .previous) (a .start)) (read .read-number .ensures) _ _ (at emptySet (a .start)) (told .number2 .given .1)
+    (refuse-passed _ unknownPart (a .start) _ (lt-leb (2 ^ (a .n)) v known) ∙ refuse-held _ emptySet (a .start) _ (eq-eqb v 0 (c .before .if2 .taken))))
 
 refused-requires-3 : tie.Need-refused-requires-3
 refused-requires-3 c κs = search needs
@@ -69,16 +70,16 @@ returns-3 c =
     let a = read .before .before .args in
     let v : ℕ = told .number2 .given .0 .0 in
     let known : v < 2 ^ (a .n) = subst (λ (x : ℕ). v < x) (whole (c .before .before .before .before)) (c .before .before .before .if1 .left) in
-    ap asRead (c .refused3 .ensures)
-    ∙ field-held (now (a .bytes)) (a .start) (risingRefusal (a .n) (a .previous) (a .start)) (read .read-number .ensures) _ _ (at wrongSet (a .start)) (told .number2 .given .1)
+    c .refused3 .ensures
+    ∙ ap readingOf (field-held (now (a .bytes)) (a .start) Set (risingRefusal (a .n) (a .previous) (a .start)) (read .read-number .ensures) _ _ (at wrongSet (a .start)) (told .number2 .given .1)
     (refuse-passed _ unknownPart (a .start) _ (lt-leb (2 ^ (a .n)) v known) ∙ refuse-passed _ emptySet (a .start) _ (ne-eqb v 0 (c .before .before .if2 .left))
-    ∙ refuse-held _ wrongSet (a .start) _ (le-leb v (a .previous) (c .before .if3 .taken)))
+    ∙ refuse-held _ wrongSet (a .start) _ (le-leb v (a .previous) (c .before .if3 .taken))))
 
 returns-4 : tie.Need-returns-4
 returns-4 c =
     let read = c .before .before .before in
     let a = read .before .before .args in
-    field-ended (now (a .bytes)) (a .start) (risingRefusal (a .n) (a .previous) (a .start)) (read .read-number .ensures) _ (c .before .number .given .1)
+    ap readingOf (field-ended (now (a .bytes)) (a .start) Set (risingRefusal (a .n) (a .previous) (a .start)) (read .read-number .ensures) _ (c .before .number .given .1))
 
 returns-5 : tie.Need-returns-5
 returns-5 c =
@@ -87,9 +88,9 @@ returns-5 c =
     let a = read .before .before .args in
     let v : ℕ = told .number2 .given .0 .0 in
     let known : v < 2 ^ (a .n) = subst (λ (x : ℕ). v < x) (whole (c .before .before .before)) (c .before .before .if1 .left) in
-    field-passed (now (a .bytes)) (a .start) (risingRefusal (a .n) (a .previous) (a .start)) (read .read-number .ensures) _ _ (told .number2 .given .1)
+    ap readingOf (field-passed (now (a .bytes)) (a .start) Set (risingRefusal (a .n) (a .previous) (a .start)) (read .read-number .ensures) _ _ (told .number2 .given .1)
     (refuse-passed _ unknownPart (a .start) _ (lt-leb (2 ^ (a .n)) v known) ∙ refuse-passed _ emptySet (a .start) _ (ne-eqb v 0 (c .before .if2 .left))
-    ∙ refuse-passed _ wrongSet (a .start) _ (lt-leb v (a .previous) (c .if3 .left)))
+    ∙ refuse-passed _ wrongSet (a .start) _ (lt-leb v (a .previous) (c .if3 .left))))
 
 pub read-set-spec : {M : Type 1} → statement M
 read-set-spec =

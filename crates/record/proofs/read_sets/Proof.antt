@@ -6,13 +6,13 @@ use Prim.Native.Nat.{ℕ, min}
 use denote.Ref.{now}
 use borrow.Author.Needs.{needs}
 use Rattle.answer.specs.declared.Verdict.{Verdict}
+use Rattle.answer.specs.declared.Verdict.the-variants.{Accepted}
 use Rattle.structure_words.specs.Words.{inWords, wordsOf}
 use Rattle.structure_closure.specs.Closure.{spread, irredundant}
-use Rattle.record.specs.declared.Ending.the-variants as ending
 use Rattle.record.specs.declared.Marked.{Marked}
 use Rattle.record.specs.Records.{setsAt}
-use Rattle.record.specs.Inside.{endingOf, Pass, risingAt, nestedAt, decided}
-use Rattle.record.proofs.Answers.{decided-nested, decided-refused, decided-given}
+use Rattle.record.specs.Inside.{setsReadOf, Pass, risingAt, nestedAt, decided}
+use Rattle.record.proofs.Answers.{decided-nested, decided-refused, decided-given, pass-words}
 use Rattle.record.proofs.Passes.{passes-decide}
 use Rattle.record.proofs.read_sets.Statement.{statement}
 use Rattle.record.proofs.read_sets.Tie as tie
@@ -56,10 +56,14 @@ passes c =
     ∙ ap (λ (v : Verdict). decided v p)
     (sym (c .first-nested .ensures ∙ ap₂ (λ (w : List ℕ) (r : ℕ). nestedAt (now (a .bytes)) (inWords w) r (a .start)) minimal (ap (λ (m : Marked). m .read) marked)))
 
+refused-sets-requires : tie.Need-refused-sets-requires
+refused-sets-requires c κs = search needs
+
 returns : tie.Need-returns
 returns c =
-    let read = c .before .before .before in
-    sym (ap endingOf (passes read ∙ decided-nested _ _ _ (c .before .nested .given .1)))
+    let read = c .before .before .before .before in
+    let a = read .before .before .before .before .before .before .before .before .before .args in
+    c .refused-sets .ensures ∙ sym (ap (setsReadOf (a .n)) (passes read ∙ decided-nested _ _ _ (c .before .before .nested .given .1)))
 
 enum-told : tie.Need-enum-told
 enum-told c = search needs
@@ -67,24 +71,32 @@ enum-told c = search needs
 enum-known-verdict : tie.Need-enum-known-verdict
 enum-known-verdict c = search needs
 
+refused-sets-requires-2 : tie.Need-refused-sets-requires-2
+refused-sets-requires-2 c κs = search needs
+
 enum-told-2 : tie.Need-enum-told-2
 enum-told-2 c = search needs
 
 returns-2 : tie.Need-returns-2
 returns-2 c =
-    let told = c .before .before .before in
+    let told = c .before .before .before .before in
     let read = told .before .before in
     let marks = read .before .before .before .before .before .before .before in
-    sym (ap endingOf (passes read ∙ decided-refused _ _ _ (told .enum-told .given .1) (sym (ap (λ (m : Marked). m .verdict) (marks .mark-sets .ensures)) ∙ c .before .verdict .given .1)))
+    let a = marks .before .before .args in
+    c .refused-sets2 .ensures
+    ∙ sym (ap (setsReadOf (a .n)) (passes read ∙ decided-refused _ _ _ (told .enum-told .given .1) (sym (ap (λ (m : Marked). m .verdict) (marks .mark-sets .ensures)) ∙ c .before .before .verdict .given .1)))
 
 returns-3 : tie.Need-returns-3
 returns-3 c =
     let told = c .before .before in
     let read = told .before .before in
     let marks = read .before .before .before .before .before .before .before in
+    let a = marks .before .before .args in
     let marked = marks .mark-sets .ensures in
-    ap ending.At (ap (λ (m : Marked). m .next) marked)
-    ∙ sym (ap endingOf (passes read ∙ decided-given _ _ (told .enum-told .given .1) (sym (ap (λ (m : Marked). m .verdict) marked) ∙ c .enum-told2 .given .1)))
+    let words = read .before .before .before .before .spread .ensures ∙ ap (λ (m : Marked). wordsOf (spread (min (a .n) 16) (inWords (m .words)))) marked
+    ∙ pass-words (now (a .bytes)) (a .n) (a .count) (a .start) (marks .before .before .pre) in
+    ap₂ (λ (w : List ℕ) (end : ℕ). record { words = w; end = end; verdict = Accepted }) words (ap (λ (m : Marked). m .next) marked)
+    ∙ sym (ap (setsReadOf (a .n)) (passes read ∙ decided-given _ _ (told .enum-told .given .1) (sym (ap (λ (m : Marked). m .verdict) marked) ∙ c .enum-told2 .given .1)))
 
 pub read-sets-spec : {M : Type 1} → statement M
 read-sets-spec =
@@ -98,9 +110,11 @@ read-sets-spec =
     slice-aggregate-first-nested
     first-nested-requires
     enum-known-nested
+    refused-sets-requires
     returns
     enum-told
     enum-known-verdict
+    refused-sets-requires-2
     enum-told-2
     returns-2
     returns-3)

@@ -8,7 +8,7 @@ use denote.Ref.{now}
 use lib.ListN.{length, take}
 use lib.Seq.{take-all}
 use Rattle.codec.proofs.ByteForms.{bytes-at-most}
-use Rattle.record_head.specs.HeadingBytes.{formsOf}
+use Rattle.codec.specs.ByteForm.{formsOf}
 use Rattle.record_changes.proofs.Writing.{forms-longer, forms-part, forms-most}
 use borrow.Author.Needs.{needs}
 use Rattle.record_changes.proofs.numbers_length.Statement.{statement}

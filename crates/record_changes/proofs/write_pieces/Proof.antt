@@ -9,11 +9,10 @@ use lib.ListN.{length, length-append}
 use Rattle.answer.specs.Outcome.{delivered}
 use Rattle.answer.specs.declared.Verdict.the-variants.{Accepted}
 use Rattle.answer.proofs.Outcomes.{InFront, in-front-none, in-front-length, in-front-delivered}
-use Rattle.codec.specs.ByteForm.{bytesOf}
+use Rattle.codec.specs.ByteForm.{bytesOf, formsOf}
 use Rattle.answer.proofs.Placing.{in-front-more}
 use Rattle.record_parts.specs.PartLists.{listOf}
 use Rattle.record.specs.Records.{design}
-use Rattle.record_head.specs.HeadingBytes.{formsOf}
 use Rattle.record.specs.RecordBytes.{recordBytes}
 use Rattle.record_changes.proofs.Writing.{pieces, record-pieces, record-length}
 use borrow.Author.Needs.{needs}

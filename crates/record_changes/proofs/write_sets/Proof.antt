@@ -8,7 +8,7 @@ use lib.ListN.{length, take}
 use Rattle.answer.specs.Outcome.{outcome}
 use Rattle.answer.specs.Placed.{placed}
 use Rattle.answer.proofs.Forms.{placed-length}
-use Rattle.record_head.specs.HeadingBytes.{formsOf}
+use Rattle.codec.specs.ByteForm.{formsOf}
 use Rattle.record_changes.proofs.Writing.{forms-none, forms-more, forms-all}
 use borrow.Author.Needs.{needs}
 use Rattle.record_changes.proofs.write_sets.Statement.{statement}

@@ -3,8 +3,9 @@
 use mathlib.Core.Path.{_≡_, sym, ap, _∙_}
 use denote.Ref.{now}
 use borrow.Author.Needs.{needs}
-use Rattle.record_head.specs.Headings.{found, partsAt, headingOf}
-use Rattle.record_head.specs.Inside.{asRead}
+use Rattle.codec.specs.Reads.{found}
+use Rattle.codec.proofs.Found.{answer-number, answer-refused}
+use Rattle.record_head.specs.Headings.{partsAt, headingOf}
 use Rattle.record_head.proofs.Answers.{parts-given, parts-refused, head-no-parts, head-no-count, head-given}
 use Rattle.record_head.proofs.read_heading.Statement.{statement}
 use Rattle.record_head.proofs.read_heading.Tie as tie
@@ -54,7 +55,7 @@ returns-2 c =
     let parts = read .before .before in
     let a = parts .before .before .before .before .args in
     c .refused-heading2 .ensures
-    ∙ sym (ap headingOf (head-no-count (now (a .bytes)) (a .start) _ _ _ (listed parts) (sym (read .read-set-count .ensures) ∙ ap asRead (told .count .given .1))))
+    ∙ sym (ap headingOf (head-no-count (now (a .bytes)) (a .start) _ _ _ (listed parts) (answer-refused _ _ (sym (told .count .given .1) ∙ read .read-set-count .ensures))))
 
 returns-3 : tie.Need-returns-3
 returns-3 c =
@@ -62,7 +63,7 @@ returns-3 c =
     let read = told .before .before in
     let parts = read .before .before in
     let a = parts .before .before .before .before .args in
-    sym (ap headingOf (head-given (now (a .bytes)) (a .start) _ _ _ _ (listed parts) (sym (read .read-set-count .ensures) ∙ ap asRead (told .count2 .given .1))))
+    sym (ap headingOf (head-given (now (a .bytes)) (a .start) _ _ _ _ (listed parts) (answer-number _ _ _ (sym (told .count2 .given .1) ∙ read .read-set-count .ensures))))
 
 pub read-heading-spec : {M : Type 1} → statement M
 read-heading-spec =

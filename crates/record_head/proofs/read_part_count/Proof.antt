@@ -1,15 +1,17 @@
 -- `record_head::read_part_count` meets its contract: 21 and 22 come from the number, and then 1 is asked.
 -- Assumes nothing.
 use mathlib.Core.Path.{ap, _∙_}
+use native.Mathlib.Nat.{pos-of-ne-zero}
 use denote.Ref.{now}
 use borrow.Author.Needs.{needs}
-use borrow.Author.Tests.{eq-eqb, ne-eqb, lt-ltb, le-ltb}
 use Rattle.answer.specs.Refusals.{wrongPartCount}
 use Rattle.answer.specs.Outcome.{at}
-use Rattle.answer.proofs.Outcomes.{refuse-held, refuse-passed}
-use Rattle.record_head.specs.Inside.{asRead}
-use Rattle.record_head.specs.Headings.{partCountRefusal}
-use Rattle.record_head.proofs.Found.{field-ended, field-passed, field-held}
+use Rattle.answer.specs.declared.Verdict.the-variants.{Accepted}
+use Rattle.answer.proofs.Checks.{parts-none, parts-over, parts-passed}
+use Rattle.codec.specs.declared.Field.the-variants.{Count}
+use Rattle.codec.specs.Reads.{readingOf}
+use Rattle.record_head.specs.Headings.{partsRefusal}
+use Rattle.codec.proofs.Found.{field-ended, field-passed, field-held}
 use Rattle.record_head.proofs.read_part_count.Statement.{statement}
 use Rattle.record_head.proofs.read_part_count.Tie as tie
 
@@ -30,9 +32,9 @@ returns c =
     let told = c .before .before .before in
     let read = told .before .before in
     let a = read .before .before .args in
-    ap asRead (c .refused .ensures)
-    ∙ field-held (now (a .bytes)) (a .start) (partCountRefusal (a .start)) (read .read-number .ensures) _ _ (at wrongPartCount (a .start)) (told .number2 .given .1)
-    (refuse-held _ wrongPartCount (a .start) _ (eq-eqb _ 0 (c .before .if1 .taken)))
+    c .refused .ensures
+    ∙ ap readingOf (field-held (now (a .bytes)) (a .start) Count (partsRefusal (a .start)) (read .read-number .ensures) _ _ (at wrongPartCount (a .start)) (told .number2 .given .1)
+    (parts-none (a .start) _ Accepted (c .before .if1 .taken)))
 
 refused-requires-2 : tie.Need-refused-requires-2
 refused-requires-2 c κs = search needs
@@ -42,23 +44,23 @@ returns-2 c =
     let told = c .before .before .before .before in
     let read = told .before .before in
     let a = read .before .before .args in
-    ap asRead (c .refused2 .ensures)
-    ∙ field-held (now (a .bytes)) (a .start) (partCountRefusal (a .start)) (read .read-number .ensures) _ _ (at wrongPartCount (a .start)) (told .number2 .given .1)
-    (refuse-passed _ wrongPartCount (a .start) _ (ne-eqb _ 0 (c .before .before .if1 .left)) ∙ refuse-held _ wrongPartCount (a .start) _ (lt-ltb 16 _ (c .before .if2 .taken)))
+    c .refused2 .ensures
+    ∙ ap readingOf (field-held (now (a .bytes)) (a .start) Count (partsRefusal (a .start)) (read .read-number .ensures) _ _ (at wrongPartCount (a .start)) (told .number2 .given .1)
+    (parts-over (a .start) _ Accepted (pos-of-ne-zero (c .before .before .if1 .left)) (c .before .if2 .taken)))
 
 returns-3 : tie.Need-returns-3
 returns-3 c =
     let read = c .before .before .before in
     let a = read .before .before .args in
-    field-ended (now (a .bytes)) (a .start) (partCountRefusal (a .start)) (read .read-number .ensures) _ (c .before .number .given .1)
+    ap readingOf (field-ended (now (a .bytes)) (a .start) Count (partsRefusal (a .start)) (read .read-number .ensures) _ (c .before .number .given .1))
 
 returns-4 : tie.Need-returns-4
 returns-4 c =
     let told = c .before .before .before in
     let read = told .before .before in
     let a = read .before .before .args in
-    field-passed (now (a .bytes)) (a .start) (partCountRefusal (a .start)) (read .read-number .ensures) _ _ (told .number2 .given .1)
-    (refuse-passed _ wrongPartCount (a .start) _ (ne-eqb _ 0 (c .before .if1 .left)) ∙ refuse-passed _ wrongPartCount (a .start) _ (le-ltb 16 _ (c .if2 .left)))
+    ap readingOf (field-passed (now (a .bytes)) (a .start) Count (partsRefusal (a .start)) (read .read-number .ensures) _ _ (told .number2 .given .1)
+    (parts-passed (a .start) _ Accepted (pos-of-ne-zero (c .before .if1 .left)) (c .if2 .left)))
 
 pub read-part-count-spec : {M : Type 1} → statement M
 read-part-count-spec =

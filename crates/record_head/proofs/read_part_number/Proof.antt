@@ -6,9 +6,10 @@ use borrow.Author.Needs.{needs}
 use Rattle.answer.specs.Refusals.{wrongPartNumber}
 use Rattle.answer.specs.Outcome.{at}
 use Rattle.answer.proofs.Outcomes.{refuse-held, refuse-passed}
-use Rattle.record_head.specs.Inside.{asRead}
+use Rattle.codec.specs.declared.Field.the-variants.{PartNumber}
+use Rattle.codec.specs.Reads.{readingOf}
 use Rattle.record_head.specs.Headings.{partNumberRefusal}
-use Rattle.record_head.proofs.Found.{field-ended, field-passed, field-held}
+use Rattle.codec.proofs.Found.{field-ended, field-passed, field-held}
 use Rattle.record_head.proofs.read_part_number.Statement.{statement}
 use Rattle.record_head.proofs.read_part_number.Tie as tie
 
@@ -32,23 +33,23 @@ returns c =
     let told = c .before .before .before .before in
     let read = told .before .before in
     let a = read .before .before .args in
-    ap asRead (c .refused .ensures)
-    ∙ field-held (now (a .bytes)) (a .start) (partNumberRefusal (a .mark) (a .previous) (a .start)) (read .read-number .ensures) _ _ (at wrongPartNumber (a .start)) (told .number2 .given .1)
-    (refuse-held _ wrongPartNumber (a .start) _ (sym (c .before .before .misnumbered .ensures) ∙ c .before .if1 .taken))
+    c .refused .ensures
+    ∙ ap readingOf (field-held (now (a .bytes)) (a .start) PartNumber (partNumberRefusal (a .mark) (a .previous) (a .start)) (read .read-number .ensures) _ _ (at wrongPartNumber (a .start)) (told .number2 .given .1)
+    (refuse-held _ wrongPartNumber (a .start) _ (sym (c .before .before .misnumbered .ensures) ∙ c .before .if1 .taken)))
 
 returns-2 : tie.Need-returns-2
 returns-2 c =
     let read = c .before .before .before in
     let a = read .before .before .args in
-    field-ended (now (a .bytes)) (a .start) (partNumberRefusal (a .mark) (a .previous) (a .start)) (read .read-number .ensures) _ (c .before .number .given .1)
+    ap readingOf (field-ended (now (a .bytes)) (a .start) PartNumber (partNumberRefusal (a .mark) (a .previous) (a .start)) (read .read-number .ensures) _ (c .before .number .given .1))
 
 returns-3 : tie.Need-returns-3
 returns-3 c =
     let told = c .before .before .before in
     let read = told .before .before in
     let a = read .before .before .args in
-    field-passed (now (a .bytes)) (a .start) (partNumberRefusal (a .mark) (a .previous) (a .start)) (read .read-number .ensures) _ _ (told .number2 .given .1)
-    (refuse-passed _ wrongPartNumber (a .start) _ (sym (c .before .misnumbered .ensures) ∙ c .if1 .left))
+    ap readingOf (field-passed (now (a .bytes)) (a .start) PartNumber (partNumberRefusal (a .mark) (a .previous) (a .start)) (read .read-number .ensures) _ _ (told .number2 .given .1)
+    (refuse-passed _ wrongPartNumber (a .start) _ (sym (c .before .misnumbered .ensures) ∙ c .if1 .left)))
 
 pub read-part-number-spec : {M : Type 1} → statement M
 read-part-number-spec =

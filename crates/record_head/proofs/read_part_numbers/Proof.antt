@@ -11,8 +11,9 @@ use borrow.Author.Needs.{needs}
 use lib.ListN.{length}
 use Rattle.answer.specs.declared.Verdict.the-variants.{Accepted}
 use Rattle.record_parts.specs.PartLists.{listOf}
-use Rattle.record_head.specs.Headings.{Read, found, then}
-use Rattle.record_head.specs.Inside.{asRead, partsOf}
+use Rattle.codec.specs.Reads.{Read, found, then}
+use Rattle.codec.proofs.Found.{answer-number, answer-refused}
+use Rattle.record_head.specs.Inside.{partsOf}
 use Rattle.record_head.proofs.PartWalk.{NumbersWalk, numbers-walk-none, numbers-walk-more, numbers-walk-refused, numbers-walk-end}
 use Rattle.record_head.proofs.read_part_numbers.Statement.{statement}
 use Rattle.record_head.proofs.read_part_numbers.Tie as tie
@@ -43,7 +44,7 @@ returns c =
     let a = l .before .before .args in
     c .refused-parts .ensures
     ∙ sym (ap (λ (r : Read (List ℕ)). partsOf (then r (λ numbers end. found (listOf (a .mark) numbers) end)))
-    (numbers-walk-refused (l .loop .inv) (read .before .loop-test .taken) _ (sym (ap asRead (c .before .before .number .given .1)) ∙ read .read-part-number .ensures)))
+    (numbers-walk-refused (l .loop .inv) (read .before .loop-test .taken) _ (sym (answer-refused _ _ (sym (c .before .before .number .given .1) ∙ read .read-part-number .ensures)))))
 
 enum-known-number-2 : tie.Need-enum-known-number-2 Inv-loop μ-loop
 enum-known-number-2 c = search needs
@@ -66,14 +67,14 @@ loop-again c =
     let l = read .before .before in
     let a = l .before .before .args in
     numbers-walk-more (l .loop .inv) (read .before .loop-test .taken) (l .before .before .pre) _ _
-    (sym (ap asRead (c .before .number2 .given .1)) ∙ read .read-part-number .ensures)
+    (sym (answer-number _ _ _ (sym (c .before .number2 .given .1) ∙ read .read-part-number .ensures)))
 
 returns-2 : tie.Need-returns-2 Inv-loop μ-loop
 returns-2 c =
     let l = c .before in
     let walk = l .loop .inv in
     let a = l .before .before .args in
-    let counted : a .count ≡ length (walk .earlier) = sym (walk .counted ∙ le-antisymm (walk .within) (c .loop-test .left)) in
+    let counted : a .count ≡ length (walk .earlier) = sym (walk .walk .counted ∙ le-antisymm (walk .walk .within) (c .loop-test .left)) in
     ap₂ (λ (count : ℕ) (cells : List ℕ). record { list = record { count = count; mark = a .mark; numbers = cells }; next = l .loop .next; verdict = Accepted })
     counted (walk .stands)
     ∙ sym (ap (λ (r : Read (List ℕ)). partsOf (then r (λ numbers end. found (listOf (a .mark) numbers) end))) (numbers-walk-end walk (c .loop-test .left)))

@@ -3,9 +3,12 @@
 use mathlib.Core.Path.{_≡_, refl, sym, ap, _∙_}
 use denote.Ref.{now}
 use borrow.Author.Needs.{needs}
-use Rattle.record_head.specs.Headings.{found, fieldAt, partCountRefusal, markRefusal}
-use Rattle.record_head.specs.Inside.{asRead, partsOf}
-use Rattle.record_head.proofs.Found.{field-ended, field-passed}
+use Rattle.codec.specs.declared.Field.the-variants.{Count, PartNumber}
+use Rattle.codec.specs.Reads.{found}
+use Rattle.codec.specs.FieldReads.{fieldAt}
+use Rattle.codec.proofs.Found.{answer-number, answer-refused, field-ended, field-passed}
+use Rattle.record_head.specs.Headings.{partsRefusal, markRefusal}
+use Rattle.record_head.specs.Inside.{partsOf}
 use Rattle.record_head.proofs.PartNumbers.{count-few, parts-no-count, parts-no-mark, parts-numbers}
 use Rattle.record_head.proofs.read_parts.Statement.{statement}
 use Rattle.record_head.proofs.read_parts.Tie as tie
@@ -35,8 +38,8 @@ enum-known-mark-2 : tie.Need-enum-known-mark-2
 enum-known-mark-2 c = search needs
 
 -- n, which was read
-counted : (c : tie.After-known-told2) → fieldAt (now (c .before .before .before .before .before .args .bytes)) (c .before .before .before .before .before .args .start) (partCountRefusal (c .before .before .before .before .before .args .start)) ≡ found (c .before .count2 .given .0 .0) (c .before .count2 .given .0 .1 .0)
-counted c = sym (c .before .before .before .read-part-count .ensures) ∙ ap asRead (c .before .count2 .given .1)
+counted : (c : tie.After-known-told2) → fieldAt (now (c .before .before .before .before .before .args .bytes)) (c .before .before .before .before .before .args .start) Count (partsRefusal (c .before .before .before .before .before .args .start)) ≡ found (c .before .count2 .given .0 .0) (c .before .count2 .given .0 .1 .0)
+counted c = answer-number _ _ _ (sym (c .before .count2 .given .1) ∙ c .before .before .before .read-part-count .ensures)
 
 read-part-numbers-requires : tie.Need-read-part-numbers-requires
 read-part-numbers-requires c κs =
@@ -50,7 +53,7 @@ returns c =
     let read = told .before .before in
     let a = read .before .before .args in
     c .refused-parts .ensures
-    ∙ sym (ap partsOf (parts-no-count (now (a .bytes)) (a .start) _ (sym (read .read-part-count .ensures) ∙ ap asRead (told .count .given .1))))
+    ∙ sym (ap partsOf (parts-no-count (now (a .bytes)) (a .start) _ (answer-refused _ _ (sym (told .count .given .1) ∙ read .read-part-count .ensures))))
 
 returns-2 : tie.Need-returns-2
 returns-2 c =
@@ -60,7 +63,7 @@ returns-2 c =
     let a = n .before .before .before .before .before .args in
     c .refused-parts2 .ensures
     ∙ sym (ap partsOf (parts-no-mark (now (a .bytes)) (a .start) _ _ _ (counted n)
-    (sym (field-ended (now (a .bytes)) _ markRefusal (read .read-number .ensures) _ (told .mark .given .1)))))
+    (sym (field-ended (now (a .bytes)) _ PartNumber markRefusal (read .read-number .ensures) _ (told .mark .given .1)))))
 
 returns-3 : tie.Need-returns-3
 returns-3 c =
@@ -70,7 +73,7 @@ returns-3 c =
     let a = n .before .before .before .before .before .args in
     c .read-part-numbers .ensures
     ∙ sym (ap partsOf (parts-numbers (now (a .bytes)) (a .start) _ _ _ _ (counted n)
-    (sym (field-passed (now (a .bytes)) _ markRefusal (read .read-number .ensures) _ _ (told .mark2 .given .1) refl))))
+    (sym (field-passed (now (a .bytes)) _ PartNumber markRefusal (read .read-number .ensures) _ _ (told .mark2 .given .1) refl))))
 
 pub read-parts-spec : {M : Type 1} → statement M
 read-parts-spec =

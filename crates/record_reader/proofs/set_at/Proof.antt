@@ -1,8 +1,8 @@
--- `record_reader::set_at` meets its contract: the cursor's step is what the definition takes the set from.
+-- `record_reader::set_at` meets its contract: a cursor with a set left finds the set at its place.
 -- Assumes nothing.
 use mathlib.Core.Path.{sym, ap, _∙_}
 use borrow.Author.Needs.{needs}
-use Rattle.record_reader.specs.Places.{foundBy, setAt}
+use Rattle.record_reader.proofs.Walking.{foundBy, cursor-found}
 use Rattle.record_reader.proofs.set_at.Statement.{statement}
 use Rattle.record_reader.proofs.set_at.Tie as tie
 
@@ -16,12 +16,10 @@ enum-known-step : tie.Need-enum-known-step
 enum-known-step c = search needs
 
 returns : tie.Need-returns
-unfolding setAt
-returns c = ap foundBy (sym (c .enum-told .given .1) ∙ c .before .before .step .ensures)
+returns c = ap foundBy (sym (c .enum-told .given .1) ∙ c .before .before .step .ensures) ∙ cursor-found _ _ 0
 
 returns-2 : tie.Need-returns-2
-unfolding setAt
-returns-2 c = ap foundBy (sym (c .before .step2 .given .1) ∙ c .before .before .before .step .ensures)
+returns-2 c = ap foundBy (sym (c .before .step2 .given .1) ∙ c .before .before .before .step .ensures) ∙ cursor-found _ _ 0
 
 pub set-at-spec : {M : Type 1} → statement M
 set-at-spec = tie.close (tie.spec step-requires enum-told enum-known-step returns returns-2)

@@ -11,8 +11,7 @@ use lib.Seq.{length-take-le}
 use Rattle.record_parts.specs.declared.PartList.{PartList}
 use Rattle.theory_sets.specs.Tables.{inTable}
 use Rattle.structure.specs.Checks.{tableRefusal}
-use Rattle.record_head.specs.declared.Heading.{Heading}
-use Rattle.record_head.specs.Headings.{Read}
+use Rattle.codec.specs.Reads.{Read}
 use Rattle.record.specs.Records.{Design}
 use Rattle.record.proofs.MinimalSets.{design-table}
 use Rattle.report_text.specs.Reports.{reportOf}
@@ -28,26 +27,27 @@ use Rattle.report_text.proofs.report.Tie as tie
 
 -- what the table's call was
 built : (c : tie.After-known-told2)
-    → Built (now (c .before .before .before .before .before .before .before .before .before .args .bytes)) (c .before .before .before .before .table-of-record .last .1 .0) (c .before .built2 .given .0 .0)
+    → Built (now (c .before .before .before .before .before .before .before .before .before .before .args .bytes)) (c .before .before .before .before .before .before .whole-with-words .result .contents) (c .before .before .before .before .store-table .last .1 .0) (c .before .built2 .given .0 .0)
 built c =
     let call = c .before .before .before .before in
-    let known = call .before .before .before .before in
-    built-given (now (known .before .args .bytes)) (λ i. omega (arith, known .shared-slice-known .given i)) _ _ (call .table-of-record .ensures) (c .before .built2 .given .0 .0) (c .before .built2 .given .1)
+    let read = call .before .before in
+    let known = read .before .before .before in
+    built-given (now (known .before .args .bytes)) (λ i. omega (arith, known .shared-slice-known .given i)) _ (read .whole-with-words .ensures) _ _ (call .store-table .ensures) (c .before .built2 .given .0 .0) (c .before .built2 .given .1)
 
-slice-aggregate-table-of-record : tie.Need-slice-aggregate-table-of-record
-slice-aggregate-table-of-record c = search needs
+whole-with-words-requires : tie.Need-whole-with-words-requires
+whole-with-words-requires c κs = search needs
 
-table-of-record-requires : tie.Need-table-of-record-requires
-table-of-record-requires c κs = search needs
+slice-aggregate-store-table : tie.Need-slice-aggregate-store-table
+slice-aggregate-store-table c = search needs
+
+store-table-requires : tie.Need-store-table-requires
+store-table-requires c κs = search needs
 
 enum-known-built : tie.Need-enum-known-built
 enum-known-built c = search needs
 
 enum-known-built-2 : tie.Need-enum-known-built-2
 enum-known-built-2 c = search needs
-
-read-heading-requires : tie.Need-read-heading-requires
-read-heading-requires c κs = search needs
 
 slice-aggregate-put-table : tie.Need-slice-aggregate-put-table
 slice-aggregate-put-table c = search needs
@@ -62,7 +62,7 @@ put-table-requires : tie.Need-put-table-requires
 put-table-requires c κs =
     let told = c .before .before .before .before in
     let b = built told in
-    ap₂ (λ (list : PartList) (table : List ℕ). tableRefusal (list .count) table) (ap (λ (h : Heading). h .list) (c .before .before .before .read-heading .ensures) ∙ b .parts) (b .front) ∙ design-table (b .design) (b .rules)
+    ap₂ (λ (list : PartList) (table : List ℕ). tableRefusal (list .count) table) (b .parts) (b .front) ∙ design-table (b .design) (b .rules)
 
 -- the text in front of 4,096 zeros
 text : (c : tie.After-put-table)
@@ -70,9 +70,10 @@ text : (c : tie.After-put-table)
 text c =
     let told = c .before .before .before .before .before in
     let b = built told in
-    let heading = c .before .before .before .before .read-heading in
-    let same : tableText (heading .result .list) (heading .result .sets) (inTable (take (told .before .built2 .given .0 .0) (told .before .before .before .before .table-of-record .last .1 .0))) ≡ reportOf (b .design) =
-    ap₂ (λ (h : Heading) (table : List ℕ). tableText (h .list) (h .sets) (inTable table)) (heading .ensures) (b .front)
+    let call = told .before .before .before .before in
+    let contents = call .before .before .whole-with-words .result .contents in
+    let same : tableText (contents .list) (contents .sets) (inTable (take (told .before .built2 .given .0 .0) (call .store-table .last .1 .0))) ≡ reportOf (b .design) =
+    ap (λ (table : List ℕ). tableText (contents .list) (contents .sets) (inTable table)) (b .front)
     ∙ ap₂ (λ (list : PartList) (sets : ℕ). tableText list sets (inTable (designTable (b .design)))) (b .parts) (b .sets)
     ∙ design-text (b .design) (b .rules) in
     wrote-same (wrote-first (replicate 4096 0) 0 _ 4096 _ _ (c .put-table .ensures .1) (omega arith) (c .put-table .ensures .0)) _ same
@@ -96,9 +97,10 @@ returns : tie.Need-returns
 unfolding reported
 returns c =
     let call = c .before .before .before .before in
-    let known = call .before .before .before .before in
+    let read = call .before .before in
+    let known = read .before .before .before in
     let a = known .before .args in
-    let refusal = built-refused (now (a .bytes)) (λ i. omega (arith, known .shared-slice-known .given i)) _ _ (call .table-of-record .ensures) _ (c .before .built .given .1) in
+    let refusal = built-refused (now (a .bytes)) (λ i. omega (arith, known .shared-slice-known .given i)) _ (read .whole-with-words .ensures) _ _ (call .store-table .ensures) _ (c .before .built .given .1) in
     (ap (λ (read : Read Design). reportedRead read (now (a .table)) (now (a .text))) (sym refusal), no-report (now (a .bytes)) _ refusal)
 
 same-length : tie.Need-same-length
@@ -114,7 +116,7 @@ returns-2 c =
     let made = handed .before .before .before .before .before .before in
     let told = made .before .before .before .before .before in
     let b = built told in
-    let a = told .before .before .before .before .before .before .before .before .before .args in (
+    let a = told .before .before .before .before .before .before .before .before .before .before .args in (
       handed .hand-out-both .ensures
           ∙ ap₂ (λ (table text : List ℕ). handedOut table text (now (a .table)) (now (a .text))) (b .front) (wrote-front (text made))
           ∙ ap (λ (read : Read Design). reportedRead read (now (a .table)) (now (a .text))) (sym (b .read)),
@@ -125,11 +127,11 @@ pub report-spec : {M : Type 1} → statement M
 report-spec =
     tie.close
     (tie.spec
-    slice-aggregate-table-of-record
-    table-of-record-requires
+    whole-with-words-requires
+    slice-aggregate-store-table
+    store-table-requires
     enum-known-built
     enum-known-built-2
-    read-heading-requires
     slice-aggregate-put-table
     array-share-prefix-own-table
     slice-aggregate-put-table-2

@@ -3,6 +3,7 @@
 use mathlib.Core.Path.{sym, ap, _∙_}
 use denote.Ref.{now}
 use Rattle.answer.specs.Outcome.{outcome, retold}
+use Rattle.codec.specs.Reads.{Read}
 use Rattle.sheet.specs.Sheets.{Sheet, sheetOf}
 use Rattle.sheet_reading.proofs.Reading.{GivenAs, sheet-given, sheet-refused}
 use Rattle.sheet_entries.specs.declared.EntriesRead.{EntriesRead}
@@ -46,7 +47,7 @@ returns c =
     let a = read .before .before .args in
     let cells = now (a .cells) in
     ap (λ (r : EntriesRead). outcome r cells) (c .entries-read .ensures)
-    ∙ sym (ap (λ (s : Sheet). entriesDelivered s cells) (sheet-refused (sheetOf (now (a .bytes))) (read .vector-of-sheet .result) _ (read .vector-of-sheet .ensures) (told .verdict .given .1)))
+    ∙ sym (ap (λ (s : Read Sheet). entriesDelivered s cells) (sheet-refused (sheetOf (now (a .bytes))) (read .vector-of-sheet .result) _ (read .vector-of-sheet .ensures) (told .verdict .given .1)))
 
 same-length : tie.Need-same-length
 same-length c = search needs
@@ -59,7 +60,7 @@ returns-2 c =
     let vector = told .before .before .vector-of-sheet .result .vector in
     ap (λ (r : EntriesRead). outcome r (handed .hand-out-entries .last .1 .0)) (c .entries-read2 .ensures)
     ∙ ap (retold (entriesRead (vector .kind) (vector .n))) (handed .hand-out-entries .ensures)
-    ∙ sym (ap (λ (s : Sheet). entriesDelivered s (now (a .cells))) (accepted told .given))
+    ∙ sym (ap (λ (s : Read Sheet). entriesDelivered s (now (a .cells))) (accepted told .given))
 
 pub read-sheet-spec : {M : Type 1} → statement M
 read-sheet-spec =

@@ -15,7 +15,8 @@ use Rattle.answer.specs.declared.Verdict.the-variants.{Accepted}
 use Rattle.vector.specs.InStruct.{mostEntries, entriesOf}
 use Rattle.vector_conversion.specs.Vectors.{countsRefusal}
 use Rattle.sheet_reading.specs.Answers.{sheetRead}
-use Rattle.sheet.specs.Sheets.{Given, judged}
+use Rattle.codec.specs.Reads.{found, unless}
+use Rattle.sheet.specs.Sheets.{sheet}
 use Rattle.sheet_reading.proofs.Walk.{ended-first}
 use borrow.Author.Needs.{needs}
 use Rattle.sheet_reading.proofs.judged_sheet.Statement.{statement}
@@ -65,7 +66,7 @@ returns c =
     let a = start .args in
     c .refused-sheet .ensures
     ∙ sym (ap sheetRead (ended-first (now (a .bytes)) (a .vector .kind) (a .vector .n) (entriesOf (a .vector)) (a .end)
-    ∙ ap (λ (v : Verdict). judged v (Given (a .vector .kind) (a .vector .n) (entriesOf (a .vector)))) (sym (decided first) ∙ c .before .before .verdict .given .1)))
+    ∙ ap (λ (v : Verdict). unless v (found (sheet (a .vector .kind) (a .vector .n) (entriesOf (a .vector))) (a .end))) (sym (decided first) ∙ c .before .before .verdict .given .1)))
 
 returns-2 : tie.Need-returns-2
 returns-2 c =
@@ -75,7 +76,7 @@ returns-2 c =
     ap₂ (λ (count : ℕ) (cells : List ℤ). record { vector = record { kind = a .vector .kind; n = a .vector .n; length = count; entries = cells }; verdict = Accepted })
     (sym (start .pre .1 .0)) (start .pre .1 .1)
     ∙ sym (ap sheetRead (ended-first (now (a .bytes)) (a .vector .kind) (a .vector .n) (entriesOf (a .vector)) (a .end)
-    ∙ ap (λ (v : Verdict). judged v (Given (a .vector .kind) (a .vector .n) (entriesOf (a .vector)))) (sym (decided first) ∙ c .enum-told .given .1)))
+    ∙ ap (λ (v : Verdict). unless v (found (sheet (a .vector .kind) (a .vector .n) (entriesOf (a .vector))) (a .end))) (sym (decided first) ∙ c .enum-told .given .1)))
 
 pub judged-sheet-spec : {M : Type 1} → statement M
 judged-sheet-spec =

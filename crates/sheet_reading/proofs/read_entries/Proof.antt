@@ -12,7 +12,9 @@ use mir.Facts.{toZ-ofZ}
 use mir.Syntax.{w64}
 use borrow.Author.Tests.{le-ltb}
 use Rattle.codec.specs.declared.Field.the-variants as field
+use Rattle.codec.specs.Reads.{Read, then}
 use Rattle.codec.proofs.WriteAfterRead.{read-form}
+use Rattle.codec.proofs.Found.{answer-number, answer-refused}
 use Rattle.vector.specs.InStruct.{entryCells}
 use Rattle.vector_conversion.specs.Vectors.{countsRefusal, vectorRefusal}
 use Rattle.sheet_reading.specs.Answers.{sheetRead}
@@ -26,7 +28,7 @@ use Rattle.sheet_reading.proofs.read_entries.Tie as tie
 
 abbrev Inv-loop : tie.InvT-loop
 Inv-loop bytes kind n start length entries₀ next₀ index₀ entries next index =
-    (length ≡ lengthOf kind n) × EntriesWalk bytes kind (lengthOf kind n) start (ended bytes kind n) entries next index
+    (length ≡ lengthOf kind n) × EntriesWalk bytes kind (lengthOf kind n) start entries next index
 
 abbrev μ-loop : tie.MeasureT-loop
 μ-loop bytes kind n start length entries₀ next₀ index₀ entries next index = length - index
@@ -43,7 +45,7 @@ held : (c : tie.After-loop Inv-loop μ-loop) → take (c .before .before .entrie
 held c =
     let inv = c .before .loop .inv in
     entries-held (c .before .before .entries .result) (c .before .loop .entries) (inv .1 .earlier)
-    (omega (arith, inv .0, inv .1 .within, inv .1 .counted, c .loop-test .left)) (inv .1 .stands)
+    (omega (arith, inv .0, inv .1 .walk .within, inv .1 .counted, c .loop-test .left)) (inv .1 .stands)
 
 entries-requires : tie.Need-entries-requires Inv-loop μ-loop
 entries-requires c κs = search needs
@@ -54,7 +56,7 @@ loop-holds c =
     let a = start .args in
     let bytes = now (a .bytes) in (
       c .entries .ensures ∙ ap (λ (t : Bool). cond t 0 (lengthOf (a .kind) (a .n))) (le-ltb 16 (a .n) (start .pre .1)),
-      walk-none bytes (a .kind) (lengthOf (a .kind) (a .n)) (a .start) (ended bytes (a .kind) (a .n)),
+      walk-none bytes (a .kind) (lengthOf (a .kind) (a .n)) (a .start),
     )
 
 read-number-requires : tie.Need-read-number-requires Inv-loop μ-loop
@@ -71,9 +73,10 @@ returns c =
     let told = c .before .before in
     let read = told .before .before in
     let l = read .before .before in
+    let a = l .before .before .before .args in
     c .refused-sheet .ensures
-    ∙ sym (ap sheetRead (walk-refused (l .loop .inv .1) (omega (arith, l .loop .inv .0, read .before .loop-test .taken)) _
-    (sym (read .read-number .ensures) ∙ told .number .given .1)))
+    ∙ sym (ap (λ (r : Read (List ℤ)). sheetRead (then r (ended (now (a .bytes)) (a .kind) (a .n)))) (walk-refused (l .loop .inv .1) (omega (arith, l .loop .inv .0, read .before .loop-test .taken)) _
+    (answer-refused _ _ (sym (told .number .given .1) ∙ read .read-number .ensures))))
 
 enum-known-number-2 : tie.Need-enum-known-number-2 Inv-loop μ-loop
 enum-known-number-2 c = search needs
@@ -84,7 +87,7 @@ decode-requires c κs =
     let l = read .before .before in
     let start = l .before .before .before in
     read-form (now (start .args .bytes)) (l .loop .next) field.Sheet _ _ (λ i. omega (arith, l .before .before .shared-slice-known .given i))
-    (sym (read .read-number .ensures) ∙ c .before .number2 .given .1) .allowed
+    (answer-number _ _ _ (sym (c .before .number2 .given .1) ∙ read .read-number .ensures)) .allowed
 
 mul-entries : tie.Need-mul-entries Inv-loop μ-loop
 mul-entries c = omega (arith, few (c .before .before .before .before .before))
@@ -109,10 +112,10 @@ loop-again c =
     let value : ℕ = told .number2 .given .0 .0 in
     let after : ℕ = told .number2 .given .0 .1 .0 in (
       l .loop .inv .0,
-      subst (λ (z : ℤ). EntriesWalk (now (a .bytes)) (a .kind) count (a .start) (ended (now (a .bytes)) (a .kind) (a .n)) (set (l .loop .entries) (l .loop .index) z) after (l .loop .index + 1))
+      subst (λ (z : ℤ). EntriesWalk (now (a .bytes)) (a .kind) count (a .start) (set (l .loop .entries) (l .loop .index) z) after (l .loop .index + 1))
           (sym (toZ-ofZ {w = w64} (record { sfits = c .decode .ok }) ∙ c .decode .ensures))
           (walk-more (l .loop .inv .1) (omega (arith, l .loop .inv .0, read .before .loop-test .taken)) (length-few (a .kind) (a .n) (start .pre .1)) value after
-          (sym (read .read-number .ensures) ∙ told .number2 .given .1)),
+          (answer-number _ _ _ (sym (told .number2 .given .1) ∙ read .read-number .ensures))),
     )
 
 judged-sheet-requires : tie.Need-judged-sheet-requires Inv-loop μ-loop
@@ -121,7 +124,7 @@ judged-sheet-requires c κs =
     let start = l .before .before .before in
     let a = start .args in
     let inv = l .loop .inv in
-    let long : length (inv .1 .earlier) ≡ lengthOf (a .kind) (a .n) = omega (arith, inv .0, inv .1 .within, inv .1 .counted, c .loop-test .left) in (
+    let long : length (inv .1 .earlier) ≡ lengthOf (a .kind) (a .n) = omega (arith, inv .0, inv .1 .walk .within, inv .1 .counted, c .loop-test .left) in (
       subst (λ (es : List ℤ). vectorRefusal (a .kind) (a .n) es ≡ countsRefusal (a .kind) (a .n) es) (sym (held c))
           (vector-counts (a .kind) (a .n) (inv .1 .earlier) (start .pre .0) (start .pre .1) long),
       (ap length (held c) ∙ long ∙ sym (inv .0), inv .1 .stands ∙ ap entryCells (sym (held c))),
@@ -135,7 +138,7 @@ returns-2 c =
     let inv = l .loop .inv in
     c .judged-sheet .ensures
     ∙ ap (λ (es : List ℤ). sheetRead (ended (now (a .bytes)) (a .kind) (a .n) es (l .loop .next))) (held end)
-    ∙ sym (ap sheetRead (walk-end (inv .1) (omega (arith, inv .0, end .loop-test .left))))
+    ∙ sym (ap (λ (r : Read (List ℤ)). sheetRead (then r (ended (now (a .bytes)) (a .kind) (a .n)))) (walk-end (inv .1) (omega (arith, inv .0, end .loop-test .left))))
 
 pub read-entries-spec : {M : Type 1} → statement M
 read-entries-spec =

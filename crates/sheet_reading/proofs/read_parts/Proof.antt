@@ -1,21 +1,21 @@
 -- `sheet_reading::read_parts` meets its contract: 21 and 22 of n, then 1 at place 0, then the entries.
 -- Assumes nothing.
-use mathlib.Core.Path.{_≡_, sym, ap, ap₂, _∙_}
-use mathlib.Core.Bool.{Bool, true, not, _&&_}
+use mathlib.Core.Path.{_≡_, sym, ap, _∙_}
 use mathlib.Core.List.{List}
-use Prim.Native.Nat.{ℕ}
+use Prim.Native.Nat.{ℕ, _≤_}
+use native.Mathlib.Omega.{arith}
 use denote.Ref.{now}
-use lib.Dec.{leb}
-use borrow.Author.Tests.{le-leb, lt-leb}
 use Rattle.answer.specs.Outcome.{at}
 use Rattle.answer.specs.Refusals.{wrongPartCount}
-use Rattle.codec.specs.Reading.{numberAt}
+use Rattle.answer.specs.declared.Verdict.the-variants.{Accepted, Refused}
+use Rattle.answer.proofs.Checks.{parts-none, parts-over, parts-passed}
 use Rattle.codec.specs.declared.Field.the-variants as field
-use Rattle.codec.specs.declared.Reading.{Reading}
+use Rattle.codec.specs.Reads.{Read, refused, then}
+use Rattle.codec.proofs.Found.{field-ended, field-passed, field-held}
 use Rattle.vector_kind.specs.declared.Kind.{Kind}
 use Rattle.sheet_reading.specs.Answers.{sheetRead}
-use Rattle.sheet.specs.Sheets.{Refused, refuse, afterNumber}
-use Rattle.sheet_reading.specs.Inside.{entered, numbered}
+use Rattle.sheet.specs.Sheets.{Sheet, partsJudged}
+use Rattle.sheet_reading.specs.Inside.{entered, kinded}
 use borrow.Author.Needs.{needs}
 use Rattle.sheet_reading.proofs.read_parts.Statement.{statement}
 use Rattle.sheet_reading.proofs.read_parts.Tie as tie
@@ -28,17 +28,24 @@ module _ (c : tie.After-number2) where
   abbrev kind : Kind
   kind = c .before .before .before .before .args .kind
 
+  abbrev start : ℕ
+  start = c .before .before .before .before .args .start
+
   abbrev value : ℕ
   value = c .number2 .given .0 .0
 
   abbrev next : ℕ
   next = c .number2 .given .0 .1 .0
 
-  reached : afterNumber (numberAt bytes (c .before .before .before .before .args .start) field.Sheet) (numbered bytes kind) ≡ numbered bytes kind value next
-  reached = ap (λ (r : Reading). afterNumber r (numbered bytes kind)) (sym (c .before .before .read-number .ensures) ∙ c .number2 .given .1)
+  abbrev on : Read ℕ → Read Sheet
+  on r = then r (entered bytes kind)
 
-  outside : not (leb 1 value && leb value 16) ≡ true → numbered bytes kind value next ≡ Refused (at wrongPartCount 0)
-  outside h = ap (λ (t : Bool). refuse t wrongPartCount 0 (entered bytes kind value next)) h
+  outside : partsJudged value ≡ Refused (at wrongPartCount 0) → kinded bytes kind start ≡ refused (at wrongPartCount 0)
+  outside h = ap on (sym (field-held bytes start field.Sheet partsJudged (c .before .before .read-number .ensures) value next (at wrongPartCount 0) (c .number2 .given .1) h))
+
+  inside : 1 ≤ value → value ≤ 16 → kinded bytes kind start ≡ entered bytes kind value next
+  inside some few =
+      ap on (sym (field-passed bytes start field.Sheet partsJudged (c .before .before .read-number .ensures) value next (c .number2 .given .1) (parts-passed 0 value Accepted some few)))
 
 read-number-requires : tie.Need-read-number-requires
 read-number-requires c κs = search needs
@@ -59,8 +66,7 @@ returns : tie.Need-returns
 returns c =
     let told = c .before .before .before in
     let v : ℕ = told .number2 .given .0 .0 in
-    c .refused-sheet2 .ensures
-    ∙ sym (ap sheetRead (reached told ∙ outside told (ap (λ (t : Bool). not (t && leb v 16)) (lt-leb 1 v (c .before .if1 .taken)))))
+    c .refused-sheet2 .ensures ∙ sym (ap sheetRead (outside told (parts-none 0 v Accepted (omega (arith, c .before .if1 .taken)))))
 
 read-entries-requires : tie.Need-read-entries-requires
 read-entries-requires c κs = search needs
@@ -68,12 +74,7 @@ read-entries-requires c κs = search needs
 returns-2 : tie.Need-returns-2
 returns-2 c =
     let told = c .before .before .before .before in
-    let a = told .before .before .before .before .args in
-    let v : ℕ = told .number2 .given .0 .0 in
-    let next : ℕ = told .number2 .given .0 .1 .0 in
-    c .read-entries .ensures
-    ∙ sym (ap sheetRead (reached told ∙ ap (λ (t : Bool). refuse t wrongPartCount 0 (entered (now (a .bytes)) (a .kind) v next))
-    (ap₂ (λ (s t : Bool). not (s && t)) (le-leb 1 v (c .before .before .if1 .left)) (le-leb v 16 (c .before .if2 .taken)))))
+    c .read-entries .ensures ∙ sym (ap sheetRead (inside told (c .before .before .if1 .left) (c .before .if2 .taken)))
 
 refused-sheet-requires-3 : tie.Need-refused-sheet-requires-3
 refused-sheet-requires-3 c κs = search needs
@@ -84,15 +85,14 @@ returns-3 c =
     let read = told .before .before in
     let a = read .before .before .args in
     c .refused-sheet .ensures
-    ∙ sym (ap sheetRead (ap (λ (r : Reading). afterNumber r (numbered (now (a .bytes)) (a .kind))) (sym (read .read-number .ensures) ∙ told .number .given .1)))
+    ∙ sym (ap sheetRead (ap (λ (r : Read ℕ). then r (entered (now (a .bytes)) (a .kind)))
+    (sym (field-ended (now (a .bytes)) (a .start) field.Sheet partsJudged (read .read-number .ensures) _ (told .number .given .1)))))
 
 returns-4 : tie.Need-returns-4
 returns-4 c =
     let told = c .before .before .before .before in
     let v : ℕ = told .number2 .given .0 .0 in
-    c .refused-sheet3 .ensures
-    ∙ sym (ap sheetRead (reached told ∙ outside told
-    (ap₂ (λ (s t : Bool). not (s && t)) (le-leb 1 v (c .before .before .if1 .left)) (lt-leb v 16 (c .before .if2 .left)))))
+    c .refused-sheet3 .ensures ∙ sym (ap sheetRead (outside told (parts-over 0 v Accepted (c .before .before .if1 .left) (c .before .if2 .left))))
 
 pub read-parts-spec : {M : Type 1} → statement M
 read-parts-spec =

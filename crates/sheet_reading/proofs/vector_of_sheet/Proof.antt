@@ -1,7 +1,7 @@
 -- `sheet_reading::vector_of_sheet` meets its contract: 21 and 22 of the kind's number, then 26, and then what stands behind it.
 -- Assumes nothing.
 use mathlib.Core.Path.{_≡_, sym, ap, ap₂, _∙_}
-use mathlib.Core.Bool.{Bool, true, not, _&&_}
+use mathlib.Core.Bool.{Bool, true, false, not, _&&_}
 use mathlib.Core.List.{List}
 use Prim.Native.Nat.{ℕ}
 use denote.Ref.{now}
@@ -9,14 +9,16 @@ use lib.Dec.{leb}
 use borrow.Author.Tests.{le-leb, lt-leb}
 use Rattle.answer.specs.Outcome.{at}
 use Rattle.answer.specs.Refusals.{wrongKind}
-use Rattle.codec.specs.Reading.{numberAt}
+use Rattle.answer.specs.declared.Verdict.the-variants.{Accepted}
+use Rattle.answer.proofs.Outcomes.{refuse-held, refuse-passed}
 use Rattle.codec.specs.declared.Field.the-variants as field
-use Rattle.codec.specs.declared.Reading.{Reading}
+use Rattle.codec.specs.Reads.{Read, refused, then}
+use Rattle.codec.proofs.Found.{field-ended, field-passed, field-held}
 use Rattle.vector_kind.specs.Kinds.{isKind, kindOf}
 use Rattle.vector_kind.specs.declared.Kind.{Kind}
 use Rattle.sheet_reading.specs.Answers.{sheetRead}
-use Rattle.sheet.specs.Sheets.{Refused, refuse, afterNumber, sheetOf}
-use Rattle.sheet_reading.specs.Inside.{numbered, kinded}
+use Rattle.sheet.specs.Sheets.{Sheet, kindJudged, sheetOf}
+use Rattle.sheet_reading.specs.Inside.{kinded}
 use Rattle.sheet_reading.proofs.ReadSheet.{sheet-steps}
 use borrow.Author.Needs.{needs}
 use Rattle.sheet_reading.proofs.vector_of_sheet.Statement.{statement}
@@ -33,12 +35,18 @@ module _ (c : tie.After-number2) where
   abbrev next : ℕ
   next = c .number2 .given .0 .1 .0
 
-  reached : sheetOf bytes ≡ kinded bytes value next
-  reached =
-      sheet-steps bytes ∙ ap (λ (r : Reading). afterNumber r (kinded bytes)) (sym (c .before .before .read-number .ensures) ∙ c .number2 .given .1)
+  abbrev on : Read ℕ → Read Sheet
+  on r = then r (λ number after. kinded bytes (kindOf number) after)
 
-  outside : not (isKind value) ≡ true → kinded bytes value next ≡ Refused (at wrongKind 0)
-  outside h = ap (λ (t : Bool). refuse t wrongKind 0 (afterNumber (numberAt bytes next field.Sheet) (numbered bytes (kindOf value)))) h
+  outside : not (isKind value) ≡ true → sheetOf bytes ≡ refused (at wrongKind 0)
+  outside h =
+      sheet-steps bytes
+      ∙ ap on (sym (field-held bytes 0 field.Sheet kindJudged (c .before .before .read-number .ensures) value next (at wrongKind 0) (c .number2 .given .1) (refuse-held _ wrongKind 0 Accepted h)))
+
+  inside : not (isKind value) ≡ false → sheetOf bytes ≡ kinded bytes (kindOf value) next
+  inside h =
+      sheet-steps bytes
+      ∙ ap on (sym (field-passed bytes 0 field.Sheet kindJudged (c .before .before .read-number .ensures) value next (c .number2 .given .1) (refuse-passed _ wrongKind 0 Accepted h)))
 
 read-number-requires : tie.Need-read-number-requires
 read-number-requires c κs = search needs
@@ -60,7 +68,7 @@ returns c =
     let told = c .before .before .before in
     let v : ℕ = told .number2 .given .0 .0 in
     c .refused-sheet2 .ensures
-    ∙ sym (ap sheetRead (reached told ∙ outside told (ap (λ (t : Bool). not (t && leb v 4)) (lt-leb 1 v (c .before .if1 .taken)))))
+    ∙ sym (ap sheetRead (outside told (ap (λ (t : Bool). not (t && leb v 4)) (lt-leb 1 v (c .before .if1 .taken)))))
 
 refused-sheet-requires-3 : tie.Need-refused-sheet-requires-3
 refused-sheet-requires-3 c κs = search needs
@@ -70,7 +78,7 @@ returns-2 c =
     let told = c .before .before .before .before in
     let v : ℕ = told .number2 .given .0 .0 in
     c .refused-sheet3 .ensures
-    ∙ sym (ap sheetRead (reached told ∙ outside told
+    ∙ sym (ap sheetRead (outside told
     (ap₂ (λ (s t : Bool). not (s && t)) (le-leb 1 v (c .before .before .if1 .left)) (lt-leb v 4 (c .before .if2 .taken)))))
 
 cast-kind-of : tie.Need-cast-kind-of
@@ -89,7 +97,8 @@ returns-3 c =
     let a = read .before .before .args in
     c .refused-sheet .ensures
     ∙ sym (ap sheetRead (sheet-steps (now (a .bytes))
-    ∙ ap (λ (r : Reading). afterNumber r (kinded (now (a .bytes)))) (sym (read .read-number .ensures) ∙ told .number .given .1)))
+    ∙ ap (λ (r : Read ℕ). then r (λ number after. kinded (now (a .bytes)) (kindOf number) after))
+    (sym (field-ended (now (a .bytes)) 0 field.Sheet kindJudged (read .read-number .ensures) _ (told .number .given .1)))))
 
 returns-4 : tie.Need-returns-4
 returns-4 c =
@@ -98,11 +107,9 @@ returns-4 c =
     let a = told .before .before .before .before .args in
     let v : ℕ = told .number2 .given .0 .0 in
     let next : ℕ = told .number2 .given .0 .1 .0 in
-    let bytes = now (a .bytes) in
     c .read-parts .ensures
-    ∙ ap (λ (k : Kind). sheetRead (afterNumber (numberAt bytes next field.Sheet) (numbered bytes k))) (kinds .kind-of .ensures)
-    ∙ sym (ap sheetRead (reached told ∙ ap (λ (t : Bool). refuse t wrongKind 0 (afterNumber (numberAt bytes next field.Sheet) (numbered bytes (kindOf v))))
-    (ap₂ (λ (s t : Bool). not (s && t)) (le-leb 1 v (kinds .before .before .if1 .left)) (le-leb v 4 (kinds .before .if2 .left)))))
+    ∙ ap (λ (k : Kind). sheetRead (kinded (now (a .bytes)) k next)) (kinds .kind-of .ensures)
+    ∙ sym (ap sheetRead (inside told (ap₂ (λ (s t : Bool). not (s && t)) (le-leb 1 v (kinds .before .before .if1 .left)) (le-leb v 4 (kinds .before .if2 .left)))))
 
 pub vector-of-sheet-spec : {M : Type 1} → statement M
 vector-of-sheet-spec =

@@ -65,6 +65,11 @@ sensor : lastOf (call (takeOut 3) ∷ call addPart ∷ []) bridge ≡ 5 ∷ 6 �
 unfolding changedRecord wholeRecord onlyRecord recordAt headAt partsAt fieldsAt fieldAt misplaced has holds any those listed minimal numberAt numberIn recordBytes headBytes partsBytes formsOf bytesOf grouped partAdded partListRefusal others meets squeezed setsWithout
 sensor = refl
 
+-- parts 2 and 3 taken out of the bridge together: only the set of parts 1 and 4 is left, which then stand at positions 1 and 2
+together : setsWithout 6 (9 ∷ 14 ∷ 18 ∷ 21 ∷ []) ≡ 3 ∷ []
+unfolding setsWithout meets squeezed has
+together = refl
+
 -- a first record of a list with a repeat and a nested set
 first : firstRecord 2 (3 ∷ 1 ∷ 1 ∷ []) (replicate 7 9) ≡ outcome (Length 6) (2 ∷ 2 ∷ 1 ∷ 2 ∷ 1 ∷ 1 ∷ 9 ∷ [])
 unfolding firstRecord structure.listRefusal structure.entriesRefusal tabulate holds any those listed minimal recordBytes headBytes partsBytes formsOf bytesOf grouped

@@ -1,5 +1,5 @@
--- Repeated differences and their laws: they are linear, they shift, a factor i comes out by Leibniz' rule, and a sum over the coefficients of an
--- expansion is a sum of differences. Assumes nothing.
+-- Repeated differences and their laws: a difference of differences is one, a factor i comes out by Leibniz' rule, and a sum over the coefficients
+-- of an expansion is a sum of differences. Assumes nothing.
 use mathlib.Core.Path.{_≡_, refl, sym, ap, ap₂, _∙_}
 use mathlib.Core.Bool.{Bool, cond}
 use mathlib.Core.Logic.{_⊎_, inl, inr}
@@ -45,30 +45,6 @@ pub difference-zero : (n a : ℕ) → difference n (λ i. pos 0) a ≡ pos 0
 unfolding difference
 difference-zero zero a = refl
 difference-zero (suc n) a = ap₂ (λ (u v : ℤ). u -ℤ v) (difference-zero n a) (difference-zero n (suc a))
-
-pub difference-add : (n : ℕ) (f g : ℕ → ℤ) (a : ℕ) → difference n (λ i. f i +ℤ g i) a ≡ difference n f a +ℤ difference n g a
-unfolding difference
-difference-add zero f g a = refl
-difference-add (suc n) f g a =
-    ap₂ (λ (u v : ℤ). u -ℤ v) (difference-add n f g a) (difference-add n f g (suc a))
-    ∙ swap (difference n f a) (difference n g a) (difference n f (suc a)) (difference n g (suc a))
-  where
-    swap : (a b c d : ℤ) → a +ℤ b -ℤ (c +ℤ d) ≡ a -ℤ c +ℤ (b -ℤ d)
-    swap a b c d = simp ring
-
-pub difference-mul : (n : ℕ) (c : ℤ) (f : ℕ → ℤ) (a : ℕ) → difference n (λ i. c *ℤ f i) a ≡ c *ℤ difference n f a
-unfolding difference
-difference-mul zero c f a = refl
-difference-mul (suc n) c f a =
-    ap₂ (λ (u v : ℤ). u -ℤ v) (difference-mul n c f a) (difference-mul n c f (suc a)) ∙ out c (difference n f a) (difference n f (suc a))
-  where
-    out : (c x y : ℤ) → c *ℤ x -ℤ c *ℤ y ≡ c *ℤ (x -ℤ y)
-    out c x y = simp ring
-
-pub difference-shift : (n : ℕ) (f : ℕ → ℤ) (a : ℕ) → difference n (λ i. f (suc i)) a ≡ difference n f (suc a)
-unfolding difference
-difference-shift zero f a = refl
-difference-shift (suc n) f a = ap₂ (λ (u v : ℤ). u -ℤ v) (difference-shift n f a) (difference-shift n f (suc a))
 
 -- the difference of a difference
 pub difference-difference : (n k : ℕ) (f : ℕ → ℤ) (a : ℕ) → difference n (difference k f) a ≡ difference (n + k) f a

@@ -4,15 +4,15 @@
 use mathlib.Core.Path.{_≡_, refl, sym, ap, _∙_}
 use mathlib.Core.List.{List, [], _∷_}
 use mathlib.Core.Logic.{⊎-elim}
-use Prim.Native.Nat.{ℕ, zero, suc, _+_, _/_, _%_, _^_, _≤_, _<_}
-use native.Mathlib.Nat.{le-refl, pow-suc}
+use Prim.Native.Nat.{ℕ, zero, suc, _+_, _*_, _/_, _%_, _^_, _≤_, _<_}
+use native.Mathlib.Nat.{le-refl, pow-suc, mul-suc}
 use native.Mathlib.Omega.{arith}
 use borrow.Author.Tests.{lt-ltb, le-ltb}
 use native.Mathlib.Numerals.{add-one}
-use lib.ListN.{length, set}
+use lib.ListN.{length, getD, set, length-append}
 use lib.Seq.{sets}
 use Rattle.theory_sets.proofs.Ranges.{below-or-above}
-use Rattle.codec.specs.ByteForm.{grouped, bytesOf}
+use Rattle.codec.specs.ByteForm.{grouped, bytesOf, formsOf}
 
 -- what holds of every single group, and of a number where it holds of what is left without the lowest group, holds of every number
 pub by-groups : (P : ℕ → Type 0) → ((v : ℕ) → v < 128 → P v) → ((v : ℕ) → 128 ≤ v → P (v / 128) → P v) → (v : ℕ) → P v
@@ -84,3 +84,10 @@ stores-small l i v h = ap (sets l i) (bytes-small v h)
 pub stores-large : (l : List ℕ) (i v : ℕ) → 128 ≤ v → sets l i (bytesOf v) ≡ sets (set l i (v % 128 + 128)) (i + 1) (bytesOf (v / 128))
 stores-large l i v h =
     ap (sets l i) (bytes-large v h) ∙ ap (λ (k : ℕ). sets (set l i (v % 128 + 128)) k (bytesOf (v / 128))) (sym (add-one i))
+
+-- numbers one after the other take so many bytes at the most, where none takes more than so many
+pub forms-most : (most : ℕ) (numbers : List ℕ) → ((i : ℕ) → length (bytesOf (getD numbers i 0)) ≤ most) → length (formsOf numbers) ≤ most * length numbers
+unfolding formsOf
+forms-most most [] h = omega arith
+forms-most most (x ∷ numbers) h =
+    omega (arith, length-append (bytesOf x) (formsOf numbers), h 0, forms-most most numbers (λ i. h (suc i)), mul-suc most (length numbers))

@@ -4,17 +4,19 @@
 use mathlib.Core.Path.{_≡_, refl, sym, ap, _∙_, subst}
 use mathlib.Core.List.{List, [], _∷_, _++_, append-assoc, append-nil}
 use Prim.Native.Nat.{ℕ, zero, suc, _+_, _-_, _*_, _≤_, _<_}
-use native.Mathlib.Nat.{add-zero, sub-zero, le-trans}
+use native.Mathlib.Nat.{add-zero, sub-zero}
 use native.Mathlib.Omega.{arith}
-use lib.ListN.{length, drop, length-append}
+use lib.ListN.{length, getD, drop, length-append}
 use Rattle.answer.specs.declared.Refusal.{Refusal}
 use Rattle.answer.specs.declared.Verdict.the-variants.{Accepted}
 use Rattle.codec.specs.declared.Field.{Field}
-use Rattle.codec.specs.Fields.{top}
+use Rattle.codec.specs.Fields.{groups, top}
 use Rattle.codec.specs.ByteForm.{bytesOf, formsOf}
 use Rattle.codec.specs.Reads.{Read, found, refused, then}
 use Rattle.codec.specs.FieldReads.{Judge, fieldAt, fieldsAt}
 use Rattle.codec.specs.Bytes.{Bytes}
+use Rattle.codec.proofs.ByteForms.{forms-most}
+use Rattle.codec.proofs.ReadAfterWrite.{form-groups}
 use Rattle.codec.proofs.Found.{then-found, Stands, stands-none, stands-both, behind, field-found, field-read}
 
 -- a judge that passes a number at any place if at one
@@ -30,6 +32,15 @@ Follow judge earlier (number ∷ numbers) = ((place : ℕ) → judge earlier pla
 abbrev pub AllAllowed : Field → List ℕ → Type 0
 AllAllowed field [] = Unit {0}
 AllAllowed field (number ∷ numbers) = (number ≤ top field) × AllAllowed field numbers
+
+-- numbers that a field allows take no more bytes than its groups allow
+pub forms-allowed : (field : Field) (numbers : List ℕ) → AllAllowed field numbers → length (formsOf numbers) ≤ groups field * length numbers
+forms-allowed field numbers allowed = forms-most (groups field) numbers (λ i. form-groups field (getD numbers i 0) (each numbers allowed i))
+  where
+    each : (numbers : List ℕ) → AllAllowed field numbers → (i : ℕ) → getD numbers i 0 ≤ top field
+    each [] allowed i = omega arith
+    each (x ∷ numbers) allowed zero = allowed .0
+    each (x ∷ numbers) allowed (suc i) = each numbers (allowed .1) i
 
 module _ (bytes : List ℕ) (field : Field) (judge : Judge) where
   -- there are as many numbers as were to be read

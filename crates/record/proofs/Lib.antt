@@ -6,4 +6,5 @@ pub mod RoundTrip
 pub mod MinimalSets
 pub mod Whole
 pub mod Decided
+pub mod Lengths
 pub mod Examples

@@ -1,7 +1,7 @@
 -- Read after write and write after read: an accepted record keeps the rules and has exactly one byte form, which is read as that record
 -- wherever it stands.
 -- Assumes nothing.
-use mathlib.Core.Path.{_≡_, refl, sym, ap, ap₂, _∙_, subst}
+use mathlib.Core.Path.{_≡_, sym, ap, ap₂, _∙_, subst}
 use mathlib.Core.List.{List, [], _++_, append-assoc, append-nil}
 use Prim.Native.Nat.{ℕ, _+_, _≤_}
 use native.Mathlib.Nat.{le-antisymm, zero-add, le-refl}
@@ -28,7 +28,6 @@ use Rattle.record.proofs.Sets.{sets-any-place, follow-allowed, follow-w
 -- what is found as a record keeps the rules, its byte form stands there, and the sets' stretch is the end of it
 pub record RecordRead (bytes : List ℕ) (start : ℕ) (here : DesignAt) (next : ℕ) : Type 0 where
   pub rules : DesignRules (here .design)
-  pub head : headAt bytes start ≡ found (record { parts = here .design .parts; count = length (here .design .sets) }) (here .begin)
   pub sets-at : setsAt bytes (here .design .parts .count) (length (here .design .sets)) [] (here .begin) ≡ found (here .design .sets) (here .end)
   pub sets : Stands bytes (here .begin) (here .end) (formsOf (here .design .sets))
   pub last : here .end ≡ next
@@ -65,7 +64,6 @@ record-found bytes start here next small e =
           apart = λ a b m k. follow-apart n [] sets follow a b m k;
         };
       };
-      head = a .2 ∙ ap (λ (k : ℕ). found (record { parts = head .parts; count = k }) begin) counted;
       sets-at = ap (λ (k : ℕ). setsAt bytes n k [] begin) (sym counted) ∙ b .2;
       sets = forms;
       last = ends;

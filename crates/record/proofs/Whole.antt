@@ -30,7 +30,6 @@ use Rattle.structure.proofs.Walks.{words-table}
 use Rattle.record.specs.declared.Contents.{Contents}
 use Rattle.record.specs.declared.WithWords.{WithWords}
 use Rattle.record.specs.declared.Step.the-variants.{Set, End}
-use Rattle.record_head.specs.Headings.{headAt}
 use Rattle.record.specs.Records.{setRefusal, setsAt, Design, DesignAt, recordAt, onlyRecord, wholeRecord}
 use Rattle.record.specs.RecordBytes.{DesignRules}
 use Rattle.record.specs.Contents.{nothing, contentsOf, contentsAt, wholeContents, recordRefusal, designOr, designIn, structureWords, withWordsOf, wholeWithWords, tableOfWords, stretchOf, cursor, firstCursor, stepOn, stepFrom, stepAt, metIn}
@@ -72,7 +71,6 @@ refused-contents bytes why = cases (onlyRecord bytes)
 pub record DesignRead (bytes : List ℕ) (d : Design) (end : ℕ) : Type 0 where
   pub rules : DesignRules d
   pub begin : ℕ
-  pub head : headAt bytes 0 ≡ found (record { parts = d .parts; count = length (d .sets) }) begin
   pub contents : wholeContents bytes ≡ record { list = d .parts; sets = length (d .sets); begin = begin; end = end; next = end; verdict = Accepted }
   pub with-words : wholeWithWords bytes ≡ record { contents = wholeContents bytes; words = structureWords (d .parts .count) (d .sets) }
   pub sets-at : setsAt bytes (d .parts .count) (length (d .sets)) [] begin ≡ found (d .sets) end
@@ -89,7 +87,6 @@ design-read bytes small d end e =
     (record {
       rules = r .rules;
       begin = here .begin;
-      head = r .head;
       contents = ap contentsOf (w .only) ∙ ap contents (r .last);
       with-words = ap withWordsOf (w .only) ∙ ap (λ (k : Contents). record { contents = k; words = structureWords (here .design .parts .count) (here .design .sets) }) (sym (ap contentsOf (w .only)));
       sets-at = r .sets-at ∙ ap (found (here .design .sets)) (r .last);
@@ -149,22 +146,20 @@ walk-meets bytes small d end e =
 
 -- ---- an accepted answer with its words
 
-pub record WordsRead (bytes : List ℕ) (d : Design) (w : WithWords) : Type 0 where
-  pub refusal : recordRefusal bytes ≡ Accepted
+pub record WordsRead (d : Design) (w : WithWords) : Type 0 where
   pub count : w .contents .list .count ≡ d .parts .count
   pub few : d .parts .count ≤ 16
   pub words : w .words ≡ structureWords (d .parts .count) (d .sets)
 
-pub words-read : (bytes : List ℕ) (w : WithWords) → Bytes bytes → w ≡ wholeWithWords bytes → w .contents .verdict ≡ Accepted → WordsRead bytes (designIn bytes) w
+pub words-read : (bytes : List ℕ) (w : WithWords) → Bytes bytes → w ≡ wholeWithWords bytes → w .contents .verdict ≡ Accepted → WordsRead (designIn bytes) w
 unfolding designIn
 words-read bytes w small e v =
     let same : w .contents ≡ wholeContents bytes = contents-whole bytes w e in
     let accepts : wholeContents bytes .verdict ≡ Accepted = sym (ap (λ (k : Contents). k .verdict) same) ∙ v in
     let a = accepted-design bytes accepts in
     let r = design-read bytes small (a .0) (a .1) (a .2) in
-    subst (λ (d : Design). WordsRead bytes d w) (sym (ap designOr (a .2)))
+    subst (λ (d : Design). WordsRead d w) (sym (ap designOr (a .2)))
     (record {
-      refusal = accepts;
       count = ap (λ (k : Contents). k .list .count) (same ∙ r .contents);
       few = r .rules .parts .rules .few;
       words = ap (λ (k : WithWords). k .words) (e ∙ r .with-words);

@@ -3,8 +3,7 @@
 -- Assumes nothing.
 use mathlib.Core.Path.{_≡_, refl, sym, ap, _∙_}
 use mathlib.Core.List.{List, [], _∷_, _++_, append-assoc, append-nil}
-use Prim.Native.Nat.{ℕ, suc, _+_, _*_, _≤_, _<_}
-use native.Mathlib.Nat.{mul-suc}
+use Prim.Native.Nat.{ℕ, _+_, _≤_, _<_}
 use native.Mathlib.Numerals.{add-one}
 use native.Mathlib.Omega.{arith}
 use lib.ListN.{length, getD, take, drop, length-append, take-append-drop}
@@ -41,13 +40,6 @@ forms-part i numbers =
     let whole : formsOf numbers ≡ formsOf (take i numbers) ++ formsOf (drop i numbers) =
     ap formsOf (sym (take-append-drop i numbers)) ∙ forms-append (take i numbers) (drop i numbers) in
     omega (arith, simp length-append at (ap length whole))
-
--- so many bytes at the most, where no number takes more than so many
-pub forms-most : (most : ℕ) (numbers : List ℕ) → ((i : ℕ) → length (bytesOf (getD numbers i 0)) ≤ most) → length (formsOf numbers) ≤ most * length numbers
-unfolding formsOf
-forms-most most [] h = omega arith
-forms-most most (x ∷ numbers) h =
-    omega (arith, length-append (bytesOf x) (formsOf numbers), h 0, forms-most most numbers (λ i. h (suc i)), mul-suc most (length numbers))
 
 -- ---- placed from a position on, where there is room for all of them
 

@@ -53,7 +53,7 @@ rising-follow mark top earlier (v ∷ numbers) r = (
   rising-follow mark top (earlier ++ (v ∷ [])) numbers (subst (λ (low : ℕ). RisingWithin low mark numbers) (sym (last-more 0 earlier v)) (r .2)),
 )
 
-rising-allowed : (mark low : ℕ) → mark ≤ topNumber → (numbers : List ℕ) → RisingWithin low mark numbers → AllAllowed PartNumber numbers
+pub rising-allowed : (mark low : ℕ) → mark ≤ topNumber → (numbers : List ℕ) → RisingWithin low mark numbers → AllAllowed PartNumber numbers
 rising-allowed mark low top [] r = tt
 rising-allowed mark low top (v ∷ numbers) r = (omega (arith, r .1), rising-allowed mark v top numbers (r .2))
 

@@ -7,7 +7,7 @@ use native.Mathlib.Omega.{arith}
 use lib.ListN.{set, replicate}
 use Rattle.answer.specs.declared.Refusal.{Refusal}
 use Rattle.codec.specs.declared.Field.the-variants.{PartNumber}
-use Rattle.codec.specs.Reads.{Read, found, refused}
+use Rattle.codec.specs.Reads.{found, refused}
 use Rattle.codec.specs.FieldReads.{fieldAt}
 use Rattle.codec.proofs.FieldReads.{FieldsWalk, fields-walk-none, fields-walk-more, fields-walk-refused, fields-walk-end}
 use Rattle.record_numbers.specs.Numbering.{mostParts, cellsOf}

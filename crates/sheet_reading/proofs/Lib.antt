@@ -4,3 +4,4 @@ pub mod Reading
 pub mod ReadSheet
 pub mod WriteSheet
 pub mod RoundTrip
+pub mod Lengths

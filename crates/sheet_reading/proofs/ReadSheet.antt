@@ -10,13 +10,12 @@ use lib.IntN.{ℤ}
 use lib.ListN.{length, drop, length-append, length-map}
 use borrow.Author.Tests.{le-ltb}
 use Rattle.answer.specs.Refusals.{wrongVectorLength, wrongKind}
-use Rattle.answer.specs.declared.Verdict.{Verdict}
 use Rattle.answer.specs.declared.Verdict.the-variants.{Accepted}
 use Rattle.answer.proofs.Outcomes.{refuse-accepted, refuse-passed}
 use Rattle.answer.proofs.Checks.{parts-passed, parts-right}
 use Rattle.codec.specs.ByteForm.{bytesOf, formsOf}
 use Rattle.codec.specs.declared.Field.the-variants as field
-use Rattle.codec.specs.Reads.{Read, found, then, unless, alone}
+use Rattle.codec.specs.Reads.{Read, found, then}
 use Rattle.codec.specs.FieldReads.{fieldAt, anyNumber, fieldsAt}
 use Rattle.codec.proofs.Found.{behind, field-read}
 use Rattle.codec.proofs.FieldReads.{Follow, AllAllowed, fields-read}

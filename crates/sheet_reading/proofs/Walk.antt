@@ -20,7 +20,7 @@ use Rattle.answer.proofs.FixedCells.{cells-more}
 use Rattle.codec.specs.declared.Field.the-variants as field
 use Rattle.codec.specs.Reads.{Read, found, refused, then, unless}
 use Rattle.codec.specs.Reading.{numberAt}
-use Rattle.codec.specs.FieldReads.{judged, fieldAt, anyNumber, fieldsAt}
+use Rattle.codec.specs.FieldReads.{judged, fieldAt, anyNumber}
 use Rattle.codec.proofs.FieldReads.{FieldsWalk, fields-walk-none, fields-walk-more, fields-walk-refused, fields-walk-end}
 use Rattle.vector.specs.InStruct.{mostEntries, entryCells}
 use Rattle.vector_kind.specs.Kinds.{lengthOf}

@@ -5,7 +5,7 @@ use lib.IntN.{ℤ}
 use Rattle.codec.specs.declared.Field.the-variants as field
 use Rattle.codec.specs.Reads.{Read, found, then, unless, alone}
 use Rattle.codec.specs.FieldReads.{fieldAt}
-use Rattle.vector_kind.specs.Kinds.{lengthOf, kindOf}
+use Rattle.vector_kind.specs.Kinds.{lengthOf}
 use Rattle.vector_conversion.specs.Vectors.{countsRefusal}
 use Rattle.vector_kind.specs.declared.Kind.{Kind}
 use Rattle.sheet.specs.Sheets.{Sheet, sheet, partsJudged, entriesAt}

@@ -4,8 +4,8 @@ use Prim.Native.Nat.{_≤_}
 use native.Mathlib.Omega.{arith}
 use denote.Ref.{now}
 use lib.ListN.{length}
-use Rattle.codec.proofs.ByteForms.{bytes-at-most}
-use Rattle.record_changes.proofs.Writing.{forms-most, record-length}
+use Rattle.codec.proofs.ByteForms.{bytes-at-most, forms-most}
+use Rattle.record_changes.proofs.Writing.{record-length}
 use borrow.Author.Needs.{needs}
 use Rattle.record_changes.proofs.record_length.Statement.{statement}
 use Rattle.record_changes.proofs.record_length.Tie as tie

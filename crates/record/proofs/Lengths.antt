@@ -1,0 +1,61 @@
+-- No record is longer than 38,698 bytes: one for n, five for the mark and each of 16 part numbers, two for the count and three for each of
+-- 12,870 sets.
+-- Assumes nothing.
+use mathlib.Core.Path.{_≡_, refl, subst}
+use mathlib.Core.List.{List, [], _∷_, _++_, List·Memᴰ, List·Memᴰ·head, List·Memᴰ·tail}
+use Prim.Native.Nat.{ℕ, zero, suc, _^_, _≤_, _<_}
+use native.Mathlib.Omega.{arith}
+use lib.ListN.{length, getD, length-append}
+use lib.Pow.{pow-mono}
+use Rattle.codec.specs.declared.Field.the-variants.{PartNumber}
+use Rattle.codec.specs.ByteForm.{bytesOf, formsOf}
+use Rattle.codec.specs.Reads.{found}
+use Rattle.codec.proofs.ByteForms.{bytes-at-most, forms-most}
+use Rattle.codec.proofs.FieldReads.{forms-allowed}
+use Rattle.codec.proofs.WriteAfterRead.{Bytes}
+use Rattle.record_parts.specs.PartLists.{numbersOf}
+use Rattle.record_parts.proofs.WellFormed.{well-formed-counted}
+use Rattle.record_head.specs.HeadingBytes.{partsBytes, headBytes}
+use Rattle.record_head.proofs.PartNumbers.{rising-allowed}
+use Rattle.record.specs.Records.{Design, wholeRecord}
+use Rattle.record.specs.RecordBytes.{recordBytes, DesignRules}
+use Rattle.record.proofs.RoundTrip.{whole-written}
+
+-- no set of a design takes more than three bytes
+set-small : (sets : List ℕ) → ((a : ℕ) → List·Memᴰ a sets → a < 2 ^ 16) → (i : ℕ) → getD sets i 0 < 2 ^ 16
+set-small [] small i = omega arith
+set-small (x ∷ sets) small zero = small x (List·Memᴰ·head refl)
+set-small (x ∷ sets) small (suc i) = set-small sets (λ a m. small a (List·Memᴰ·tail m)) i
+
+-- what is written
+pub record-longest : (d : Design) → DesignRules d → length (recordBytes d) ≤ 38698
+unfolding recordBytes headBytes partsBytes
+record-longest d r =
+    let parts = r .parts .rules in
+    let numbers : List ℕ = numbersOf (d .parts) in
+    let n : List ℕ = bytesOf (d .parts .count) in
+    let mark : List ℕ = bytesOf (d .parts .mark) in
+    let count : List ℕ = bytesOf (length (d .sets)) in
+    let inside : 2 ^ d .parts .count ≤ 2 ^ 16 = pow-mono (parts .few) in
+    let one = bytes-at-most 1 (d .parts .count) (omega arith) (omega (arith, parts .few)) in
+    let five = bytes-at-most 5 (d .parts .mark) (omega arith) (omega (arith, parts .top)) in
+    let all = forms-allowed PartNumber numbers (rising-allowed (d .parts .mark) 0 (parts .top) numbers (parts .rising)) in
+    let two = bytes-at-most 2 (length (d .sets)) (omega arith) (omega (arith, r .sets .most)) in
+    let small = set-small (d .sets) (λ a m. omega (arith, r .sets .within a m .0)) in
+    let sets = forms-most 3 (d .sets) (λ i. bytes-at-most 3 (getD (d .sets) i 0) (omega arith) (omega (arith, small i))) in
+    omega (
+      arith,
+      well-formed-counted (d .parts) (r .parts),
+      parts .few,
+      r .sets .most,
+      length-append mark (formsOf numbers),
+      length-append n (mark ++ formsOf numbers),
+      length-append (n ++ (mark ++ formsOf numbers)) count,
+      length-append ((n ++ (mark ++ formsOf numbers)) ++ count) (formsOf (d .sets)),
+    )
+
+-- and what is accepted
+pub accepted-longest : (bytes : List ℕ) → Bytes bytes → (d : Design) (next : ℕ) → wholeRecord bytes ≡ found d next → length bytes ≤ 38698
+accepted-longest bytes small d next e =
+    let w = whole-written bytes d next small e in
+    subst (λ (l : List ℕ). length l ≤ 38698) (w .1) (record-longest d (w .0))

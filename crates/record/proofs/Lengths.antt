@@ -12,7 +12,7 @@ use Rattle.codec.specs.ByteForm.{bytesOf, formsOf}
 use Rattle.codec.specs.Reads.{found}
 use Rattle.codec.proofs.ByteForms.{bytes-at-most, forms-most}
 use Rattle.codec.proofs.FieldReads.{forms-allowed}
-use Rattle.codec.proofs.WriteAfterRead.{Bytes}
+use Rattle.codec.specs.Bytes.{Bytes}
 use Rattle.record_parts.specs.PartLists.{numbersOf}
 use Rattle.record_parts.proofs.WellFormed.{well-formed-counted}
 use Rattle.record_head.specs.HeadingBytes.{partsBytes, headBytes}

@@ -11,7 +11,7 @@ use Rattle.codec.specs.ByteForm.{bytesOf, formsOf}
 use Rattle.codec.specs.Reads.{found}
 use Rattle.codec.proofs.ByteForms.{bytes-at-most}
 use Rattle.codec.proofs.FieldReads.{forms-allowed}
-use Rattle.codec.proofs.WriteAfterRead.{Bytes}
+use Rattle.codec.specs.Bytes.{Bytes}
 use Rattle.vector_kind.specs.Kinds.{kindNumber}
 use Rattle.vector_kind.specs.declared.Kind.{Kind}
 use Rattle.vector_conversion.specs.Vectors.{vectorRefusal}

@@ -17,14 +17,12 @@ use Rattle.codec.specs.declared.Field.{Field}
 use Rattle.codec.specs.Reads.{found, refused}
 use Rattle.codec.specs.Fields.{groups, top}
 use Rattle.answer.specs.Outcome.{at}
-use Rattle.answer.specs.Placed.{placed}
 use Rattle.codec.specs.ByteForm.{bytesOf}
 use Rattle.codec.specs.Reading.{carried, valueOf, least, check, numberIn, numberAt}
 use Rattle.codec.proofs.Fields.{allowed}
 use Rattle.codec.proofs.ByteForms.{by-groups, bytes-small, bytes-large, bytes-some, bytes-at-most, length-small, length-large}
 use Rattle.codec.proofs.Groups.{carried-none, carried-some, carried-take}
-use Rattle.answer.proofs.Placing.{placed-fits}
-use Rattle.theory_sets.proofs.Ranges.{below-or-above}
+use Rattle.numbers.proofs.Bounds.{below-or-above}
 use Rattle.codec.proofs.Readings.{found-last, ends-over}
 
 -- all bytes of a form but the last carry
@@ -111,10 +109,3 @@ read-exactly field v front rest = (
   λ e. ⊎-elim (λ l. let z : _≡_ {A = ℕ} 0 1 = cc (read-over field v front rest l) in absurd (omega arith)) (λ l. l) (below-or-above (top field) v),
   read-written field v front rest,
 )
-
--- what was written into a buffer is read back from it
-pub read-placed : (field : Field) (v : ℕ) (buffer : List ℕ) (start : ℕ) → v ≤ top field → start + length (bytesOf v) ≤ length buffer → numberAt (placed buffer start (bytesOf v) .buffer) start field ≡ found v (placed buffer start (bytesOf v) .answer)
-read-placed field v buffer start h fits =
-    let n : length (take start buffer) ≡ start = length-take-le start buffer (omega arith) in
-    rw (placed-fits buffer start (bytesOf v) fits)
-    (rw n at (read-written field v (take start buffer) (drop (start + length (bytesOf v)) buffer) h))

@@ -17,7 +17,7 @@ use Rattle.answer.specs.Outcome.{at}
 use Rattle.answer.specs.declared.Refusal.{Refusal}
 use Rattle.answer.specs.declared.Verdict.{Verdict}
 use Rattle.answer.specs.declared.Verdict.the-variants.{Accepted}
-use Rattle.theory_sets.proofs.Bools.{clash}
+use Rattle.numbers.proofs.Bools.{clash}
 use Rattle.codec.specs.declared.Field.{Field}
 use Rattle.codec.specs.ByteForm.{bytesOf}
 use Rattle.codec.specs.Fields.{groups, top}

@@ -23,7 +23,7 @@ use Rattle.codec.specs.ByteForm.{bytesOf}
 use Rattle.codec.specs.Reading.{carried, valueOf, least, check, numberIn, numberAt}
 use Rattle.codec.proofs.ByteForms.{bytes-small, bytes-large}
 use Rattle.answer.proofs.Placing.{placed-fits}
-use Rattle.theory_sets.proofs.Ranges.{below-or-above}
+use Rattle.numbers.proofs.Bounds.{below-or-above}
 use Rattle.codec.proofs.Groups.{carried-none, carried-some}
 
 -- what an accepted number passed: the bytes in front of the window all carry but the last, its value is neither below the least number of

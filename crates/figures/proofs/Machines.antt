@@ -21,7 +21,7 @@ use Rattle.theory_sums.proofs.Sums.{sumBelow-same, sumBelow-zero, sumBelow-appe
 use Rattle.theory_sets.specs.Masks.{has, size}
 use Rattle.theory_sets.specs.Tables.{inTable}
 use Rattle.theory_sets.proofs.Masks.{has-above}
-use Rattle.theory_sets.proofs.Ranges.{below-or-above}
+use Rattle.numbers.proofs.Bounds.{below-or-above}
 use Rattle.theory_orders.specs.Formulas.{pathCount}
 use Rattle.numbers.specs.Counts.{factorial}
 use Rattle.numbers.proofs.Counts.{factorials-few}

@@ -10,7 +10,6 @@ use lib.ListN.{length, take, length-append}
 use lib.Seq.{take-at}
 use Rattle.answer.specs.Outcome.{at, andThen, room, front, outcome, delivered}
 use Rattle.answer.specs.Refusals.{shortBuffer}
-use Rattle.answer.specs.declared.Verdict.{Verdict}
 use Rattle.answer.specs.declared.Verdict.the-variants.{Accepted, Refused}
 use Rattle.answer.specs.declared.Written.{Written}
 use Rattle.answer.proofs.Outcomes as outcomes

@@ -11,7 +11,7 @@ use lib.Seq.{take-at, drop-append-add, drop-drop, getD-take, getD-drop, getD-app
 use borrow.Rule.Slice.PartMut.{midOf, putMid, post-is, mid-len}
 use Rattle.numbers.specs.Tables.{tabulate}
 use Rattle.numbers.proofs.Tables.{tabulate-length, tabulate-at, tabulate-unique, filled, filled-from, filled-length}
-use Rattle.theory_sets.proofs.Ranges.{below-or-above}
+use Rattle.numbers.proofs.Bounds.{below-or-above}
 use Rattle.theory_orders.specs.Formulas.{pathCount}
 use Rattle.figures_counts.specs.Rows.{hasPart, rowsOf}
 

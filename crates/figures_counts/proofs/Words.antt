@@ -18,9 +18,9 @@ use Rattle.theory_sums.specs.Sums.{indicator, sumBelow}
 use Rattle.theory_sums.proofs.Sums.{sumBelow-same, sumBelow-le, sumBelow-zero, sumBelow-ones, sumBelow-add, sumBelow-append}
 use Rattle.theory_sets.specs.Masks.{has, size, meet}
 use Rattle.theory_sets.specs.Tables.{packed}
-use Rattle.theory_sets.proofs.Bools.{true-or-false}
+use Rattle.numbers.proofs.Bools.{true-or-false}
 use Rattle.theory_sets.proofs.Masks.{has-full, has-above, has-low, has-block, has-meet}
-use Rattle.theory_sets.proofs.Ranges.{below-or-above}
+use Rattle.numbers.proofs.Bounds.{below-or-above}
 use Rattle.theory_sets.proofs.Tables.{packed-same, has-packed}
 use Rattle.theory_orders.specs.Formulas.{pathCount}
 use Rattle.theory_orders.proofs.Orders.{eqb-comm}

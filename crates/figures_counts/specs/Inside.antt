@@ -1,9 +1,7 @@
 -- What the private functions do: a reader of the promises may pass this file over.
 use mathlib.Core.Bool.{_&&_}
-use mathlib.Core.List.{List}
-use Prim.Native.Nat.{ℕ, _+_, _≤_}
+use Prim.Native.Nat.{ℕ, _+_}
 use lib.Dec.{eqb}
-use lib.ListN.{getD}
 use Rattle.theory_sums.specs.Sums.{indicator, sumBelow}
 use Rattle.theory_sets.specs.Masks.{has, size}
 

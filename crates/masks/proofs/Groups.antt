@@ -13,9 +13,9 @@ use lib.Bits.{and-le-l}
 use lib.Dec.{eqb}
 use lib.Pow.{mod-pow-add}
 use Rattle.theory_sets.specs.Masks.{has, meet, holds}
-use Rattle.theory_sets.proofs.Bools.{clash, false-of, and-both, and-left, and-right, or-false, same-test}
+use Rattle.numbers.proofs.Bools.{clash, false-of, and-both, and-left, and-right, or-false, same-test}
 use Rattle.theory_sets.proofs.Masks.{has-suc, odd, even, has-odd, has-even, has-above, has-add, has-meet, holds-part, holds-of-parts, lacking}
-use Rattle.theory_sets.proofs.Ranges.{below-or-above}
+use Rattle.numbers.proofs.Bounds.{below-or-above}
 use Rattle.masks.specs.Groups.{meets, squeezed}
 
 -- ---- the parts that they share

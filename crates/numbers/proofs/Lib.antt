@@ -1,2 +1,4 @@
+pub mod Bools
+pub mod Bounds
 pub mod Counts
 pub mod Tables

@@ -23,7 +23,7 @@ use Rattle.codec.specs.Reading.{numberAt}
 use Rattle.codec.specs.FieldReads.{judged, fieldAt, fieldsAt}
 use Rattle.theory_sets.specs.Masks.{has, holds, Rising, RisingFrom}
 use Rattle.theory_sets.specs.Structures.{Semicoherent, listed, minimal}
-use Rattle.theory_sets.proofs.Bools.{clash, false-of, true-or-false, same-test, not-not}
+use Rattle.numbers.proofs.Bools.{clash, false-of, true-or-false, same-test, not-not}
 use Rattle.theory_sets.proofs.Lists.{listed-intro, listed-elim, listed-semicoherent}
 use Rattle.theory_sets.proofs.Masks.{holds-refl, holds-trans, holds-le, holds-antisym}
 use Rattle.theory_sets.proofs.Ranges.{any-same, rising-above}

@@ -19,7 +19,7 @@ use Rattle.answer.proofs.Checks.{mask-passed, mask-right}
 use Rattle.codec.specs.declared.Field.the-variants.{Set}
 use Rattle.codec.proofs.FieldReads.{AnyPlace, Follow, AllAllowed}
 use Rattle.theory_sets.specs.Masks.{holds, RisingFrom, Rising}
-use Rattle.theory_sets.proofs.Bools.{clash, false-of}
+use Rattle.numbers.proofs.Bools.{clash, false-of}
 use Rattle.theory_sets.proofs.Masks.{holds-le}
 use Rattle.theory_sets.proofs.Ranges.{rising-above}
 use Rattle.record.specs.Records.{misplaced, setRefusal}

@@ -8,7 +8,7 @@ use Prim.Native.Nat.{_≤_}
 use native.Mathlib.Omega.{arith}
 use lib.ListN.{length}
 use Rattle.theory_sums.specs.Sums.{some}
-use Rattle.theory_sets.proofs.Bools.{and-left, and-right, and-both, or-cases, or-left, or-right, clash}
+use Rattle.numbers.proofs.Bools.{and-left, and-right, and-both, or-cases, or-left, or-right, clash}
 use Rattle.record_lines.specs.Changes.{keep, every}
 
 module _ {A : Type 0} (test : A → Bool) where

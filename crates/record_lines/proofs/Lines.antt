@@ -27,7 +27,7 @@ use Rattle.record.specs.Records.{Design, wholeRecord}
 use Rattle.record.specs.RecordBytes.{DesignRules}
 use Rattle.record.proofs.RoundTrip.{whole-written}
 use Rattle.masks.specs.Groups.{meets}
-use Rattle.theory_sets.proofs.Bools.{and-left, and-right, and-both, or-left, or-right, false-of}
+use Rattle.numbers.proofs.Bools.{and-left, and-right, and-both, or-left, or-right, false-of}
 use Rattle.record_lines.specs.Changes.{Change, addPart, takeOut, addSet, every, designWithout, changeRefusal, changed}
 use Rattle.record_lines.specs.Names.{namedSets, names, namesSome, runs}
 use Rattle.record_lines.specs.Lines.{Call, outcomeOf, recordAfter, after, lastOf, unlessRefused, madeBy, designAfter, issuedIn, leftIn, givenIn, along, lastDesign, issuedBy, leftBy, givenBy, DesignLine, GivenInUse}

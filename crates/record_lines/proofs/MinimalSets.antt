@@ -13,7 +13,7 @@ use lib.Pow.{ones-lt}
 use Rattle.theory_orders.proofs.Sperner.{minimalSets-most}
 use Rattle.theory_sets.specs.Masks.{holds}
 use Rattle.theory_sets.specs.Structures.{Semicoherent, listed, minimal, minimalSets}
-use Rattle.theory_sets.proofs.Bools.{clash}
+use Rattle.numbers.proofs.Bools.{clash}
 use Rattle.theory_sets.proofs.Masks.{holds-refl, holds-trans, holds-antisym}
 use Rattle.theory_sets.proofs.Ranges.{those-elim, those-intro, those-rising}
 use Rattle.theory_sets.proofs.Structures.{minimal-works, minimal-least, minimal-intro, minimal-below}

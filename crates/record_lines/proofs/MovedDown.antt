@@ -10,7 +10,7 @@ use native.Mathlib.Omega.{arith}
 use lib.Dec.{eqb}
 use lib.ListN.{length}
 use Rattle.theory_sets.specs.Masks.{has}
-use Rattle.theory_sets.proofs.Bools.{clash, false-of}
+use Rattle.numbers.proofs.Bools.{clash, false-of}
 use Rattle.theory_sets.proofs.Masks.{has-zero}
 use Rattle.masks.specs.Groups.{meets, squeezed}
 use Rattle.masks.proofs.Groups.{apart-part, apart-half, squeezed-none}

@@ -19,7 +19,7 @@ use Rattle.record_parts.proofs.WellFormed.{numbers-of-list, well-formed-counted
 use Rattle.theory_sums.specs.Sums.{some}
 use Rattle.theory_sets.specs.Masks.{holds}
 use Rattle.theory_sets.specs.Structures.{listed, minimalSets}
-use Rattle.theory_sets.proofs.Bools.{or-false}
+use Rattle.numbers.proofs.Bools.{or-false}
 use Rattle.record.specs.Records.{Design}
 use Rattle.record.specs.RecordBytes.{DesignRules}
 use Rattle.masks.specs.Groups.{meets, squeezed}

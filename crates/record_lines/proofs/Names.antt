@@ -17,9 +17,9 @@ use Rattle.record_parts.specs.Lines.{In}
 use Rattle.record_parts.proofs.LeftOut.{in-at, in-named}
 use Rattle.record_parts.proofs.Numbers.{rising-in}
 use Rattle.theory_sets.specs.Masks.{has, holds}
-use Rattle.theory_sets.proofs.Bools.{clash, or-cases, or-left, or-right, same-test, false-of}
+use Rattle.numbers.proofs.Bools.{clash, or-cases, or-left, or-right, same-test, false-of}
 use Rattle.theory_sets.proofs.Masks.{has-suc, has-even, has-above, holds-part, holds-of-parts, holds-antisym}
-use Rattle.theory_sets.proofs.Ranges.{below-or-above}
+use Rattle.numbers.proofs.Bounds.{below-or-above}
 use Rattle.masks.specs.Groups.{meets}
 use Rattle.masks.proofs.Groups.{meets-part, shared-part}
 use Rattle.record_lines.specs.Changes.{keep}

@@ -19,7 +19,7 @@ use Rattle.theory_sets.specs.Masks.{has}
 use Rattle.masks.specs.Groups.{meets}
 use Rattle.masks.proofs.Groups.{meets-single}
 use Rattle.record_parts.specs.Changes.{single}
-use Rattle.theory_sets.proofs.Bools.{clash, false-of}
+use Rattle.numbers.proofs.Bools.{clash, false-of}
 use Rattle.codec.specs.Reads.{Read, found}
 use Rattle.record.specs.Records.{Design, wholeRecord}
 use Rattle.record.specs.RecordBytes.{recordBytes, DesignRules}

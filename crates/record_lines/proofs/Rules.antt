@@ -31,9 +31,9 @@ use Rattle.record_parts.proofs.WellFormed.{list-well-formed, well-formed-counte
 use Rattle.masks.specs.Groups.{meets}
 use Rattle.masks.proofs.Groups.{meets-single}
 use Rattle.theory_sets.specs.Structures.{listed, minimalSets}
-use Rattle.theory_sets.proofs.Bools.{clash}
+use Rattle.numbers.proofs.Bools.{clash}
 use Rattle.theory_sets.proofs.Masks.{has-odd}
-use Rattle.theory_sets.proofs.Ranges.{below-or-above}
+use Rattle.numbers.proofs.Bounds.{below-or-above}
 use Rattle.theory_sets.proofs.Lists.{listed-semicoherent}
 use Rattle.structure.specs.Checks.{listRefusal}
 use Rattle.structure.proofs.Acceptance.{AcceptedList, accepted-list}

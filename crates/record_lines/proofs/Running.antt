@@ -20,8 +20,9 @@ use Rattle.record_parts.proofs.WellFormed.{well-formed-counted}
 use Rattle.theory_sets.specs.Masks.{has, holds}
 use Rattle.theory_sets.specs.Structures.{listed, minimal, minimalSets}
 use Rattle.theory_sets.specs.Tables.{packed}
-use Rattle.theory_sets.proofs.Bools.{and-left, and-right, and-both, or-false, clash, same-test, false-of}
-use Rattle.theory_sets.proofs.Ranges.{below-or-above, those-intro}
+use Rattle.numbers.proofs.Bools.{and-left, and-right, and-both, or-false, clash, same-test, false-of}
+use Rattle.numbers.proofs.Bounds.{below-or-above}
+use Rattle.theory_sets.proofs.Ranges.{those-intro}
 use Rattle.theory_sets.proofs.Lists.{listed-intro}
 use Rattle.theory_sets.proofs.Masks.{has-above, holds-part, holds-of-parts, holds-refl}
 use Rattle.theory_sets.proofs.Structures.{minimal-below}

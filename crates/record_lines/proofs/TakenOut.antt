@@ -12,7 +12,7 @@ use lib.ListN.{length, getD, take, drop, length-append, length-map, take-append-
 use lib.Pow.{pow-mono}
 use lib.Seq.{take-suc}
 use Rattle.theory_sets.specs.Masks.{RisingFrom, holds}
-use Rattle.theory_sets.proofs.Bools.{not-not, clash, false-of}
+use Rattle.numbers.proofs.Bools.{not-not, clash, false-of}
 use Rattle.theory_sets.proofs.Ranges.{rising-above}
 use Rattle.masks.specs.Groups.{meets, squeezed}
 use Rattle.masks.proofs.Groups.{squeezed-rises, squeezed-some, squeezed-holds}

@@ -20,7 +20,8 @@ use Rattle.theory_sets.specs.Masks.{holds}
 use Rattle.theory_sets.specs.Structures.{Semicoherent, listed, minimalSets}
 use Rattle.theory_sets.specs.Tables.{inTable, tableOf}
 use Rattle.theory_sets.proofs.Lists.{listed-semicoherent}
-use Rattle.theory_sets.proofs.Ranges.{below-or-above, those-same}
+use Rattle.numbers.proofs.Bounds.{below-or-above}
+use Rattle.theory_sets.proofs.Ranges.{those-same}
 use Rattle.theory_sets.proofs.Structures.{minimalSets-same}
 use Rattle.structure.specs.Checks.{listRefusal}
 use Rattle.structure.proofs.Acceptance.{accepted-list, accepted-table, table-beyond, tableOf-accepted, list-works}

@@ -17,7 +17,7 @@ use Rattle.answer.proofs.Deliveries.{Given, given, refused-by}
 use Rattle.codec.specs.Bytes.{Bytes}
 use Rattle.theory_sets.specs.Structures.{listed}
 use Rattle.theory_sets.specs.Tables.{tableOf}
-use Rattle.theory_sets.proofs.Ranges.{below-or-above}
+use Rattle.numbers.proofs.Bounds.{below-or-above}
 use Rattle.theory_sets.proofs.Tables.{tableOf-length, tableLength-small, tableLength-large}
 use Rattle.record.specs.declared.Contents.{Contents}
 use Rattle.codec.specs.Reads.{Read, found, refused}

@@ -19,7 +19,7 @@ use Rattle.theory_sums.proofs.Sums.{sumBelow-same}
 use Rattle.theory_sets.specs.Masks.{has, size}
 use Rattle.theory_sets.specs.Structures.{Semicoherent, listed}
 use Rattle.theory_sets.specs.Tables.{inTable, tableOf}
-use Rattle.theory_sets.proofs.Bools.{true-or-false}
+use Rattle.numbers.proofs.Bools.{true-or-false}
 use Rattle.theory_sets.proofs.Masks.{add-below}
 use Rattle.theory_sets.proofs.Structures.{semicoherent-same}
 use Rattle.theory_orders.specs.Counting.{count}

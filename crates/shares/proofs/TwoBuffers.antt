@@ -1,7 +1,6 @@
 -- What a call leaves in two buffers once it is known what it was judged with the smaller of their lengths as its room, and what each route wrote.
 -- Assumes nothing.
 use mathlib.Core.Path.{_≡_, sym, ap, ap₂, _∙_}
-use mathlib.Core.Bool.{Bool}
 use mathlib.Core.List.{List}
 use mathlib.Core.Logic.{_⊎_, inl, inr}
 use Prim.Native.Nat.{ℕ, _≤_, _<_, min}
@@ -16,7 +15,7 @@ use Rattle.answer.specs.declared.Written.{Written}
 use Rattle.answer.specs.declared.Written.the-variants.{Length, Refused}
 use Rattle.answer.proofs.Outcomes.{then-passed, then-refused, room-enough, room-short, settled-refused, settled-given}
 use Rattle.answer.proofs.Deliveries.{delivered-front}
-use Rattle.theory_sets.proofs.Ranges.{below-or-above}
+use Rattle.numbers.proofs.Bounds.{below-or-above}
 use Rattle.shares.specs.Both.{both, bothDelivered}
 
 -- the smaller of two lengths is enough where both are

@@ -16,7 +16,7 @@ use Rattle.theory_sums.proofs.Sums.{sumBelow-same, sumBelow-exchange, sumBelow-
 use Rattle.theory_sums.proofs.Integers.{ring}
 use Rattle.theory_sums.proofs.IntegerSums.{sumBelowℤ-same, sumBelowℤ-mul, sumBelowℤ-exchange}
 use Rattle.theory_sets.specs.Masks.{any}
-use Rattle.theory_sets.proofs.Bools.{not-not}
+use Rattle.numbers.proofs.Bools.{not-not}
 use Rattle.theory_sets.proofs.Ranges.{any-none}
 use Rattle.shares_claim.specs.Polynomials.{shareFrom, rowLength, inCells}
 use Rattle.shares_claim.specs.Inside.{common, powerWeight, Bounded}

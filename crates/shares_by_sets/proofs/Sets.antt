@@ -21,7 +21,7 @@ use Rattle.numbers.proofs.Tables.{tabulate-at, tabulate-length, tabulate-same}
 use Rattle.theory_sums.proofs.Sums.{sumBelow-same}
 use Rattle.theory_sets.specs.Masks.{size, inside}
 use Rattle.theory_sets.specs.Tables.{inTable}
-use Rattle.theory_sets.proofs.Ranges.{below-or-above}
+use Rattle.numbers.proofs.Bounds.{below-or-above}
 use Rattle.theory_orders.specs.Formulas.{added, taken}
 use Rattle.structure_words.specs.Words.{inWords, wordsOf}
 use Rattle.numbers.proofs.Counts.{factorials-few}

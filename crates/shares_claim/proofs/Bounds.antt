@@ -10,14 +10,14 @@ use native.Mathlib.Omega.{arith}
 use lib.Arith.{lt-one}
 use lib.Count.{ones, onesIn}
 use lib.Dec.{eqb, eqb·zero-suc, eqb·suc-zero, eqb·suc-suc}
-use lib.IntN.{ℤ, pos, _*ℤ_, natAbs}
+use lib.IntN.{pos, _*ℤ_, natAbs}
 use borrow.Author.Tests.{eqb-true}
 use Rattle.numbers.specs.Counts.{choose}
 use Rattle.theory_sums.specs.Sums.{indicator, sumBelow}
 use Rattle.theory_sums.proofs.Sums.{sumBelow-same, sumBelow-le, sumBelow-zero, sumBelow-mul, sumBelow-masks}
 use Rattle.theory_sets.specs.Masks.{has, size, holds, inside, outside}
-use Rattle.theory_sets.proofs.Bools.{and-left, and-right, and-swap, true-or-false}
-use Rattle.theory_sets.proofs.Ranges.{below-or-above}
+use Rattle.numbers.proofs.Bools.{and-left, and-right, and-swap, true-or-false}
+use Rattle.numbers.proofs.Bounds.{below-or-above}
 use Rattle.theory_orders.proofs.Sizes.{size-bits, size-rest, size-last}
 use Rattle.theory_figures.specs.Figures.{sign, setDomination}
 use Rattle.theory_figures.proofs.Holding.{holds-more, holds-never, holds-last}

@@ -21,7 +21,7 @@ use Rattle.theory_sums.proofs.Sums.{sumBelow-same, sumBelow-zero, sumBelow-exch
 use Rattle.theory_sums.proofs.IntegerSums.{sumBelowℤ-same}
 use Rattle.theory_sets.specs.Masks.{has, size, inside, outside}
 use Rattle.theory_sets.specs.Structures.{Semicoherent}
-use Rattle.theory_sets.proofs.Bools.{true-or-false}
+use Rattle.numbers.proofs.Bools.{true-or-false}
 use Rattle.theory_orders.specs.Counting.{count}
 use Rattle.theory_orders.specs.Formulas.{pathCount, byParts}
 use Rattle.theory_orders.proofs.Counting.{count-is-byParts}

@@ -16,7 +16,7 @@ use Rattle.theory_sums.specs.Sums.{indicator, some}
 use Rattle.theory_sums.proofs.Sums.{sum-le, sum-ones, sumBelow-same, sumBelow-le, sumBelow-zero}
 use Rattle.theory_sets.specs.Masks.{has, size, holds, inside}
 use Rattle.theory_sets.specs.Structures.{Semicoherent}
-use Rattle.theory_sets.proofs.Bools.{clash, true-or-false}
+use Rattle.numbers.proofs.Bools.{clash, true-or-false}
 use Rattle.theory_sets.proofs.Masks.{holds-part}
 use Rattle.theory_orders.specs.Orders.{orders}
 use Rattle.theory_orders.specs.Counting.{count, entries, stopsAsKth}

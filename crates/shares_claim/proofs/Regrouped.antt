@@ -12,7 +12,7 @@ use Rattle.numbers.proofs.Counts.{factorial-pos, factor-same}
 use Rattle.theory_sums.proofs.Integers.{ring}
 use Rattle.theory_sums.proofs.IntegerSums.{sumBelowℤ-same, sumBelowℤ-mul}
 use Rattle.theory_sets.specs.Masks.{any}
-use Rattle.theory_sets.proofs.Bools.{not-not}
+use Rattle.numbers.proofs.Bools.{not-not}
 use Rattle.theory_sets.proofs.Ranges.{any-none}
 use Rattle.shares_claim.specs.Polynomials.{integral, shareFrom}
 use Rattle.shares_claim.specs.Inside.{common, powerWeight}

@@ -17,7 +17,7 @@ use Rattle.theory_sums.proofs.IntegerSums.{sumBelowℤ-same, sumBelowℤ-add, s
 use Rattle.theory_sums.proofs.Differences.{difference, monomial, monomial-same, monomial-other}
 use Rattle.theory_sets.specs.Masks.{size, inside, outside}
 use Rattle.theory_sets.specs.Structures.{Semicoherent}
-use Rattle.theory_sets.proofs.Bools.{true-or-false}
+use Rattle.numbers.proofs.Bools.{true-or-false}
 use Rattle.theory_orders.specs.Counting.{count}
 use Rattle.theory_orders.specs.Formulas.{added, taken}
 use Rattle.theory_orders.proofs.Counting.{count-and-taken}

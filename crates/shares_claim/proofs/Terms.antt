@@ -16,8 +16,9 @@ use Rattle.numbers.proofs.Counts.{choose-above, choose-rises, choose-parts}
 use Rattle.theory_sums.specs.Sums.{sumBelow}
 use Rattle.theory_sums.proofs.Sums.{sumBelow-same, sumBelow-le, sumBelow-zero, sumBelow-mul, sumBelow-add, sumBelow-first}
 use Rattle.theory_sets.specs.Masks.{any}
-use Rattle.theory_sets.proofs.Bools.{not-not}
-use Rattle.theory_sets.proofs.Ranges.{any-none, below-or-above}
+use Rattle.numbers.proofs.Bools.{not-not}
+use Rattle.numbers.proofs.Bounds.{below-or-above}
+use Rattle.theory_sets.proofs.Ranges.{any-none}
 use Rattle.shares_claim.specs.Inside.{common, powerWeight, Bounded}
 use Rattle.shares_claim.proofs.Magnitudes.{natAbs-product}
 use Rattle.shares_claim.proofs.Regrouped.{powerWeight-whole, powerTerm}

@@ -13,7 +13,7 @@ use Rattle.theory_sums.proofs.Sums.{sumBelow-same, sumBelow-add}
 use Rattle.theory_sums.proofs.Integers.{ring}
 use Rattle.theory_sums.proofs.IntegerSums.{sumBelowℤ-same, sumBelowℤ-mul, sumBelowℤ-exchange}
 use Rattle.theory_sets.specs.Masks.{has, size, inside, outside}
-use Rattle.theory_sets.proofs.Bools.{and-swap}
+use Rattle.numbers.proofs.Bools.{and-swap}
 use Rattle.theory_orders.proofs.Sizes.{size-bits, size-rest, size-meet, missing-inside}
 use Rattle.theory_figures.specs.Figures.{setDomination}
 use Rattle.theory_sums.proofs.IntegerSums.{sumBelowℤ-only}

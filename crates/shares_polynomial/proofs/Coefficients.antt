@@ -22,7 +22,7 @@ use Rattle.theory_sums.proofs.Integers.{*ℤ-unit, negℤ-*ℤ, unit-*ℤ, *ℤ
 use Rattle.theory_sums.proofs.IntegerSums.{sumBelowℤ-same, sumBelowℤ-mul}
 use Rattle.theory_sets.specs.Masks.{size, inside, outside}
 use Rattle.theory_sets.specs.Tables.{inTable}
-use Rattle.theory_sets.proofs.Bools.{same-test, and-left, and-right}
+use Rattle.numbers.proofs.Bools.{same-test, and-left, and-right}
 use Rattle.structure_words.specs.Words.{inWords, wordsOf}
 use Rattle.theory_figures.specs.Figures.{sign, domination}
 use Rattle.theory_figures.proofs.Signs.{sign-even, sign-odd}

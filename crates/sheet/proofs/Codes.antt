@@ -8,7 +8,7 @@ use native.Mathlib.Omega.{arith}
 use lib.Dec.{leb, eqb}
 use lib.IntN.{ℤ, pos, negsuc}
 use borrow.Author.Tests.{leb-true, eqb-true, eqb-false, eq-eqb, ne-eqb}
-use Rattle.theory_sets.proofs.Bools.{and-right, true-or-false}
+use Rattle.numbers.proofs.Bools.{and-right, true-or-false}
 use Rattle.vector_kind.specs.Kinds.{kindNumber, lengthOf, isKind, kindOf}
 use Rattle.vector_kind.specs.declared.Kind.{Kind}
 use Rattle.vector_kind.specs.declared.Kind.the-variants.{PathCounts, Tail, Signature, Domination}

@@ -23,9 +23,10 @@ use Rattle.theory_orders.proofs.Sperner.{minimalSets-most}
 use Rattle.theory_sets.specs.Masks.{has, holds, any, least, Rising}
 use Rattle.theory_sets.specs.Structures.{Semicoherent, listed, broken, minimal, minimalSets}
 use Rattle.theory_sets.specs.Tables.{packed, inTable, tableOf, tableLength}
-use Rattle.theory_sets.proofs.Bools.{and-left, and-right, and-both, clash}
+use Rattle.numbers.proofs.Bools.{and-left, and-right, and-both, clash}
 use Rattle.theory_sets.proofs.Lists.{Covers, listed-same, listed-semicoherent, minimal-listed, listed-minimal}
-use Rattle.theory_sets.proofs.Ranges.{any-false, any-none, any-same, those-elim, those-intro, below-or-above}
+use Rattle.numbers.proofs.Bounds.{below-or-above}
+use Rattle.theory_sets.proofs.Ranges.{any-false, any-none, any-same, those-elim, those-intro}
 use Rattle.theory_sets.proofs.Structures.{upward-by-parts, by-parts-upward, unbroken-by-parts, by-parts-unbroken, minimal-works, minimal-below, semicoherent-same, minimalSets-same}
 use Rattle.theory_sets.proofs.Tables.{packed-unique, inTable-at, inTable-beyond, tableOf-length, tableOf-at, tableOf-works, tableLength-small, tableLength-large}
 use Rattle.numbers.proofs.Tables.{tabulate-unique}

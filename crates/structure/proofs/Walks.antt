@@ -16,9 +16,10 @@ use Rattle.numbers.proofs.Tables.{tabulate-unique, tabulate-length, tabulate-at
 use Rattle.theory_sets.specs.Masks.{has, any, those, least}
 use Rattle.theory_sets.specs.Structures.{broken, listed, minimal, minimalSets}
 use Rattle.theory_sets.specs.Tables.{packed, inTable, tableOf, tableLength}
-use Rattle.theory_sets.proofs.Bools.{true-or-false}
+use Rattle.numbers.proofs.Bools.{true-or-false}
 use Rattle.theory_sets.proofs.Masks.{add-below}
-use Rattle.theory_sets.proofs.Ranges.{any-same, those-same, those-skip, those-empty, least-some, below-or-above}
+use Rattle.numbers.proofs.Bounds.{below-or-above}
+use Rattle.theory_sets.proofs.Ranges.{any-same, those-same, those-skip, those-empty, least-some}
 use Rattle.theory_sets.proofs.Tables.{packed-same, tableLength-small, tableLength-large}
 use Rattle.structure_words.specs.Words.{inWords, wordsOf, among, bytesIn}
 use Rattle.structure_closure.specs.Closure.{without, spread, irredundant}

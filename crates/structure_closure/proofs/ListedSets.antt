@@ -13,7 +13,7 @@ use lib.Pow.{pow-pos}
 use borrow.Author.Tests.{eqb-true, eq-eqb}
 use Rattle.theory_sets.specs.Masks.{has, holds}
 use Rattle.theory_sets.specs.Structures.{listed}
-use Rattle.theory_sets.proofs.Bools.{and-left, and-right, and-both, or-cases, or-left, or-right, true-or-false, clash, same-test, false-of}
+use Rattle.numbers.proofs.Bools.{and-left, and-right, and-both, or-cases, or-left, or-right, true-or-false, clash, same-test, false-of}
 use Rattle.theory_sets.proofs.Lists.{listed-intro, listed-elim}
 use Rattle.theory_sets.proofs.Masks.{has-le, holds-part, holds-refl, holds-trans, holds-sub, holds-without, quotient-half, quotient-odd, quotient-even}
 use Rattle.theory_sets.proofs.Ranges.{any-intro, any-elim}

@@ -10,7 +10,7 @@ use lib.Pow.{pow-pos}
 use borrow.Author.Tests.{not-true}
 use Rattle.theory_sets.specs.Masks.{has, holds}
 use Rattle.theory_sets.specs.Structures.{Semicoherent, minimal}
-use Rattle.theory_sets.proofs.Bools.{and-left, and-right, and-both, clash, same-test}
+use Rattle.numbers.proofs.Bools.{and-left, and-right, and-both, clash, same-test}
 use Rattle.theory_sets.proofs.Masks.{has-le, holds-sub, holds-without, lacking}
 use Rattle.theory_sets.proofs.Ranges.{any-intro, any-false}
 use Rattle.theory_sets.proofs.Structures.{minimal-works, minimal-least, minimal-intro}

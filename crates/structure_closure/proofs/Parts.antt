@@ -13,9 +13,9 @@ use lib.ListN.{getD}
 use lib.Pow.{pow-pos, pow-add, shr-le}
 use Rattle.theory_sets.specs.Masks.{has, meet}
 use Rattle.theory_sets.specs.Tables.{packed}
-use Rattle.theory_sets.proofs.Bools.{true-or-false, or-true, or-false, and-swap, not-not}
+use Rattle.numbers.proofs.Bools.{true-or-false, or-true, or-false, and-swap, not-not}
 use Rattle.theory_sets.proofs.Masks.{join, has-le, has-flip, has-above, has-full, has-low, has-meet, has-join, has-shift, add-below, bit-of-odd, bit-of-even}
-use Rattle.theory_sets.proofs.Ranges.{below-or-above}
+use Rattle.numbers.proofs.Bounds.{below-or-above}
 use Rattle.theory_sets.proofs.Tables.{has-packed, packed-below}
 use Rattle.structure_words.specs.Words.{inWords, wordOf}
 use Rattle.structure_closure.specs.Closure.{without}

@@ -9,7 +9,8 @@ use native.Mathlib.Numerals.{add-one}
 use native.Mathlib.Omega.{arith}
 use Rattle.theory_sets.specs.Masks.{has, least}
 use Rattle.theory_sets.proofs.Masks.{has-above}
-use Rattle.theory_sets.proofs.Ranges.{below-or-above, least-found}
+use Rattle.numbers.proofs.Bounds.{below-or-above}
+use Rattle.theory_sets.proofs.Ranges.{least-found}
 use Rattle.structure_words.specs.Words.{inWords, wordOf, wordsOf}
 use Rattle.structure_words.proofs.Words.{inWords-wordsOf, has-wordOf, wordsOf-same}
 use Rattle.structure_words.proofs.Runs.{Lowest}

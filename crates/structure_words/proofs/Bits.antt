@@ -8,7 +8,7 @@ use native.Mathlib.Nat.{zero-lt-suc, not-suc-le-zero, le-of-suc-le-suc, pow-succ
 use native.Mathlib.Omega.{arith}
 use lib.Pow.{shl-shr}
 use Rattle.theory_sets.specs.Masks.{has}
-use Rattle.theory_sets.proofs.Bools.{true-or-false}
+use Rattle.numbers.proofs.Bools.{true-or-false}
 use Rattle.theory_sets.proofs.Masks.{odd, even, has-odd, has-even, has-suc, has-shift, has-low, has-above}
 
 -- a shift to the left by s clears the s lowest bits

@@ -15,9 +15,10 @@ use lib.Pow.{pow-pos, pow-add, mod-pow-add, shr-shr}
 use Rattle.answer.proofs.Outcomes.{InFront, in-front-none, in-front-one}
 use Rattle.theory_sets.specs.Masks.{has, those, least}
 use Rattle.theory_sets.specs.Tables.{packed, inTable}
-use Rattle.theory_sets.proofs.Bools.{true-or-false, clash}
+use Rattle.numbers.proofs.Bools.{true-or-false, clash}
 use Rattle.theory_sets.proofs.Masks.{odd, even, has-suc, has-low, has-above, has-block, has-shift, quotient-odd, quotient-even}
-use Rattle.theory_sets.proofs.Ranges.{below-or-above, least-none, least-found, those-skip, those-take, those-fewer}
+use Rattle.numbers.proofs.Bounds.{below-or-above}
+use Rattle.theory_sets.proofs.Ranges.{least-none, least-found, those-skip, those-take, those-fewer}
 use Rattle.theory_sets.proofs.Tables.{packed-unique, packed-same, inTable-at}
 use Rattle.structure_words.specs.Words.{inWords, wordOf}
 use Rattle.structure_words.proofs.Words.{inWords-at, wordOf-unique}

@@ -16,7 +16,7 @@ use lib.Seq.{getD-set-same, getD-set-other}
 use borrow.Author.Tests.{eqb-true, eq-eqb, ne-eqb}
 use Rattle.numbers.proofs.Tables.{tabulate-at, tabulate-length, tabulate-unique}
 use Rattle.theory_sets.specs.Masks.{has, meet, any}
-use Rattle.theory_sets.proofs.Bools.{same-test, or-false}
+use Rattle.numbers.proofs.Bools.{same-test, or-false}
 use Rattle.theory_sets.proofs.Masks.{join, has-above, has-add, has-meet, has-join}
 use Rattle.theory_sets.proofs.Tables.{has-packed, packed-below, packed-unique}
 use Rattle.structure_words.specs.Words.{inWords, wordOf, wordsOf}

@@ -15,7 +15,7 @@ use mir.Syntax.{w64}
 use mir.Val.{Fits, SFits}
 use borrow.Author.Tests.{lt-ltb, le-ltb}
 use Rattle.io.specs.Digits.{glyph, digits, Fewest}
-use Rattle.theory_sets.proofs.Ranges.{below-or-above}
+use Rattle.numbers.proofs.Bounds.{below-or-above}
 use Rattle.text.specs.Texts.{spelled, decimal, signed}
 
 -- ---- one digit, and one digit more
@@ -71,13 +71,6 @@ digits-decimal (suc (suc k)) n f =
   where
     below : (k : ℕ) → 1 < suc k → 10 ^ k * 10 ≤ n → 10 ^ (suc k - 1) ≤ n / 10
     below k more least = subst (λ (x : ℕ). 10 ^ x ≤ n / 10) (sym (sub-one (suc k))) (omega arith)
-
--- a number of 64 bits has 1 to 20 digits
-pub decimal-some : (n : ℕ) → 1 ≤ length (decimal n)
-decimal-some n =
-    ⊎-elim (λ small. subst (λ (text : List ℕ). 1 ≤ length text) (sym (decimal-small n small)) (le-refl 1)) (λ large.
-    subst (λ (text : List ℕ). 1 ≤ length text) (sym (decimal-large n large))
-    (omega (arith, length-append (decimal (n / 10)) ((48 + n % 10) ∷ [])))) (below-or-above n 10)
 
 pub decimal-most : (k n : ℕ) → n < 10 ^ suc k → length (decimal n) ≤ suc k
 decimal-most zero n h = le-of-eq (ap length (decimal-small n h))

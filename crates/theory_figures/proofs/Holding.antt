@@ -8,9 +8,9 @@ use native.Mathlib.Omega.{arith}
 use Rattle.theory_sums.specs.Sums.{indicator}
 use Rattle.theory_sums.proofs.Sums.{sumBelow-le}
 use Rattle.theory_sets.specs.Masks.{has, size, holds}
-use Rattle.theory_sets.proofs.Bools.{clash, false-of, same-test}
+use Rattle.numbers.proofs.Bools.{clash, false-of, same-test}
 use Rattle.theory_sets.proofs.Masks.{has-above, holds-part, holds-of-parts}
-use Rattle.theory_sets.proofs.Ranges.{below-or-above}
+use Rattle.numbers.proofs.Bounds.{below-or-above}
 use Rattle.theory_orders.proofs.Sizes.{size-bits, has-last, has-others}
 
 -- a set that holds another is no smaller

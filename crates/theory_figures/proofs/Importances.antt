@@ -16,7 +16,7 @@ use Rattle.theory_sums.specs.Sums.{indicator, sumBelow, sumSets}
 use Rattle.theory_sums.proofs.Sums.{sumBelow-same, sumBelow-zero, sumBelow-add, sumBelow-exchange}
 use Rattle.theory_sets.specs.Masks.{has, size, meet}
 use Rattle.theory_sets.specs.Structures.{Semicoherent}
-use Rattle.theory_sets.proofs.Bools.{and-left, and-right, clash, false-of, true-or-false, or-false}
+use Rattle.numbers.proofs.Bools.{and-left, and-right, clash, false-of, true-or-false, or-false}
 use Rattle.theory_sets.proofs.Masks.{has-add, has-above, has-full}
 use Rattle.theory_orders.specs.Counting.{count}
 use Rattle.theory_orders.specs.Formulas.{pathCount, added, taken, byParts}

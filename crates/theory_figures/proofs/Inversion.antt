@@ -16,8 +16,8 @@ use Rattle.theory_sums.proofs.Integers.{*ℤ-unit, *ℤ-negℤ, ring}
 use Rattle.theory_sums.proofs.IntegerSums.{sumBelowℤ-same, sumBelowℤ-zero, sumBelowℤ-neg, sumBelowℤ-mul, sumBelowℤ-exchange}
 use Rattle.theory_sums.proofs.Differences.{monomial, monomial-same, monomial-other}
 use Rattle.theory_sets.specs.Masks.{size, holds}
-use Rattle.theory_sets.proofs.Bools.{and-right, true-or-false}
-use Rattle.theory_sets.proofs.Ranges.{below-or-above}
+use Rattle.numbers.proofs.Bools.{and-right, true-or-false}
+use Rattle.numbers.proofs.Bounds.{below-or-above}
 use Rattle.theory_orders.proofs.Sizes.{size-last}
 use Rattle.theory_figures.specs.Figures.{sign, setDomination}
 use Rattle.theory_sums.proofs.IntegerSums.{sumBelowℤ-masks, sumBelowℤ-only}

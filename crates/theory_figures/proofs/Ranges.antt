@@ -10,7 +10,8 @@ use borrow.Author.Tests.{ltb-false}
 use Rattle.numbers.specs.Counts.{factorial, choose}
 use Rattle.numbers.proofs.Counts.{factorial-pos, factorials-few, choose-above, choose-rises}
 use Rattle.theory_sets.specs.Masks.{any}
-use Rattle.theory_sets.proofs.Ranges.{any-none, below-or-above}
+use Rattle.numbers.proofs.Bounds.{below-or-above}
+use Rattle.theory_sets.proofs.Ranges.{any-none}
 use Rattle.theory_figures.specs.Figures.{tail}
 
 -- ---- binomials

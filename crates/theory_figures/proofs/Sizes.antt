@@ -13,7 +13,7 @@ use Rattle.theory_sums.specs.Sums.{indicator, sumBelow, sumSets, sumBelowℤ}
 use Rattle.theory_sums.proofs.Sums.{sumBelow-same, sumBelow-le, sumBelow-zero, sumBelow-ones, sumBelow-mul, sumBelow-exchange}
 use Rattle.theory_sums.proofs.IntegerSums.{sumBelowℤ-same, sumBelowℤ-mul, sumBelowℤ-exchange}
 use Rattle.theory_sets.specs.Masks.{has, size, meet}
-use Rattle.theory_sets.proofs.Bools.{false-of}
+use Rattle.numbers.proofs.Bools.{false-of}
 use Rattle.theory_sets.proofs.Masks.{has-full, has-le, has-sub, has-above, same-bits}
 use Rattle.theory_orders.specs.Formulas.{pathCount}
 use Rattle.theory_orders.proofs.Sizes.{size-add, size-bits, size-meet}

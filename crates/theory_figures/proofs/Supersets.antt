@@ -17,9 +17,9 @@ use Rattle.theory_sums.proofs.Sums.{sumBelow-same}
 use Rattle.theory_sums.proofs.Integers.{*ℤ-unit, *ℤ-negℤ, ring}
 use Rattle.theory_sums.proofs.IntegerSums.{sumBelowℤ-same, sumBelowℤ-zero, sumBelowℤ-neg}
 use Rattle.theory_sets.specs.Masks.{has, size, holds}
-use Rattle.theory_sets.proofs.Bools.{true-or-false}
+use Rattle.numbers.proofs.Bools.{true-or-false}
 use Rattle.theory_sets.proofs.Masks.{has-above}
-use Rattle.theory_sets.proofs.Ranges.{below-or-above}
+use Rattle.numbers.proofs.Bounds.{below-or-above}
 use Rattle.theory_orders.proofs.Sizes.{size-last, has-last, has-others}
 use Rattle.theory_figures.specs.Figures.{sign}
 use Rattle.theory_sums.proofs.IntegerSums.{sumBelowℤ-masks}

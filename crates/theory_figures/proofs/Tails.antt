@@ -18,7 +18,7 @@ use Rattle.theory_sums.proofs.Sums.{sumBelow-same, sumBelow-zero, sumBelow-mul}
 use Rattle.theory_sums.proofs.IntegerSums.{sumBelowℤ-same}
 use Rattle.theory_sets.specs.Masks.{size, meet}
 use Rattle.theory_sets.specs.Structures.{Semicoherent}
-use Rattle.theory_sets.proofs.Bools.{and-right, clash, false-of}
+use Rattle.numbers.proofs.Bools.{and-right, clash, false-of}
 use Rattle.theory_orders.specs.Counting.{count}
 use Rattle.theory_orders.specs.Formulas.{pathCount, added, taken}
 use Rattle.theory_orders.proofs.Counting.{count-and-taken}

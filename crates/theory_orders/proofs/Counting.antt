@@ -14,7 +14,7 @@ use Rattle.theory_sums.specs.Sums.{indicator, sum, howMany, sumBelow}
 use Rattle.theory_sums.proofs.Sums.{sum-same, some-is-howMany, sumBelow-same, sumBelow-add, sumBelow-mul, sumBelow-once, sumBelow-weights}
 use Rattle.theory_sets.specs.Masks.{has, size, inside}
 use Rattle.theory_sets.specs.Structures.{Semicoherent}
-use Rattle.theory_sets.proofs.Bools.{true-or-false, same-test}
+use Rattle.numbers.proofs.Bools.{true-or-false, same-test}
 use Rattle.theory_sets.proofs.Masks.{has-add}
 use Rattle.theory_sets.proofs.Structures.{upward-by-parts}
 use Rattle.theory_orders.specs.Orders.{orders, mask}

@@ -15,7 +15,7 @@ use Rattle.numbers.specs.Counts.{factorial}
 use Rattle.theory_sums.specs.Sums.{indicator, sum, howMany, sumBelow}
 use Rattle.theory_sums.proofs.Sums.{sum-same, sum-add, sum-map, sum-flatMap, sumBelow-same, sumBelow-halves}
 use Rattle.theory_sets.specs.Masks.{has, size}
-use Rattle.theory_sets.proofs.Bools.{true-or-false}
+use Rattle.numbers.proofs.Bools.{true-or-false}
 use Rattle.theory_sets.proofs.Masks.{has-above}
 use Rattle.theory_orders.specs.Orders.{inserted, orders, mask}
 use Rattle.theory_orders.specs.Counting.{Entry, behind, entries, inGroup}

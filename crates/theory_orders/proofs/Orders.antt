@@ -13,7 +13,7 @@ use borrow.Author.Tests.{eqb-true, eq-eqb, lt-leb}
 use Rattle.numbers.specs.Counts.{factorial}
 use Rattle.theory_sums.specs.Sums.{indicator, sum, howMany, sumBelow}
 use Rattle.theory_sums.proofs.Sums.{sum-same, sum-map, sum-flatMap, sum-zero, sum-ones, sumBelow-same, sumBelow-zero, sumBelow-once}
-use Rattle.theory_sets.proofs.Bools.{and-left, and-right, clash, true-or-false}
+use Rattle.numbers.proofs.Bools.{and-left, and-right, clash, true-or-false}
 use Rattle.theory_orders.specs.Orders.{isPosition, times, IsOrder, inserted, orders, same}
 
 -- ---- one position more

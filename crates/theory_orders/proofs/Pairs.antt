@@ -15,7 +15,7 @@ use Rattle.theory_sums.specs.Sums.{indicator, sumBelow}
 use Rattle.theory_sums.proofs.Sums.{sumBelow-same, sumBelow-le, sumBelow-mul, sumBelow-weights}
 use Rattle.theory_sets.specs.Masks.{has, size}
 use Rattle.theory_sets.specs.Structures.{Semicoherent}
-use Rattle.theory_sets.proofs.Bools.{and-left, and-right, true-or-false}
+use Rattle.numbers.proofs.Bools.{and-left, and-right, true-or-false}
 use Rattle.theory_sets.proofs.Structures.{upward-by-parts}
 use Rattle.theory_orders.specs.Formulas.{pathCount}
 use Rattle.theory_orders.proofs.Sizes.{size-bits, size-rest, size-add, part-more}

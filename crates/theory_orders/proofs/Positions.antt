@@ -13,7 +13,7 @@ use lib.Pow.{pow-pos}
 use borrow.Author.Tests.{eq-eqb, eqb-true, leb-true}
 use Rattle.theory_sums.specs.Sums.{indicator, sum, sumBelow}
 use Rattle.theory_sets.specs.Masks.{has}
-use Rattle.theory_sets.proofs.Bools.{and-right, true-or-false}
+use Rattle.numbers.proofs.Bools.{and-right, true-or-false}
 use Rattle.theory_sets.proofs.Masks.{has-add, has-above, add-below}
 use Rattle.theory_orders.specs.Orders.{isPosition, times, IsOrder, mask}
 use Rattle.theory_orders.proofs.Orders.{sum-of-order, orders-all}

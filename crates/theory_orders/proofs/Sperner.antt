@@ -18,7 +18,7 @@ use Rattle.theory_sums.specs.Sums.{indicator, sumBelow}
 use Rattle.theory_sums.proofs.Sums.{sum-le, sum-ones, sumBelow-le, sumBelow-mul}
 use Rattle.theory_sets.specs.Masks.{size, holds, any, those}
 use Rattle.theory_sets.specs.Structures.{minimal, minimalSets}
-use Rattle.theory_sets.proofs.Bools.{true-or-false, false-of}
+use Rattle.numbers.proofs.Bools.{true-or-false, false-of}
 use Rattle.theory_sets.proofs.Masks.{holds-trans, holds-le, holds-add}
 use Rattle.theory_sets.proofs.Ranges.{any-none}
 use Rattle.theory_sets.proofs.Structures.{minimal-works, minimal-least}

@@ -14,7 +14,7 @@ use Rattle.theory_sums.specs.Sums.{indicator, sum, sumBelow}
 use Rattle.theory_sums.proofs.Sums.{sum-same, sum-ones, sumBelow-same, sumBelow-zero, sumBelow-mul, sumBelow-exchange, sumBelow-once}
 use Rattle.theory_sets.specs.Masks.{has, size}
 use Rattle.theory_sets.specs.Structures.{Semicoherent}
-use Rattle.theory_sets.proofs.Bools.{true-or-false}
+use Rattle.numbers.proofs.Bools.{true-or-false}
 use Rattle.theory_sets.proofs.Masks.{has-full}
 use Rattle.theory_orders.specs.Orders.{orders, mask}
 use Rattle.theory_orders.specs.Counting.{entries, stops, inGroup, count}

@@ -1,4 +1,3 @@
-pub mod Bools
 pub mod Masks
 pub mod Ranges
 pub mod Structures

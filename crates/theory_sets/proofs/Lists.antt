@@ -9,7 +9,7 @@ use Prim.Native.Nat.{ℕ, _-_, _^_, _<_}
 use native.Mathlib.Nat.{lt-of-le-of-lt, lt-irrefl, lt-of-lt-of-le}
 use Rattle.theory_sets.specs.Masks.{holds, Rising}
 use Rattle.theory_sets.specs.Structures.{Semicoherent, listed, minimal, minimalSets}
-use Rattle.theory_sets.proofs.Bools.{or-cases, or-left, or-right, clash, false-of, same-test}
+use Rattle.numbers.proofs.Bools.{or-cases, or-left, or-right, clash, false-of, same-test}
 use Rattle.theory_sets.proofs.Masks.{holds-refl, holds-trans, holds-le, holds-antisym, full-holds}
 use Rattle.theory_sets.proofs.Ranges.{those-elim, those-intro, those-rising, rising-unique}
 use Rattle.theory_sets.proofs.Structures.{minimal-works, minimal-least, minimal-intro, minimal-below}

@@ -13,8 +13,9 @@ use lib.Dec.{eqb, eqb·suc-suc, eqb·zero-suc, eqb·suc-zero}
 use lib.Pow.{pow-mono, pow-pos, shr-shr, high, field, mod-mod-pow}
 use borrow.Author.Tests.{eqb-true, eqb-false, eq-eqb, ne-eqb, not-true, not-false}
 use Rattle.theory_sets.specs.Masks.{has, holds, meet, any}
-use Rattle.theory_sets.proofs.Bools.{and-left, and-right, and-both, or-cases, or-right, true-or-false, same-test, clash}
-use Rattle.theory_sets.proofs.Ranges.{below-or-above, any-elim, any-none}
+use Rattle.numbers.proofs.Bools.{and-left, and-right, and-both, or-cases, or-right, true-or-false, same-test, clash}
+use Rattle.numbers.proofs.Bounds.{below-or-above}
+use Rattle.theory_sets.proofs.Ranges.{any-elim, any-none}
 
 -- ---- the lowest bit and the rest
 

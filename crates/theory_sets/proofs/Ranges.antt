@@ -3,20 +3,13 @@
 use mathlib.Core.Path.{_≡_, refl, sym, ap, ap₂, _∙_, subst}
 use mathlib.Core.Bool.{Bool, true, false, cond, _||_}
 use mathlib.Core.List.{List, [], _∷_, _++_, append-nil, append-assoc, List·Memᴰ, List·Memᴰ·head, List·Memᴰ·tail, List·Memᴰ·not-nil, List·Memᴰ·cases-cons, List·Memᴰ·append-cases, List·Memᴰ·eq-of-singleton, Memᴰ·append-left, Memᴰ·append-right}
-use mathlib.Core.Logic.{_⊎_, inl, inr, ⊎-elim}
-use Prim.Native.Nat.{ℕ, zero, suc, _+_, _-_, _≤_, _<_, zero-le, suc-le-suc}
-use native.Mathlib.Nat.{not-suc-le-zero, le-refl, le-step, lt-irrefl, eq-or-lt-of-le, le-of-suc-le-suc, le-antisymm, lt-suc-self, zero-lt-suc, le-of-lt, add-zero, add-suc, le-add-right, add-sub-of-le}
+use mathlib.Core.Logic.{_⊎_, inl, inr}
+use Prim.Native.Nat.{ℕ, zero, suc, _+_, _-_, _≤_, _<_, zero-le}
+use native.Mathlib.Nat.{not-suc-le-zero, le-refl, le-step, lt-irrefl, eq-or-lt-of-le, le-of-suc-le-suc, le-antisymm, lt-suc-self, le-of-lt, add-zero, add-suc, le-add-right, add-sub-of-le}
 use native.Mathlib.Omega.{arith}
 use lib.ListN.{length, getD, length-append}
 use Rattle.theory_sets.specs.Masks.{any, those, least, Rising, RisingFrom}
-use Rattle.theory_sets.proofs.Bools.{or-cases, or-left, or-right, clash, false-of}
-
--- ---- a number and a bound
-
-pub below-or-above : (i k : ℕ) → (i < k) ⊎ (k ≤ i)
-below-or-above i zero = inr zero-le
-below-or-above zero (suc k) = inl (zero-lt-suc k)
-below-or-above (suc i) (suc k) = ⊎-elim (λ h. inl (suc-le-suc h)) (λ h. inr (suc-le-suc h)) (below-or-above i k)
+use Rattle.numbers.proofs.Bools.{or-cases, or-left, or-right, clash, false-of}
 
 -- ---- `any`
 

@@ -13,7 +13,7 @@ use lib.Pow.{pow-pos, ones-lt}
 use borrow.Author.Tests.{eqb-true, eqb-false, not-true, not-false}
 use Rattle.theory_sets.specs.Masks.{has, holds, any}
 use Rattle.theory_sets.specs.Structures.{Semicoherent, broken, minimal, minimalSets}
-use Rattle.theory_sets.proofs.Bools.{and-left, and-right, and-both, clash, true-or-false}
+use Rattle.numbers.proofs.Bools.{and-left, and-right, and-both, clash, true-or-false}
 use Rattle.theory_sets.proofs.Masks.{holds-part, holds-refl, holds-trans, holds-le, holds-add, holds-with, add-below, quotient-half, quotient-odd, quotient-even}
 use Rattle.theory_sets.proofs.Ranges.{any-elim, any-none, any-false, any-same, those-same}
 

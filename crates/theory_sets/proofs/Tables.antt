@@ -15,7 +15,7 @@ use Rattle.numbers.proofs.Tables.{tabulate-length, tabulate-at}
 use Rattle.theory_sets.specs.Masks.{has}
 use Rattle.theory_sets.specs.Tables.{packed, inTable, tableLength, tableOf}
 use Rattle.theory_sets.proofs.Masks.{has-zero, has-suc, has-above, same-bits}
-use Rattle.theory_sets.proofs.Ranges.{below-or-above}
+use Rattle.numbers.proofs.Bounds.{below-or-above}
 
 -- ---- packed bits
 

@@ -20,7 +20,7 @@ use Rattle.answer.specs.declared.Verdict.{Verdict}
 use Rattle.answer.specs.declared.Verdict.the-variants.{Accepted}
 use Rattle.answer.proofs.Outcomes.{refuse-accepted}
 use Rattle.numbers.proofs.Tables.{tabulate-length}
-use Rattle.theory_sets.proofs.Bools.{and-left, and-right, true-or-false}
+use Rattle.numbers.proofs.Bools.{and-left, and-right, true-or-false}
 use Rattle.vector.specs.InStruct.{mostEntries, entryCells, entriesOf, structRefusal}
 use Rattle.vector_kind.specs.Kinds.{lengthOf}
 use Rattle.vector.specs.Inside.{lentCells}

@@ -15,7 +15,7 @@ use Rattle.answer.specs.declared.Verdict.the-variants.{Accepted}
 use Rattle.answer.proofs.Outcomes.{refuse-accepted, refuse-passed}
 use Rattle.numbers.specs.Counts.{choose}
 use Rattle.theory_sets.specs.Masks.{least}
-use Rattle.theory_sets.proofs.Bools.{and-left, and-right, and-both, clash}
+use Rattle.numbers.proofs.Bools.{and-left, and-right, and-both, clash}
 use Rattle.theory_sets.proofs.Ranges.{any-false, any-none}
 use Rattle.vector_kind.specs.Kinds.{lengthOf}
 use Rattle.vector_conversion.specs.Vectors.{Scaled, standsFor, wholeCount, countsOf, wrongCount, falls, pathCountsRefusal, countsRefusal, vectorRefusal}

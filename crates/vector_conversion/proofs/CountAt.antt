@@ -17,7 +17,7 @@ use Rattle.numbers.specs.Counts.{factorial, choose}
 use Rattle.theory_sums.specs.Sums.{sumBelowℤ}
 use Rattle.theory_sums.proofs.Integers.{ring}
 use Rattle.theory_sums.proofs.IntegerSums.{sumBelowℤ-same}
-use Rattle.theory_sets.proofs.Ranges.{below-or-above}
+use Rattle.numbers.proofs.Bounds.{below-or-above}
 use Rattle.theory_figures.specs.Figures.{sign, domination}
 use Rattle.theory_figures.proofs.Dominations.{pathCount-back}
 use Rattle.vector_conversion.specs.Vectors.{entryAt, scaledCount, unitOf, standsFor, countsOf, wrongCount}

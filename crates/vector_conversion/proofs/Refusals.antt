@@ -15,7 +15,7 @@ use Rattle.answer.specs.declared.Verdict.the-variants.{Accepted, Refused}
 use Rattle.answer.proofs.Outcomes.{refuse-held, refuse-passed}
 use Rattle.numbers.specs.Counts.{choose}
 use Rattle.theory_sets.specs.Masks.{any, least}
-use Rattle.theory_sets.proofs.Bools.{and-left, and-right, and-both, clash, false-of}
+use Rattle.numbers.proofs.Bools.{and-left, and-right, and-both, clash, false-of}
 use Rattle.theory_sets.proofs.Ranges.{any-intro, any-false, least-found}
 use Rattle.vector_kind.specs.Kinds.{lengthOf}
 use Rattle.vector_conversion.specs.Vectors.{standsFor, countsOf, wrongCount, falls, pathCountsRefusal, countsRefusal, vectorRefusal}

@@ -11,7 +11,7 @@ use Rattle.answer.specs.declared.Verdict.the-variants.{Accepted}
 use Rattle.numbers.specs.Counts.{factorial}
 use Rattle.theory_sums.specs.Sums.{sumBelowℤ}
 use Rattle.theory_sums.proofs.IntegerSums.{sumBelowℤ-same, sumBelowℤ-reversed}
-use Rattle.theory_sets.proofs.Bools.{true-or-false}
+use Rattle.numbers.proofs.Bools.{true-or-false}
 use Rattle.vector_conversion.specs.Vectors.{entryAt, scaledCount, unitOf, standsFor, wrongCount, vectorRefusal}
 use Rattle.vector_kind.specs.declared.Kind.the-variants.{Signature}
 use Rattle.vector_conversion.proofs.Acceptance.{right-count, accepted-vector}

@@ -11,7 +11,7 @@ use denote.Ref.{now}
 use lib.ListN.{getD}
 use borrow.Author.Needs.{needs}
 use Rattle.theory_sums.specs.Sums.{sumBelow}
-use Rattle.figures.specs.Inside.{partWeight, addedSets, takenSets}
+use Rattle.figures.specs.Inside.{addedSets, takenSets}
 use Rattle.figures.proofs.Machines.{partWeight-few}
 use Rattle.figures.proofs.part_importance.Statement.{statement}
 use Rattle.figures.proofs.part_importance.Tie as tie

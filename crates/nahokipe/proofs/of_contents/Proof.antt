@@ -4,7 +4,6 @@ use mathlib.Core.Path.{ap₂}
 use Prim.Native.Nat.{ℕ}
 use borrow.Author.Needs.{needs}
 use Rattle.nahokipe.specs.declared.Answer.{Answer}
-use Rattle.nahokipe.specs.declared.Record.{Record}
 use Rattle.nahokipe.proofs.of_contents.Statement.{statement}
 use Rattle.nahokipe.proofs.of_contents.Tie as tie
 

@@ -7,7 +7,7 @@ use Prim.Native.Nat.{_<_}
 use native.Mathlib.Omega.{arith}
 use denote.Ref.{now}
 use borrow.Author.Needs.{needs}
-use Rattle.theory_sets.proofs.Bools.{not-not}
+use Rattle.numbers.proofs.Bools.{not-not}
 use Rattle.structure_words.specs.Words.{inWords}
 use Rattle.theory_sets.specs.Masks.{inside}
 use Rattle.shares_group.proofs.Gathering.{gathered-skip, gathered-add}

@@ -7,7 +7,7 @@ use native.Mathlib.Nat.{le-of-eq}
 use native.Mathlib.Omega.{arith}
 use denote.Ref.{now}
 use borrow.Author.Needs.{needs}
-use Rattle.theory_sets.proofs.Bools.{not-not}
+use Rattle.numbers.proofs.Bools.{not-not}
 use Rattle.structure_words.specs.Words.{inWords}
 use Rattle.shares_claim.proofs.Types.{inside-and-outside}
 use Rattle.shares_group.proofs.Gathering.{gathered-skip, gathered-add}

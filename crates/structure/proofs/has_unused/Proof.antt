@@ -11,7 +11,7 @@ use borrow.Author.Tests.{lt-leb}
 use Rattle.numbers.specs.Tables.{tabulate}
 use Rattle.numbers.proofs.Tables.{tabulate-agree}
 use Rattle.theory_sets.specs.Masks.{has, any}
-use Rattle.theory_sets.proofs.Bools.{and-left, clash}
+use Rattle.numbers.proofs.Bools.{and-left, clash}
 use Rattle.theory_sets.proofs.Ranges.{any-false}
 use Rattle.structure.proofs.has_unused.Statement.{statement}
 use Rattle.structure.proofs.has_unused.Tie as tie

@@ -9,7 +9,7 @@ use borrow.Author.Tests.{eq-eqb, ne-eqb, lt-ltb, le-ltb, leb-true, not-false}
 use Rattle.answer.specs.Refusals.{wrongPartCount, emptyList, longList}
 use Rattle.answer.proofs.Outcomes.{refuse-held, refuse-passed}
 use Rattle.theory_orders.specs.Antichains.{mostSets}
-use Rattle.theory_sets.proofs.Bools.{and-right}
+use Rattle.numbers.proofs.Bools.{and-right}
 use Rattle.structure.specs.Checks.{listRefusal}
 use borrow.Author.Needs.{needs}
 use Rattle.structure.proofs.list_verdict.Statement.{statement}

@@ -13,7 +13,7 @@ use Rattle.answer.specs.Refusals.{wrongPartCount, wrongTableLength, unusedBit}
 use Rattle.answer.proofs.Outcomes.{refuse-held, refuse-passed}
 use Rattle.numbers.proofs.Counts.{upTo16-given}
 use Rattle.theory_sets.specs.Tables.{tableLength}
-use Rattle.theory_sets.proofs.Bools.{and-left, and-right}
+use Rattle.numbers.proofs.Bools.{and-left, and-right}
 use Rattle.structure.specs.Checks.{unused, tableRefusal}
 use Rattle.structure.proofs.Acceptance.{unused-first, table-beyond}
 use borrow.Author.Needs.{needs}

@@ -178,27 +178,52 @@ pub fn page(faults: &mut Vec<String>) -> String {
     page + &table(&mut shelf, &all)
 }
 
+/// How much has to be believed for each promise, by its title.
+pub fn sums() -> Vec<(String, String)> {
+    let mut shelf = Shelf::default();
+    let mut all = Vec::new();
+    for promise in promises() {
+        let mut things = BTreeSet::new();
+        for (path, name) in &promise.statements {
+            things.extend(shelf.below(path, name).unwrap_or_default());
+        }
+        all.push((promise.title, sum(&mut shelf, &things)));
+    }
+    all
+}
+
+fn sum(shelf: &mut Shelf, things: &BTreeSet<Thing>) -> String {
+    let believed: Vec<&Thing> = things.iter().filter(|thing| !matches!(thing, Thing::Library(..))).collect();
+    let files: BTreeSet<String> = believed.iter().map(|thing| file_of(thing)).collect();
+    let lines: usize = believed.iter().map(|thing| shelf.lines(thing)).sum();
+    format!("{} definitions, {lines} lines, {} files", believed.len(), files.len())
+}
+
+/// The file that a definition or a type stands in.
+fn file_of(thing: &Thing) -> String {
+    match thing {
+        Thing::Definition(path, _) => path.clone(),
+        Thing::Type(krate, _) => format!("crates/{krate}/src/lib.rt"),
+        Thing::Library(module, _) => module.clone(),
+    }
+}
+
 /// The definitions by file, counted, and the words of the library.
 fn table(shelf: &mut Shelf, things: &BTreeSet<Thing>) -> String {
     let mut files: BTreeMap<String, (Vec<String>, usize)> = BTreeMap::new();
     let mut library: BTreeSet<String> = BTreeSet::new();
     for thing in things {
         let lines = shelf.lines(thing);
-        let (file, name) = match thing {
-            Thing::Definition(path, name) => (path.clone(), name.clone()),
-            Thing::Type(krate, name) => (format!("crates/{krate}/src/lib.rt"), name.clone()),
-            Thing::Library(_, name) => {
-                library.insert(name.clone());
-                continue;
+        match thing {
+            Thing::Library(_, name) => drop(library.insert(name.clone())),
+            Thing::Definition(_, name) | Thing::Type(_, name) => {
+                let entry = files.entry(file_of(thing)).or_default();
+                entry.0.push(name.clone());
+                entry.1 += lines;
             }
-        };
-        let entry = files.entry(file).or_default();
-        entry.0.push(name);
-        entry.1 += lines;
+        }
     }
-    let definitions: usize = files.values().map(|(names, _)| names.len()).sum();
-    let lines: usize = files.values().map(|(_, lines)| lines).sum();
-    let mut text = format!("\n**{definitions} definitions, {lines} lines, {} files.**\n\n| file | lines | definitions |\n|---|---|---|\n", files.len());
+    let mut text = format!("\n**{}.**\n\n| file | lines | definitions |\n|---|---|---|\n", sum(shelf, things));
     for (file, (names, lines)) in &files {
         let names: Vec<String> = names.iter().map(|name| format!("`{name}`")).collect();
         text += &format!("| [{}](../{file}) | {lines} | {} |\n", file.trim_start_matches("crates/"), names.join(", "));

@@ -38,9 +38,13 @@ pub fn faults() -> Vec<String> {
     faults
 }
 
-/// A document with the line of each link brought up to date: the name in the link's text decides where it stands.
-pub fn refreshed(path: &str) -> String {
+/// A document brought up to date: the line of each link, where the name in the link's text decides, and in brackets behind a link to a promise
+/// in BELIEVED.md how much has to be believed for it.
+pub fn refreshed(path: &str, sums: &[(String, String)]) -> String {
     let mut text = tree::text(path);
+    for (title, sum) in sums {
+        text = with_sum(&text, &format!("](BELIEVED.md#{}) (", slug(title)), sum);
+    }
     for (_, line) in prose(&text.clone()) {
         for link in links(line).iter().filter(|link| link.line.is_some()) {
             if let Some(now) = line_of(path, link) {
@@ -50,6 +54,13 @@ pub fn refreshed(path: &str) -> String {
         }
     }
     text
+}
+
+/// The text with this sum between each such beginning and the bracket that closes it.
+fn with_sum(text: &str, beginning: &str, sum: &str) -> String {
+    let mut parts = text.split(beginning);
+    let first = parts.next().unwrap_or("").to_string();
+    parts.fold(first, |done, rest| format!("{done}{beginning}{sum}{}", &rest[rest.find(')').unwrap_or(0)..]))
 }
 
 pub fn refreshable() -> Vec<String> {
@@ -250,6 +261,12 @@ mod tests {
     fn a_link_to_what_is_not_there() {
         let link = links("[x](nowhere.md)").remove(0);
         assert!(link_fault("docs/CLAIMS.md", &link).is_some());
+    }
+
+    #[test]
+    fn a_sum_takes_the_place_of_the_old_one() {
+        assert_eq!(with_sum("a [x](B#y) (old), b", "](B#y) (", "new"), "a [x](B#y) (new), b");
+        assert_eq!(with_sum("nothing", "](B#y) (", "new"), "nothing");
     }
 
     #[test]

@@ -1,6 +1,6 @@
 //! Writes the tables of docs/ that a program can know, and finds what the documents cite that is not in the tree.
 //!
-//!     pages write         docs/EDITS.md and docs/BELIEVED.md, and the line of each link in the documents
+//!     pages write         docs/EDITS.md and docs/BELIEVED.md, and in the other documents the line of each link and what has to be believed
 //!     pages check         says what is stale or cited and not there, and fails where there is any
 //!     pages times LOG     docs/TIMES.md, from what a whole run of the check printed
 //!
@@ -39,8 +39,9 @@ fn write() -> Vec<String> {
     let mut faults = put(EDITS, &edits::page());
     let page = believed::page(&mut faults);
     faults.extend(put(BELIEVED, &page));
+    let sums = believed::sums();
     for path in cited::refreshable() {
-        faults.extend(put(&path, &cited::refreshed(&path)));
+        faults.extend(put(&path, &cited::refreshed(&path, &sums)));
     }
     faults
 }
@@ -51,6 +52,12 @@ fn check() -> Vec<String> {
     for (path, page) in pages {
         if tree::text(path) != page {
             faults.push(format!("{path} is stale: `pages write` writes it"));
+        }
+    }
+    let sums = believed::sums();
+    for path in cited::refreshable() {
+        if cited::refreshed(&path, &sums) != tree::text(&path) {
+            faults.push(format!("{path} is stale: `pages write` writes its lines and sums"));
         }
     }
     faults.extend(cited::faults());

@@ -1,7 +1,7 @@
 -- What the reading functions answer: the contents of a record, the stretch of its sets, and a walk along them.
 use mathlib.Core.Bool.{_&&_}
 use mathlib.Core.List.{List, [], _∷_}
-use Prim.Native.Nat.{ℕ, zero, suc, _+_, _-_, _*_, _^_}
+use Prim.Native.Nat.{ℕ, zero, suc, _-_, _^_}
 use lib.Dec.{ltb}
 use lib.ListN.{length, take, drop}
 use Rattle.answer.specs.declared.Refusal.{Refusal}
@@ -11,10 +11,9 @@ use Rattle.codec.specs.declared.Field.the-variants as field
 use Rattle.codec.specs.Reads.{Read, found, refused}
 use Rattle.codec.specs.Reading.{numberAt}
 use Rattle.numbers.specs.Counts.{upTo16}
-use Rattle.numbers.specs.Tables.{tabulate}
 use Rattle.theory_sets.specs.Structures.{listed}
-use Rattle.theory_sets.specs.Tables.{packed, tableLength}
-use Rattle.structure_words.specs.Words.{inWords, wordsOf}
+use Rattle.theory_sets.specs.Tables.{tableLength}
+use Rattle.structure_words.specs.Words.{wordsOf, bytesIn}
 use Rattle.record_parts.specs.PartLists.{listOf}
 use Rattle.record.specs.declared.Contents.{Contents}
 use Rattle.record.specs.declared.Cursor.{Cursor}
@@ -75,7 +74,7 @@ wholeWithWords bytes = withWordsOf (onlyRecord bytes)
 
 -- the table that words give for n parts; empty where no structure has so many
 abbrev pub tableOfWords : ℕ → List ℕ → List ℕ
-tableOfWords n words = tabulate (upTo16 n (tableLength n)) (λ b. packed 8 (λ i. inWords words (8 * b + i)))
+tableOfWords n words = bytesIn (upTo16 n (tableLength n)) words
 
 -- the bytes that carry the sets, from the first set's first byte to the last set's last; empty for a refused record
 abbrev pub stretchOf : Contents → List ℕ → List ℕ

@@ -163,13 +163,8 @@ pub fn store_table(read: WithWords, table: &mut [u8]) -> Written
         Verdict::Refused(refusal) => Written::Refused(refusal),
         Verdict::Accepted => {
             let list = contents.list;
-            let needed = structure::table_length(list.count);
-            if table.len() < needed {
-                return answer::short(needed);
-            }
             let words = read.words;
-            structure_words::store(&words, &mut table[..needed]);
-            Written::Length(needed)
+            structure::hand_out_table(list.count, &words, table)
         }
     }
 }

@@ -14,13 +14,18 @@ use Rattle.record_parts.specs.declared.Numbered.the-variants as numbered
 use Rattle.record_numbers.specs.Numbering.{mostParts, topNumber, partListRefusal, others}
 use Rattle.record_parts.specs.PartLists.{numbersOf, listOf}
 
+-- what a change answers, by the verdict on it: the part number that it issued or took out; or the refusal, with 01's number and place
+abbrev pub numberedOf : Verdict → ℕ → Numbered
+numberedOf (verdict.Refused refusal) number = numbered.Refused refusal
+numberedOf verdict.Accepted number = numbered.Number number
+
 -- what a change hands back: the list, and the part number that it issued or took out, or the refusal
 abbrev pub changed : PartList → Numbered → Changed
 changed list answer = record { list = list; answer = answer }
 
 -- a refused change leaves the list as it was
 abbrev pub unless : Verdict → PartList → Changed → Changed
-unless (verdict.Refused refusal) list change = changed list (numbered.Refused refusal)
+unless (verdict.Refused refusal) list change = changed list (numberedOf (verdict.Refused refusal) 0)
 unless verdict.Accepted list change = change
 
 -- What refuses a list that breaks the rules, as one built by hand may: the number and the place that reading it would give. Spare cells are
@@ -40,7 +45,7 @@ addRefusal list =
 -- one part more: position n+1, part number mark+1; the mark rises by one
 abbrev pub withPart : PartList → Changed
 withPart list =
-    changed (listOf (list .mark + 1) (numbersOf list ++ ((list .mark + 1) ∷ []))) (numbered.Number (list .mark + 1))
+    changed (listOf (list .mark + 1) (numbersOf list ++ ((list .mark + 1) ∷ []))) (numberedOf verdict.Accepted (list .mark + 1))
 
 -- add part
 unfoldable pub partAdded : PartList → Changed
@@ -63,7 +68,7 @@ listWithout group list = listOf (list .mark) (others (numbersOf list) group)
 -- the part at a position left out
 abbrev pub withoutPart : PartList → ℕ → Changed
 withoutPart list position =
-    changed (listWithout (single position) list) (numbered.Number (getD (numbersOf list) (position - 1) 0))
+    changed (listWithout (single position) list) (numberedOf verdict.Accepted (getD (numbersOf list) (position - 1) 0))
 
 -- take out the part at a position, counted from 1
 unfoldable pub takenOut : PartList → ℕ → Changed

@@ -34,8 +34,55 @@ pub fn faults() -> Vec<String> {
             }
         }
     }
+    faults.extend(tree::files("docs/claims", &[".md"]).iter().flat_map(|path| misplaced(path, &mut shelf)));
     faults.extend(unnamed(&mut shelf));
     faults
+}
+
+// ---- theorems in the tables of a claims page
+
+/// The theorems of a table's second column that none of the files in its third declares; `same` stands for the files of the row before.
+fn misplaced(path: &str, shelf: &mut Shelf) -> Vec<String> {
+    let text = tree::text(path);
+    let mut files = Vec::new();
+    let mut faults = Vec::new();
+    for (number, line) in prose(&text) {
+        let cells: Vec<&str> = line.trim().trim_matches('|').split(" | ").collect();
+        let [_, statements, place] = cells[..] else { continue };
+        files = files_named(place, &files);
+        let proofs: Vec<&String> = files.iter().filter(|file| file.contains("/proofs/")).collect();
+        for name in spans(statements).into_iter().filter(|name| is_law(name) && !proofs.is_empty()) {
+            if !proofs.iter().any(|file| shelf.antt(file).declarations.iter().any(|d| d.name == name)) {
+                faults.push(format!("{path}:{number}: `{name}` is declared in none of: {place}"));
+            }
+        }
+    }
+    faults
+}
+
+/// The files that a cell names, as `crate/src, proofs/File, Other; crate/proofs/File`: what lacks a crate or a folder has that of the one before it.
+fn files_named(cell: &str, before: &[String]) -> Vec<String> {
+    let (mut krate, mut folder) = (String::new(), String::new());
+    let mut files = Vec::new();
+    for part in cell.split([',', ';']).map(|part| part.trim().trim_end_matches('|').trim()) {
+        match part.split('/').collect::<Vec<_>>()[..] {
+            ["same"] => {
+                files.extend(before.iter().cloned());
+                continue;
+            }
+            [name, "src"] => krate = name.to_string(),
+            [name, inner, _] => (krate, folder) = (name.to_string(), inner.to_string()),
+            [inner, _] => folder = inner.to_string(),
+            _ => {}
+        }
+        files.push(format!("crates/{krate}/{folder}/{}.antt", part.rsplit('/').next().unwrap_or("")));
+    }
+    files
+}
+
+/// A law's name: small words with hyphens between them.
+fn is_law(name: &str) -> bool {
+    name.contains('-') && name.chars().all(|c| c.is_alphanumeric() || c == '-')
 }
 
 /// A document brought up to date: the line of each link, where the name in the link's text decides, and in brackets behind a link to a promise
@@ -267,6 +314,13 @@ mod tests {
     fn a_sum_takes_the_place_of_the_old_one() {
         assert_eq!(with_sum("a [x](B#y) (old), b", "](B#y) (", "new"), "a [x](B#y) (new), b");
         assert_eq!(with_sum("nothing", "](B#y) (", "new"), "nothing");
+    }
+
+    #[test]
+    fn the_files_of_a_cell() {
+        let first = files_named("record/proofs/Whole, RoundTrip", &[]);
+        assert_eq!(first, ["crates/record/proofs/Whole.antt", "crates/record/proofs/RoundTrip.antt"]);
+        assert_eq!(files_named("same; record_parts/proofs/LeftOut", &first).len(), 3);
     }
 
     #[test]

@@ -96,19 +96,19 @@ nahokipe_answer nahokipe_minimal_sets(size_t n, const uint8_t *table, size_t tab
  * Refused: 1, 6 to 11, and then no cell of any buffer is written.
  */
 
-/* Writes n + 1 cells: how many path sets have 0, 1, ..., n parts. */
+/* Writes n + 1 cells, 17 at the most: how many path sets have 0, 1, ..., n parts. */
 nahokipe_answer nahokipe_path_counts(size_t n, const uint8_t *table, size_t table_len, int64_t *cells, size_t cells_len);
 
-/* Writes n + 1 cells: in how many orders the machine still runs after 0, 1, ..., n failures. */
+/* Writes n + 1 cells, 17 at the most: in how many orders the machine still runs after 0, 1, ..., n failures. */
 nahokipe_answer nahokipe_tail(size_t n, const uint8_t *table, size_t table_len, int64_t *cells, size_t cells_len);
 
-/* Writes n cells: in how many orders the 1st, 2nd, ..., n-th failure stops the machine. They total n!. */
+/* Writes n cells, 16 at the most: in how many orders the 1st, 2nd, ..., n-th failure stops the machine. They total n!. */
 nahokipe_answer nahokipe_signature(size_t n, const uint8_t *table, size_t table_len, int64_t *cells, size_t cells_len);
 
-/* Writes n + 1 cells: the coefficients of x^0, x^1, ..., x^n in the machine's reliability polynomial, its domination. */
+/* Writes n + 1 cells, 17 at the most: the coefficients of x^0, x^1, ..., x^n in the machine's reliability polynomial, its domination. */
 nahokipe_answer nahokipe_domination(size_t n, const uint8_t *table, size_t table_len, int64_t *cells, size_t cells_len);
 
-/* Writes n cells: in how many orders the failure of the part at position 1, 2, ..., n stops the machine. They total n!. */
+/* Writes n cells, 16 at the most: in how many orders the failure of the part at position 1, 2, ..., n stops the machine. They total n!. */
 nahokipe_answer nahokipe_importance(size_t n, const uint8_t *table, size_t table_len, uint64_t *cells, size_t cells_len);
 
 /*
@@ -124,7 +124,7 @@ nahokipe_answer nahokipe_figures(size_t n, const uint8_t *table, size_t table_le
  * group stops the machine. Refused: 1, 6 to 10, 15, 16, 11, and then no cell of any buffer is written.
  */
 
-/* Writes the m shares, worked out path set by path set. */
+/* Writes the m shares, 16 at the most, worked out path set by path set. */
 nahokipe_answer nahokipe_shares_by_sets(size_t n, const uint8_t *table, size_t table_len, size_t group, int64_t *cells, size_t cells_len);
 
 /* Writes the same m shares, worked out from the coefficients of h(x,z). */
@@ -136,7 +136,7 @@ nahokipe_answer nahokipe_shares_by_both_routes(size_t n, const uint8_t *table, s
                                                size_t first_len, int64_t *second, size_t second_len);
 
 /*
- * Writes the (m + 1)(n - m + 1) coefficients of h(x,z), the machine's reliability where the parts of the group have the reliability x
+ * Writes the (m + 1)(n - m + 1) coefficients of h(x,z), 81 at the most, the machine's reliability where the parts of the group have the reliability x
  * and the others z: that of x^i z^j in cell i (n - m + 1) + j.
  */
 nahokipe_answer nahokipe_reliability(size_t n, const uint8_t *table, size_t table_len, size_t group, int64_t *cells, size_t cells_len);
@@ -151,7 +151,7 @@ nahokipe_answer nahokipe_reliability(size_t n, const uint8_t *table, size_t tabl
 nahokipe_answer nahokipe_vector_verdict(uint8_t kind, size_t n, const int64_t *entries, size_t entries_len);
 
 /*
- * Writes the vector of the target kind that stands for the same path counts: n cells for a signature, else n + 1.
+ * Writes the vector of the target kind that stands for the same path counts: n cells for a signature, else n + 1; 17 are enough.
  * Refused: 26 for either kind, 1, 12, 13, 14, 11.
  */
 nahokipe_answer nahokipe_convert(uint8_t kind, size_t n, const int64_t *entries, size_t entries_len, uint8_t target, int64_t *cells,

@@ -5,20 +5,21 @@ use mathlib.Core.Path.{_≡_}
 use mathlib.Core.Bool.{true, false}
 use mathlib.Core.List.{List}
 use Prim.Native.Nat.{ℕ, _+_, _≤_, _<_}
+use native.Mathlib.Nat.{pos-of-ne-zero}
 use native.Mathlib.Numerals.{add-one}
-use borrow.Author.Tests.{ne-eqb, le-ltb}
 use lib.Dec.{ltb}
 use lib.ListN.{length, drop, getD}
 use lib.Seq.{drop-cons, drop-length}
 use Rattle.answer.specs.Refusals.{wrongPartNumber}
 use Rattle.answer.specs.Outcome.{at, refuse}
 use Rattle.answer.specs.declared.Verdict.the-variants.{Accepted, Refused}
+use Rattle.answer.proofs.Checks.{parts-passed}
 use Rattle.record_numbers.specs.Numbering.{mostParts, topNumber, misnumbered, numbersRefusal, partListRefusal}
 
 -- a count of 1 to 16 leaves the judgement to the numbers
 pub refusal-counted : (count mark : ℕ) (numbers : List ℕ) → (count ≡ 0 → ⊥) → count ≤ mostParts → partListRefusal count mark numbers ≡ numbersRefusal 0 mark 0 numbers
 unfolding partListRefusal
-refusal-counted count mark numbers some few = simp (ne-eqb _ _ some, le-ltb _ _ few)
+refusal-counted count mark numbers some few = parts-passed 0 count (numbersRefusal 0 mark 0 numbers) (pos-of-ne-zero some) few
 
 module _ (numbers : List ℕ) (mark previous index : ℕ) (h : index < length numbers) where
   -- a right number is passed

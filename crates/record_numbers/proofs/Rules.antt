@@ -1,14 +1,15 @@
 -- A part list is accepted exactly if it keeps the rules: the checks that refuse it, one by one, are the rules' negations.
 -- Assumes nothing.
-use mathlib.Core.Path.{_≡_, refl}
+use mathlib.Core.Path.{_≡_, refl, _∙_}
 use mathlib.Core.Bool.{Bool, true, false, cond}
 use mathlib.Core.List.{List, [], _∷_}
 use Prim.Native.Nat.{ℕ, suc, _≤_, _<_}
-use native.Mathlib.Nat.{pos-of-ne-zero, le-trans}
+use native.Mathlib.Nat.{le-trans}
 use native.Mathlib.Omega.{arith}
-use borrow.Author.Tests.{eqb-false, ltb-false, leb-false, ne-eqb, le-ltb, lt-leb}
+use borrow.Author.Tests.{ltb-false, leb-false, le-ltb, lt-leb}
 use Rattle.answer.specs.declared.Verdict.the-variants.{Accepted}
 use Rattle.answer.proofs.Outcomes.{refuse-accepted}
+use Rattle.answer.proofs.Checks.{parts-passed, parts-right}
 use Rattle.record_numbers.specs.Numbering.{topNumber, RisingWithin, Rules, misnumbered, numbersRefusal, partListRefusal}
 
 -- neither of two tests
@@ -47,14 +48,12 @@ unrefused previous mark index (n ∷ ns) r top =
 pub accepted-rules : (count mark : ℕ) (numbers : List ℕ) → partListRefusal count mark numbers ≡ Accepted → Rules count mark numbers
 unfolding partListRefusal
 accepted-rules count mark numbers e =
-    let s = refuse-accepted _ _ _ _ e in
-    let f = refuse-accepted _ _ _ _ (s .1) in
-    let r = rising 0 mark 0 numbers (f .1) in
-    let some = eqb-false _ _ (s .0) in
-    record { some = pos-of-ne-zero some; few = ltb-false _ _ (f .0); rising = r .0; top = r .1 }
+    let counted = parts-right 0 count (numbersRefusal 0 mark 0 numbers) e in
+    let r = rising 0 mark 0 numbers (counted .2) in
+    record { some = counted .0; few = counted .1; rising = r .0; top = r .1 }
 
 -- and what keeps the rules is accepted
 pub rules-accepted : {count mark : ℕ} {numbers : List ℕ} → Rules count mark numbers → partListRefusal count mark numbers ≡ Accepted
 unfolding partListRefusal
 rules-accepted {count} {mark} {numbers} r =
-    simp (ne-eqb count 0 (λ e. omega (arith, r .some)), le-ltb _ _ (r .few)) (unrefused 0 mark 0 numbers (r .rising) (r .top))
+    parts-passed 0 count (numbersRefusal 0 mark 0 numbers) (r .some) (r .few) ∙ unrefused 0 mark 0 numbers (r .rising) (r .top)

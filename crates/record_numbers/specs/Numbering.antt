@@ -2,9 +2,10 @@
 use mathlib.Core.Bool.{Bool, true, cond}
 use mathlib.Core.List.{List, [], _∷_, _++_}
 use Prim.Native.Nat.{ℕ, suc, _-_, _/_, _≤_, _<_, max}
-use lib.Dec.{leb, ltb, eqb}
+use lib.Dec.{leb, ltb}
 use lib.ListN.{length, replicate}
-use Rattle.answer.specs.Refusals.{wrongPartCount, wrongPartNumber}
+use Rattle.answer.specs.Refusals.{wrongPartNumber}
+use Rattle.answer.specs.Checks.{partCountRefusal}
 use Rattle.answer.specs.Outcome.{refuse}
 use Rattle.answer.specs.declared.Verdict.{Verdict}
 use Rattle.answer.specs.declared.Verdict.the-variants.{Accepted}
@@ -45,8 +46,7 @@ numbersRefusal previous mark index (number ∷ numbers) =
 
 -- the first refusal of a part list: 1 for its count, and then 23
 unfoldable pub partListRefusal : ℕ → ℕ → List ℕ → Verdict
-partListRefusal count mark numbers =
-    refuse (eqb count 0) wrongPartCount 0 (refuse (ltb mostParts count) wrongPartCount 0 (numbersRefusal 0 mark 0 numbers))
+partListRefusal count mark numbers = partCountRefusal 0 count (numbersRefusal 0 mark 0 numbers)
 
 -- the highest of some numbers
 abbrev pub highest : List ℕ → ℕ

@@ -1,3 +1,5 @@
 pub mod Codes
 mod Written
 pub mod Examples
+pub mod Bounds
+pub mod Lengths

@@ -20,12 +20,9 @@ pub fn write_sheet(kind: Kind, n: usize, entries: &[i64], buffer: &mut [u8]) -> 
     match verdict {
         Verdict::Refused(refusal) => Written::Refused(refusal),
         Verdict::Accepted => {
-            let needed = sheet_length(kind, n, entries);
-            if buffer.len() < needed {
-                return answer::short(needed);
-            }
-            let length = write_numbers(kind, n, entries, buffer);
-            Written::Length(length)
+            let mut sheet = [0u8; 155];
+            let length = write_numbers(kind, n, entries, &mut sheet);
+            answer::hand_out_bytes(&sheet[..length], buffer)
         }
     }
 }
@@ -54,18 +51,6 @@ pub fn sheet_of_vector(vector: Vector, buffer: &mut [u8]) -> Written
             write_sheet(kind, vector.n, &entries[..length], buffer)
         }
     }
-}
-
-// How many bytes a sheet takes.
-fn sheet_length(kind: Kind, n: usize, entries: &[i64]) -> usize
-    requires { ⌜ length (now entries) ≤ 17 ⌝ }
-    ensures { λ r. ⌜ r ≡ length (sheetBytes kind n (now (entries .entry))) ⌝ }
-{
-    let mut total = codec::number_length(kind.number() as u64) + codec::number_length(n as u64);
-    for i in 0..entries.len() {
-        total += codec::number_length(code(kind, entries[i]));
-    }
-    total
 }
 
 // Writes a sheet's numbers into a buffer that has room for them all, and answers how many bytes they take.

@@ -1,4 +1,3 @@
-pub mod Bounds
 pub mod Walk
 pub mod Reading
 pub mod ReadSheet

@@ -18,7 +18,7 @@ use Rattle.codec.specs.declared.Field.the-variants as field
 use Rattle.codec.specs.Reads.{Read, found, then}
 use Rattle.codec.specs.FieldReads.{fieldAt, anyNumber, fieldsAt}
 use Rattle.codec.proofs.Found.{behind, field-read}
-use Rattle.codec.proofs.FieldReads.{Follow, AllAllowed, fields-read}
+use Rattle.codec.proofs.FieldReads.{Follow, fields-read}
 use Rattle.vector_kind.specs.Kinds.{kindNumber, lengthOf, kindOf}
 use Rattle.vector_conversion.specs.Vectors.{countsRefusal, vectorRefusal}
 use Rattle.vector_kind.specs.declared.Kind.{Kind}
@@ -26,7 +26,7 @@ use Rattle.vector_conversion.specs.Accepted.{AcceptedVector}
 use Rattle.vector_conversion.proofs.Acceptance.{accepted-vector}
 use Rattle.vector_kind.proofs.KindNumbers.{kind-back, kind-is-one}
 use Rattle.sheet.proofs.Codes.{kind-few}
-use Rattle.sheet_reading.proofs.Bounds.{Fitting, accepted-fitting}
+use Rattle.sheet.proofs.Bounds.{Fitting, accepted-fitting, fitting-allowed}
 use Rattle.sheet_reading.specs.Inside.{ended, entered, kinded}
 use Rattle.sheet.specs.Sheets.{coded, decoded, entryBytes, sheetBytes, Sheet, sheet, kindJudged, partsJudged, entriesAt, sheetOf}
 
@@ -37,10 +37,6 @@ module _ (kind : Kind) where
   fitting-back : (entries : List ℤ) → Fitting kind entries → map (decoded kind) (map (coded kind) entries) ≡ entries
   fitting-back [] fits = refl
   fitting-back (entry ∷ entries) fits = ap₂ (λ (z : ℤ) (l : List ℤ). z ∷ l) (fits 0 (omega arith) .0) (fitting-back entries (λ k h. fits (suc k) (omega arith)))
-
-  pub fitting-allowed : (entries : List ℤ) → Fitting kind entries → AllAllowed field.Sheet (map (coded kind) entries)
-  fitting-allowed [] fits = tt
-  fitting-allowed (entry ∷ entries) fits = (fits 0 (omega arith) .1, fitting-allowed entries (λ k h. fits (suc k) (omega arith)))
 
 any-follow : (earlier numbers : List ℕ) → Follow anyNumber earlier numbers
 any-follow earlier [] = tt

@@ -3,11 +3,13 @@
 -- Assumes nothing.
 use mathlib.Core.Path.{_≡_, sym, _∙_}
 use Prim.Native.Nat.{_-_, _≤_}
+use native.Mathlib.Nat.{pos-of-ne-zero}
 use native.Mathlib.Omega.{arith}
 use denote.Ref.{now}
 use borrow.Author.Needs.{needs}
-use borrow.Author.Tests.{eq-eqb, ne-eqb, lt-ltb, le-ltb}
+use borrow.Author.Tests.{lt-ltb, le-ltb}
 use lib.ListN.{length, drop}
+use Rattle.answer.proofs.Checks.{parts-none, parts-over}
 use Rattle.record_numbers.specs.Numbering.{numbersRefusal, partListRefusal}
 use Rattle.record_numbers.proofs.Refusals.{refusal-counted, refusal-past, refusal-here, refusal-end}
 use Rattle.record_numbers.proofs.judge.Statement.{statement}
@@ -25,14 +27,16 @@ refused-requires c κs = search needs
 
 returns : tie.Need-returns Inv-loop μ-loop
 unfolding partListRefusal
-returns c = simp (eq-eqb _ _ (c .before .if1 .taken)) (c .refused .ensures)
+returns c = c .refused .ensures ∙ sym (parts-none 0 (length (now (c .before .before .before .args .numbers))) _ (c .before .if1 .taken))
 
 refused-requires-2 : tie.Need-refused-requires-2 Inv-loop μ-loop
 refused-requires-2 c κs = search needs
 
 returns-2 : tie.Need-returns-2 Inv-loop μ-loop
 unfolding partListRefusal
-returns-2 c = simp (ne-eqb _ _ (c .before .before .if1 .left), lt-ltb _ _ (c .before .if2 .taken)) (c .refused2 .ensures)
+returns-2 c =
+    c .refused2 .ensures
+    ∙ sym (parts-over 0 (length (now (c .before .before .before .before .args .numbers))) _ (pos-of-ne-zero (c .before .before .if1 .left)) (c .before .if2 .taken))
 
 loop-holds : tie.Need-loop-holds Inv-loop μ-loop
 loop-holds c = (omega arith, sym (refusal-counted (length (now (c .before .before .before .args .numbers))) (c .before .before .before .args .mark) (now (c .before .before .before .args .numbers)) (c .before .if1 .left) (c .if2 .left)))

@@ -1,12 +1,12 @@
 -- `record_parts::PartList::judged` meets its contract: a count over 16 is refused at once, and else the numbers in use are judged.
 -- Assumes nothing.
-use mathlib.Core.Path.{_≡_, ap, _∙_}
+use mathlib.Core.Path.{_≡_, sym, ap, _∙_}
 use Prim.Native.Nat.{ℕ}
 use native.Mathlib.Omega.{arith}
 use borrow.Author.Needs.{needs}
-use borrow.Author.Tests.{ne-eqb, lt-ltb}
 use lib.ListN.{length}
-use Rattle.record_numbers.specs.Numbering.{mostParts, partListRefusal}
+use Rattle.answer.proofs.Checks.{parts-over}
+use Rattle.record_numbers.specs.Numbering.{partListRefusal}
 use Rattle.record_parts.specs.PartLists.{numbersOf}
 use Rattle.record_parts.proofs.InCells.{cells-all, numbers-counted}
 use Rattle.record_parts.proofs.PartList.judged.Statement.{statement}
@@ -19,7 +19,7 @@ returns : tie.Need-returns
 unfolding partListRefusal
 returns c =
     let list = c .before .before .before .args .self in
-    simp (ne-eqb (list .count) 0 (λ e. omega arith), lt-ltb mostParts (list .count) (c .before .if1 .taken)) (c .refused .ensures)
+    c .refused .ensures ∙ sym (parts-over 0 (list .count) _ (omega arith) (c .before .if1 .taken))
 
 counted : (c : tie.Else1) → length (numbersOf (c .before .before .args .self)) ≡ c .before .before .args .self .count
 counted c =

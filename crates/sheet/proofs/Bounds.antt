@@ -2,7 +2,7 @@
 -- 65,536 × 16!, and a domination at most 17 × 12,870² in size. Assumes nothing.
 use mathlib.Core.Path.{_≡_, refl, sym, ap, _∙_, subst}
 use mathlib.Core.Bool.{Bool, true, false, cond}
-use mathlib.Core.List.{List}
+use mathlib.Core.List.{List, [], _∷_, map}
 use Prim.Native.Nat.{ℕ, zero, suc, _+_, _-_, _*_, _≤_, _<_}
 use native.Mathlib.Nat.{le-refl, le-trans, le-of-eq, add-le-add, mul-le-mul}
 use native.Mathlib.Omega.{arith}
@@ -14,6 +14,7 @@ use Rattle.numbers.specs.Counts.{choose}
 use Rattle.numbers.proofs.Tables.{tabulate-at}
 use Rattle.theory_sums.specs.Sums.{sumBelowℤ}
 use Rattle.codec.specs.Fields.{top}
+use Rattle.codec.proofs.FieldReads.{AllAllowed}
 use Rattle.codec.specs.declared.Field.the-variants as field
 use Rattle.theory_figures.specs.Figures.{tail, sign, domination}
 use Rattle.theory_figures.proofs.Ranges.{tail-few}
@@ -142,3 +143,8 @@ accepted-fitting Domination n entries accepted k h =
     let l : k < n + 1 = subst (λ (m : ℕ). k < m) (a Domination n entries accepted .long) h in
     fitting-domination (entryAt entries k)
     (le-trans (le-of-eq (ap natAbs (entry-is Domination n entries accepted k l))) (domination-size Domination n entries accepted k (omega arith)))
+
+-- so a sheet allows the numbers of such entries
+pub fitting-allowed : (kind : Kind) (entries : List ℤ) → Fitting kind entries → AllAllowed field.Sheet (map (coded kind) entries)
+fitting-allowed kind [] fits = tt
+fitting-allowed kind (entry ∷ entries) fits = (fits 0 (omega arith) .1, fitting-allowed kind entries (λ k h. fits (suc k) (omega arith)))

@@ -101,6 +101,18 @@ pub fn binomial(n: usize, k: usize) -> i128 {
     factorial(n) / (factorial(k) * factorial(n - k))
 }
 
+/// The first rows of Pascal's triangle, each as long as the last: a set of k of n parts has the last of them, or it has not.
+pub fn pascal(rows: usize) -> Vec<Vec<i128>> {
+    let mut triangle = vec![vec![0; rows]; rows];
+    for n in 0..rows {
+        triangle[n][0] = 1;
+        for k in 1..=n {
+            triangle[n][k] = triangle[n - 1][k - 1] + triangle[n - 1][k];
+        }
+    }
+    triangle
+}
+
 /// φ(j), j = 0..n: the number of path sets of size j.
 pub fn path_counts(n: usize, works: &[bool]) -> Vec<i128> {
     let mut counts = vec![0; n + 1];

@@ -143,6 +143,16 @@ fn factorials_binomials_and_sizes() {
     assert_eq!([0, 1, 2, 3, 0x8001, 0xFFFF].map(size), [0, 1, 1, 2, 2, 16]);
 }
 
+/// Binomials by their factorials are Pascal's triangle, up to 16 and beyond.
+#[test]
+fn binomials_are_the_triangle() {
+    for (n, row) in pascal(25).iter().enumerate() {
+        for (k, &sets) in row.iter().enumerate() {
+            assert_eq!(binomial(n, k), sets, "C({n},{k})");
+        }
+    }
+}
+
 /// Results go to the front of longer buffers, and the first buffer that is too short is named.
 #[test]
 fn what_the_call_of_all_figures_leaves() {

@@ -4,7 +4,7 @@ use nahokipe_host::comparing::{buffers, same};
 use nahokipe_host::known::REFUSED_VECTORS;
 use nahokipe_host::making::random_table;
 use nahokipe_host::naive::{self, refused, structure_of};
-use nahokipe_host::naive_figures::{self as figures, binomial, factorial};
+use nahokipe_host::naive_figures::{self as figures, binomial, factorial, pascal};
 use nahokipe_host::naive_vectors::{self as by_words, entries_of, vector_for, KINDS};
 use nahokipe_host::naive_vectors::{DOMINATION, PATH_COUNTS, SIGNATURE, TAIL};
 use nahokipe_host::seeded::Seeded;
@@ -178,6 +178,39 @@ fn given(kind: u8, n: usize, entries: &[i64], target: u8) -> Vec<i64> {
     let answer = convert(kind, n, entries, target, &mut cells);
     assert_eq!(answer, Ok(cells.len()), "kind {kind} to {target}");
     cells
+}
+
+/// Each C(n,k) as the calls use it, against Pascal's triangle: so many sets of k parts can be path sets, and not one more.
+#[test]
+fn every_binomial_as_a_bound() {
+    for (n, row) in pascal(17).into_iter().enumerate().skip(1) {
+        for k in 1..n {
+            let sets = |size: usize| if size < k { 0 } else { row[size] as i64 };
+            let mut counts: Vec<i64> = (0..=n).map(sets).collect();
+            assert_eq!(
+                vector_verdict(PATH_COUNTS, n, &counts),
+                Ok(()),
+                "C({n},{k})"
+            );
+            counts[k] += 1;
+            let one_more = vector_verdict(PATH_COUNTS, n, &counts);
+            assert_eq!(one_more, refused(13, k), "C({n},{k}) + 1");
+        }
+    }
+}
+
+/// The same of the machine that any part alone keeps running: d(k) is C(n,k), and for even k its negative.
+#[test]
+fn every_binomial_as_a_domination() {
+    for (n, row) in pascal(17).into_iter().enumerate().skip(1) {
+        let counts: Vec<i64> = (0..=n)
+            .map(|k| if k == 0 { 0 } else { row[k] as i64 })
+            .collect();
+        let sign = |k: usize| if k % 2 == 0 { -1 } else { 1 };
+        let domination: Vec<i64> = (0..=n).map(|k| sign(k) * counts[k]).collect();
+        assert_eq!(given(PATH_COUNTS, n, &counts, DOMINATION), domination);
+        assert_eq!(given(DOMINATION, n, &domination, PATH_COUNTS), counts);
+    }
 }
 
 /// One count more or less than accepted: 14 on both sides of an edge, or 13.

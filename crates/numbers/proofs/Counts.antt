@@ -3,8 +3,8 @@
 use mathlib.Core.Path.{_≡_, refl, sym, ap, ap₂, _∙_}
 use mathlib.Core.Bool.{Bool, cond}
 use mathlib.Core.Logic.{_⊎_, inl, inr}
-use Prim.Native.Nat.{ℕ, zero, suc, zero-le, _+_, _-_, _*_, _/_, _^_, _≤_, _<_}
-use native.Mathlib.Nat.{le-trans, le-of-eq, le-of-suc-le-suc, le-of-lt, not-suc-le-zero, lt-suc-self, zero-lt-suc, eq-or-lt-of-le, sub-add-cancel, zero-mul, mul-pos, mul-div-cancel, le-div-iff-mul-le, two-pow-succ}
+use Prim.Native.Nat.{ℕ, zero, suc, zero-le, _+_, _-_, _*_, _/_, _%_, _^_, _≤_, _<_}
+use native.Mathlib.Nat.{le-trans, le-of-eq, le-of-suc-le-suc, le-of-lt, not-suc-le-zero, lt-suc-self, zero-lt-suc, eq-or-lt-of-le, sub-add-cancel, zero-mul, mul-comm, mul-pos, mul-div-cancel, mul-mod-left, le-div-iff-mul-le, two-pow-succ}
 use native.Mathlib.Numerals.{add-one}
 use native.Mathlib.Omega.{arith}
 use lib.Arith.{le-zero}
@@ -141,11 +141,8 @@ factorials-few a b m h =
 pub choose-mirror : (n a b : ℕ) → a + b ≡ n → choose n a ≡ choose n b
 choose-mirror n a b e =
     factor-same (choose n a) (choose n b) (factorial a * factorial b) (mul-pos (factorial-pos a) (factorial-pos b))
-    (ap (λ (u : ℕ). choose n a * u) (turned (factorial a) (factorial b)) ∙ choose-factorials n b a (omega arith)
+    (ap (λ (u : ℕ). choose n a * u) (mul-comm (factorial a) (factorial b)) ∙ choose-factorials n b a (omega arith)
     ∙ sym (choose-factorials n a b e))
-  where
-    turned : (p q : ℕ) → p * q ≡ q * p
-    turned p q = omega arith
 
 -- of the sets of size j each leads by one part more to n - j sets of size j + 1, and each of these arises j + 1 times
 pub choose-next : (n j : ℕ) → j < n → choose n (j + 1) * (j + 1) ≡ choose n j * (n - j)
@@ -163,6 +160,27 @@ choose-next n j h =
 
     lower : (x r p q : ℕ) → x * (r * p * q) ≡ x * r * (p * q)
     lower x r p q = omega arith
+
+-- ---- the product formula: c(0) = 1, c(i) = c(i-1) × (n-i+1) / i
+
+-- the law of the formula: i × C(n,i) = (n-i+1) × C(n,i-1)
+pub choose-product : (n i : ℕ) → 1 ≤ i → i ≤ n → i * choose n i ≡ (n - i + 1) * choose n (i - 1)
+choose-product n i first within =
+    let before : i ≡ i - 1 + 1 = omega arith in
+    let left : n - i + 1 ≡ n - (i - 1) = omega arith in
+    mul-comm i (choose n i) ∙ ap (λ (x : ℕ). choose n x * x) before ∙ choose-next n (i - 1) (omega arith) ∙ mul-comm (choose n (i - 1)) (n - (i - 1))
+    ∙ ap (λ (x : ℕ). x * choose n (i - 1)) (sym left)
+
+-- what a step of the formula divides is i × C(n,i): the division by i leaves nothing over, and gives C(n,i)
+module _ (n i : ℕ) (first : 1 ≤ i) (within : i ≤ n) where
+  divided : choose n (i - 1) * (n - i + 1) ≡ choose n i * i
+  divided = omega (arith, choose-product n i first within)
+
+  pub choose-exact : choose n (i - 1) * (n - i + 1) % i ≡ 0
+  choose-exact = ap (λ (x : ℕ). x % i) divided ∙ mul-mod-left (choose n i) i
+
+  pub choose-quotient : choose n (i - 1) * (n - i + 1) / i ≡ choose n i
+  choose-quotient = ap (λ (x : ℕ). x / i) divided ∙ mul-div-cancel (choose n i) first
 
 -- of i + q + 1 + r parts: to choose one, i others and q of the rest
 pub choose-parts : (q i r m : ℕ) → i + suc q + r ≡ m

@@ -163,7 +163,7 @@ choose-next n j h =
 
 -- ---- the product formula: c(0) = 1, c(i) = c(i-1) × (n-i+1) / i
 
--- the law of the formula: i × C(n,i) = (n-i+1) × C(n,i-1)
+-- the law of the formula, which is `choose-next` counted by i = j + 1: i × C(n,i) = (n-i+1) × C(n,i-1)
 pub choose-product : (n i : ℕ) → 1 ≤ i → i ≤ n → i * choose n i ≡ (n - i + 1) * choose n (i - 1)
 choose-product n i first within =
     let before : i ≡ i - 1 + 1 = omega arith in

@@ -53,10 +53,11 @@ extern "C" {
  *   17  the position is not 1 to n
  *   18  every set names the part
  *   19  the record has 16 parts
- *   20  the record's mark is 2^32 - 1
+ *   20  the record's mark is 2^48 - 1
  *   21  the bytes end before a number does; the length of the input
- *   22  a number is not written in its shortest form, is over its top value, or takes more bytes than a number can, five in a record and
- *       nine in a sheet: bit 7 set in the last of these is 22 also where the input ends there; its first byte's position, from 0
+ *   22  a number is not written in its shortest form, is over its top value, or takes more bytes than that can: seven for a part number
+ *       and the mark, five for n, the count and a set of a record, nine in a sheet. Bit 7 set in the last of these is 22 also where the
+ *       input ends there; its first byte's position, from 0
  *   23  a part number is 0, not above the one before it, or above the mark; its first byte's position
  *   24  a set is not above the one before it, or holds an earlier one; its first byte's position
  *   25  bytes are left behind the last number; the first one's position
@@ -182,8 +183,8 @@ nahokipe_sheet nahokipe_read_sheet(const uint8_t *sheet, size_t sheet_len, int64
 
 /*
  * Design records: n; the mark, which is the highest part number ever issued; the n part numbers, rising; the count of minimal sets; the
- * minimal sets, rising. All are numbers in groups of seven bits, as in a sheet, and reach 2^32 - 1. 40,000 bytes are enough for every
- * record.
+ * minimal sets, rising. All are numbers in groups of seven bits, as in a sheet; the mark and the part numbers reach 2^48 - 1, the others
+ * 2^32 - 1. 40,000 bytes are enough for every record.
  */
 
 /*

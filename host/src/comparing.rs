@@ -1,5 +1,7 @@
-//! What a call leaves of a lent buffer, compared cell by cell.
+//! What a call leaves of a lent buffer, compared cell by cell, and what is handed out of a record.
 
+use crate::naive_records::Reading;
+use crate::records::RecordAnswer;
 use crate::Refusal;
 use std::fmt::Debug;
 
@@ -32,4 +34,30 @@ pub fn buffers<T: Copy>(
 /// The first cells, for a message.
 pub fn front<T>(cells: &[T]) -> &[T] {
     &cells[..cells.len().min(24)]
+}
+
+/// What is handed out: all of an accepted record, and nothing beside a refusal.
+pub fn handed_out(expected: &Result<Reading, Refusal>) -> RecordAnswer {
+    match expected {
+        Ok(Reading { plain, begin, end }) => RecordAnswer {
+            number: 0,
+            value: 0,
+            parts: plain.numbers.len(),
+            mark: plain.mark,
+            numbers: std::array::from_fn(|i| plain.numbers.get(i).copied().unwrap_or(0)),
+            sets: plain.sets.len(),
+            offset: *begin,
+            length: end - begin,
+        },
+        Err(refusal) => RecordAnswer {
+            number: refusal.number,
+            value: refusal.place,
+            parts: 0,
+            mark: 0,
+            numbers: [0; 16],
+            sets: 0,
+            offset: 0,
+            length: 0,
+        },
+    }
 }

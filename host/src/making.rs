@@ -68,8 +68,9 @@ pub fn random_plain(seeded: &mut Seeded, n: usize) -> Plain {
     let numbers = random_numbers(seeded, n);
     let last = numbers[n - 1];
     let above = last + seeded.number() % (TOP_NUMBER - last + 1);
+    let short = last.max((1 << 32) - 1);
     Plain {
-        mark: seeded.pick(&[last, above, TOP_NUMBER]),
+        mark: seeded.pick(&[last, above, short, TOP_NUMBER]),
         numbers,
         sets: minimal_of_list(n, &list),
     }
@@ -77,7 +78,7 @@ pub fn random_plain(seeded: &mut Seeded, n: usize) -> Plain {
 
 /// n part numbers, rising: 1 to n, or with gaps, small or large.
 fn random_numbers(seeded: &mut Seeded, n: usize) -> Vec<u64> {
-    let widest = seeded.pick(&[1, 3, 200, TOP_NUMBER as usize / n]);
+    let widest = seeded.pick(&[1, 3, 200, (1 << 32) / n, TOP_NUMBER as usize / n]);
     let mut last = 0;
     let mut numbers = Vec::new();
     for _ in 0..n {
@@ -92,7 +93,7 @@ pub fn random_record(seeded: &mut Seeded, n: usize) -> Vec<u8> {
     record_bytes(&random_plain(seeded, n))
 }
 
-/// The record with the most sets and bytes: 16 parts, all sets of 8 of them, part numbers of five bytes.
+/// The record with the most sets and bytes: 16 parts, all sets of 8 of them, part numbers of seven bytes.
 pub fn largest_record() -> Vec<u8> {
     record_bytes(&Plain {
         mark: TOP_NUMBER,
@@ -114,7 +115,7 @@ pub fn damaged_record(seeded: &mut Seeded, n: usize) -> Vec<u8> {
             let any = seeded.number() as u128;
             let top = TOP_NUMBER as u128;
             let beside = [number + 1, number.saturating_sub(1), 0, number << 1];
-            let far = [top, top + 1, 1 << n, any % 65_536, any];
+            let far = [top, top + 1, 1 << 32, 1 << n, any % 65_536, any];
             numbers[index] = seeded.pick(&[beside.as_slice(), &far].concat());
         }
     }

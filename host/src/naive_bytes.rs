@@ -1,4 +1,4 @@
-//! Numbers in bytes a second time, from document 01's words alone: groups of seven bits, lowest group first, one group a byte, bit 7 set
+//! Numbers in bytes a second time, from the words of documents 01 and 02 alone: groups of seven bits, lowest group first, one group a byte, bit 7 set
 //! on all but the last; shortest form only.
 //!
 //! Nothing here is shared with the calculator; the tests compare the two.
@@ -6,26 +6,24 @@
 use crate::naive::refused;
 use crate::Refusal;
 
-/// Where a number stands says how far it reaches and how many groups it may have.
+/// Where a number stands says how far it reaches, and so how many groups it may have: those of its top value.
 #[derive(Clone, Copy, Debug)]
-pub enum Field {
-    Record,
-    Sheet,
+pub struct Field {
+    top: u128,
 }
 
 impl Field {
-    fn top(self) -> u128 {
-        match self {
-            Field::Record => (1 << 32) - 1,
-            Field::Sheet => (1 << 63) - 1,
-        }
+    pub const COUNT: Field = Field::up_to((1 << 32) - 1);
+    pub const PART_NUMBER: Field = Field::up_to((1 << 48) - 1);
+    pub const SET: Field = Field::up_to((1 << 32) - 1);
+    pub const SHEET: Field = Field::up_to((1 << 63) - 1);
+
+    pub const fn up_to(top: u128) -> Field {
+        Field { top }
     }
 
     fn groups(self) -> usize {
-        match self {
-            Field::Record => 5,
-            Field::Sheet => 9,
-        }
+        number_bytes(self.top).len()
     }
 }
 
@@ -51,7 +49,7 @@ pub fn number_at(bytes: &[u8], start: usize, field: Field) -> Result<(u128, usiz
         return refused(21, bytes.len());
     }
     let number = value_of(&form);
-    if !ended || number > field.top() || form != number_bytes(number) {
+    if !ended || number > field.top || form != number_bytes(number) {
         return refused(22, start);
     }
     Ok((number, start + form.len()))

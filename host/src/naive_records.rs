@@ -1,4 +1,4 @@
-//! Design records and their changes a second time, from document 01's words alone: a reader that follows the table of refusals number by
+//! Design records and their changes a second time, from the words of documents 01 and 02 alone: a reader that follows the table of refusals number by
 //! number, and changes of a design whose sets are named by part numbers, so that no mask is ever moved.
 //!
 //! Nothing here is shared with the calculator; the tests compare the two.
@@ -9,7 +9,7 @@ use crate::Refusal;
 use std::collections::BTreeSet;
 
 /// The highest part number that can be issued.
-pub const TOP_NUMBER: u64 = (1 << 32) - 1;
+pub const TOP_NUMBER: u64 = (1 << 48) - 1;
 
 // ---- reading
 
@@ -36,9 +36,9 @@ struct Reader<'a> {
 }
 
 impl Reader<'_> {
-    fn number(&mut self) -> Result<(u128, usize), Refusal> {
+    fn number(&mut self, field: Field) -> Result<(u128, usize), Refusal> {
         let first = self.next;
-        let (number, after) = number_at(self.bytes, first, Field::Record)?;
+        let (number, after) = number_at(self.bytes, first, field)?;
         self.next = after;
         Ok((number, first))
     }
@@ -46,15 +46,20 @@ impl Reader<'_> {
 
 /// The record at a position; what comes after it is not looked at.
 pub fn record_at(bytes: &[u8], start: usize) -> Result<Reading, Refusal> {
+    record_by(Field::PART_NUMBER, bytes, start)
+}
+
+/// The same where the mark and the part numbers are of some other field.
+fn record_by(part_number: Field, bytes: &[u8], start: usize) -> Result<Reading, Refusal> {
     let mut reader = Reader { bytes, next: start };
-    let (n, first) = reader.number()?;
+    let (n, first) = reader.number(Field::COUNT)?;
     if !(1..=16).contains(&n) {
         return refused(1, first);
     }
     let n = n as usize;
-    let mark = reader.number()?.0 as u64;
-    let numbers = read_numbers(&mut reader, n, mark)?;
-    let (count, first) = reader.number()?;
+    let mark = reader.number(part_number)?.0 as u64;
+    let numbers = read_numbers(&mut reader, part_number, n, mark)?;
+    let (count, first) = reader.number(Field::COUNT)?;
     if count == 0 {
         return refused(2, first);
     }
@@ -76,7 +81,16 @@ pub fn record_at(bytes: &[u8], start: usize) -> Result<Reading, Refusal> {
 
 /// The record that the bytes are: 25 last.
 pub fn whole_record(bytes: &[u8]) -> Result<Reading, Refusal> {
-    let reading = record_at(bytes, 0)?;
+    whole_record_by(Field::PART_NUMBER, bytes)
+}
+
+/// The same as it was read while part numbers reached 2^32-1, before document 02's §7.
+pub fn former_record(bytes: &[u8]) -> Result<Reading, Refusal> {
+    whole_record_by(Field::up_to((1 << 32) - 1), bytes)
+}
+
+fn whole_record_by(part_number: Field, bytes: &[u8]) -> Result<Reading, Refusal> {
+    let reading = record_by(part_number, bytes, 0)?;
     if reading.end < bytes.len() {
         return refused(25, reading.end);
     }
@@ -84,10 +98,15 @@ pub fn whole_record(bytes: &[u8]) -> Result<Reading, Refusal> {
 }
 
 /// Part numbers: strictly rising, 1 or more, none above the mark.
-fn read_numbers(reader: &mut Reader, n: usize, mark: u64) -> Result<Vec<u64>, Refusal> {
+fn read_numbers(
+    reader: &mut Reader,
+    part_number: Field,
+    n: usize,
+    mark: u64,
+) -> Result<Vec<u64>, Refusal> {
     let mut numbers: Vec<u64> = Vec::new();
     for _ in 0..n {
-        let (number, first) = reader.number()?;
+        let (number, first) = reader.number(part_number)?;
         let number = number as u64;
         let rises = numbers.iter().all(|&earlier| earlier < number);
         if number < 1 || number > mark || !rises {
@@ -102,7 +121,7 @@ fn read_numbers(reader: &mut Reader, n: usize, mark: u64) -> Result<Vec<u64>, Re
 fn read_sets(reader: &mut Reader, n: usize, count: usize) -> Result<Vec<u16>, Refusal> {
     let mut earlier = Earlier::new(n, count);
     for _ in 0..count {
-        let (set, first) = reader.number()?;
+        let (set, first) = reader.number(Field::SET)?;
         if set >= 1 << n {
             return refused(4, first);
         }
@@ -172,7 +191,7 @@ pub fn step_at(bytes: &[u8], next: usize, left: usize) -> Option<(u64, usize, us
     if left == 0 {
         return None;
     }
-    let (set, after) = number_at(bytes, next, Field::Record).ok()?;
+    let (set, after) = number_at(bytes, next, Field::SET).ok()?;
     Some((set as u64, after, left - 1))
 }
 

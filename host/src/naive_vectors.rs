@@ -156,19 +156,19 @@ pub fn write_sheet(kind: u8, n: usize, entries: &[i64]) -> Result<Vec<u8>, Refus
 
 /// The vector of a sheet, or the first refusal: each number's 21 and 22, 26 before n is read, 1 before the entries, 25, 13, 14.
 pub fn read_sheet(bytes: &[u8]) -> Result<Vector, Refusal> {
-    let (kind, next) = number_at(bytes, 0, Field::Sheet)?;
+    let (kind, next) = number_at(bytes, 0, Field::SHEET)?;
     if !(1..=4).contains(&kind) {
         return refused(26, 0);
     }
     let kind = kind as u8;
-    let (n, mut next) = number_at(bytes, next, Field::Sheet)?;
+    let (n, mut next) = number_at(bytes, next, Field::SHEET)?;
     if !(1..=16).contains(&n) {
         return refused(1, 0);
     }
     let n = n as usize;
     let mut entries = Vec::new();
     for _ in 0..entries_of(kind, n) {
-        let (number, after) = number_at(bytes, next, Field::Sheet)?;
+        let (number, after) = number_at(bytes, next, Field::SHEET)?;
         entries.push(entry_of(kind, number));
         next = after;
     }

@@ -186,12 +186,13 @@ fn lines_of_changes() {
     assert_eq!(seen, BTreeSet::from([4, 5, 11, 17, 18, 19, 20]));
 }
 
-/// A record for a line to begin with; every sixth has a mark near the top.
+/// A record for a line to begin with; of every six one has a mark near the top, and one near 2^32.
 fn first_of_a_line(seeded: &mut Seeded, n: usize, number: usize) -> Vec<u8> {
     let mut plain = random_plain(seeded, n);
     plain.sets.truncate(12);
     plain.mark = match number % 6 {
         0 => TOP_NUMBER - seeded.between(0, 9) as u64,
+        1 => (1 << 32) - seeded.between(1, 9) as u64,
         _ => plain.numbers[n - 1] + seeded.between(0, 3) as u64,
     };
     plain.mark = plain.mark.clamp(plain.numbers[n - 1], TOP_NUMBER);
@@ -328,7 +329,7 @@ fn every_length_of_buffer() {
 
 // ---- the edges
 
-/// The mark 2^32-1: 20, whatever the part numbers are. One below it a part can be added, and then no more.
+/// The mark 2^48-1: 20, whatever the part numbers are. One below it a part can be added, and then no more.
 #[test]
 fn the_last_number() {
     for numbers in [
@@ -422,7 +423,7 @@ fn the_largest_record() {
 #[test]
 fn examples() {
     let out = Change::TakeOut;
-    let top = [1, 0xFF, 0xFF, 0xFF, 0xFF, 0x0F, 1, 1, 1];
+    let top = [1, 0xFF, 0xFF, 0xFF, 0xFF, 0xFF, 0xFF, 0x3F, 1, 1, 1];
     let four = [4, 5, 1, 2, 3, 4, 2, 9, 14];
     let with_six = [5, 6, 1, 2, 3, 4, 6, 2, 9, 14];
     let fewer = [5, 5, 1, 2, 3, 4, 5, 3, 1, 14, 18];

@@ -266,6 +266,26 @@ static void test_changes(void)
     expect_bytes("add_set, part 6", buffer, wider, sizeof wider);
 }
 
+/* Part numbers as C takes them: at a mark of 2^32 - 1 they go on, and at 2^48 - 1 they end. */
+static void test_part_numbers(void)
+{
+    static const uint8_t short_mark[9] = {1, 0xFF, 0xFF, 0xFF, 0xFF, 0x0F, 1, 1, 1};
+    static const uint8_t added[15] = {2, 0x80, 0x80, 0x80, 0x80, 0x10, 1, 0x80, 0x80, 0x80, 0x80, 0x10, 1, 1, 0xA5};
+    static const uint8_t top_mark[11] = {1, 0xFF, 0xFF, 0xFF, 0xFF, 0xFF, 0xFF, 0x3F, 1, 1, 1};
+    uint8_t buffer[15];
+
+    memset(buffer, 0xA5, sizeof buffer);
+    expect("add_part, 2^32", nahokipe_add_part(short_mark, 9, buffer, 15), 0, 14);
+    expect_bytes("add_part, 2^32", buffer, added, sizeof added);
+    expect("add_part, no number left", nahokipe_add_part(top_mark, 11, buffer, 15), 20, 0);
+    expect_bytes("add_part, no number left", buffer, added, sizeof added);
+    if (nahokipe_whole_record(top_mark, 11).mark != ((uint64_t)1 << 48) - 1) {
+        printf("whole_record: the mark is not 2^48 - 1\n");
+        failures++;
+    }
+    expect_refused_record("whole_record, inside the mark", nahokipe_whole_record(top_mark, 7), 21, 7);
+}
+
 static void test_report(void)
 {
     static const char said[] = "parts 5 sets 4 mark 5\n"
@@ -302,6 +322,7 @@ int main(void)
     test_sheets();
     test_records();
     test_changes();
+    test_part_numbers();
     test_report();
     return failures != 0;
 }

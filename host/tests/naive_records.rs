@@ -11,8 +11,11 @@ use nahokipe_host::Refusal;
 
 const BRIDGE: [u8; 12] = [5, 5, 1, 2, 3, 4, 5, 4, 0x09, 0x0E, 0x12, 0x15];
 
-/// The mark 2^32-1.
-const TOP: [u8; 9] = [0x01, 0xFF, 0xFF, 0xFF, 0xFF, 0x0F, 0x01, 0x01, 0x01];
+/// The mark 2^32-1, where part numbers once ended.
+const OLD_TOP: [u8; 9] = [0x01, 0xFF, 0xFF, 0xFF, 0xFF, 0x0F, 0x01, 0x01, 0x01];
+
+/// The mark 2^48-1.
+const TOP: [u8; 11] = [1, 0xFF, 0xFF, 0xFF, 0xFF, 0xFF, 0xFF, 0x3F, 1, 1, 1];
 
 #[test]
 fn the_bridge_is_read() {
@@ -32,9 +35,11 @@ fn the_bridge_is_read() {
 
 #[test]
 fn accepted_records() {
-    let accepted: [&[u8]; 4] = [
+    let accepted: [&[u8]; 6] = [
         &[1, 5, 5, 1, 1],
         &[1, 9, 3, 1, 1],
+        &[1, 0x80, 0x80, 0x80, 0x80, 0x10, 1, 1, 1],
+        &OLD_TOP,
         &TOP,
         &[2, 2, 1, 2, 1, 1],
     ];
@@ -53,7 +58,7 @@ fn refused_records() {
 #[test]
 fn examples_of_changes() {
     let take_out = |position| Change::TakeOut(position);
-    let cases: [(&[u8], Change, Result<&[u8], (u8, usize)>); 19] = [
+    let cases: [(&[u8], Change, Result<&[u8], (u8, usize)>); 20] = [
         (&[1, 1, 1, 1, 1], take_out(1), Err((18, 0))),
         (&[3, 3, 1, 2, 3, 2, 3, 5], take_out(1), Err((18, 0))),
         (&[2, 2, 1, 2, 1, 1], take_out(2), Ok(&[1, 2, 1, 1, 1])),
@@ -65,6 +70,13 @@ fn examples_of_changes() {
             Ok(&[5, 6, 1, 2, 3, 4, 6, 2, 9, 14]),
         ),
         (&[1, 9, 3, 1, 1], Change::AddPart, Ok(&[2, 10, 3, 10, 1, 1])),
+        (
+            &OLD_TOP,
+            Change::AddPart,
+            Ok(&[
+                2, 0x80, 0x80, 0x80, 0x80, 0x10, 1, 0x80, 0x80, 0x80, 0x80, 0x10, 1, 1,
+            ]),
+        ),
         (&TOP, Change::AddPart, Err((20, 0))),
         (&[1, 1, 1, 1, 1], take_out(0), Err((17, 0))),
         (&[1, 1, 1, 1, 1], take_out(2), Err((17, 0))),
@@ -132,7 +144,7 @@ fn records_come_back() {
 #[test]
 fn the_largest_record() {
     let bytes = largest_record();
-    assert_eq!(bytes.len(), 35_695);
+    assert_eq!(bytes.len(), 35_729);
     let plain = whole_record(&bytes).expect("an accepted record").plain;
     assert_eq!(plain.sets, sets_of_size(16, 8));
     let less = changed(&bytes, Change::AddSet(0x7F)).expect("an accepted change");

@@ -79,13 +79,15 @@ fn numbers_in_bytes() {
     assert_eq!(number_bytes(0), [0]);
     assert_eq!(number_bytes(127), [0x7F]);
     assert_eq!(number_bytes(128), [0x80, 0x01]);
-    assert_eq!(number_at(&[0xAC, 0x02], 0, Field::Record), Ok((300, 2)));
-    assert_eq!(number_at(&[0x80, 0x00], 0, Field::Record), refused(22, 0));
-    assert_eq!(number_at(&[0x01], 2, Field::Record), refused(21, 1));
-    assert_eq!(number_at(&[0xFF; 4], 0, Field::Record), refused(21, 4));
-    assert_eq!(number_at(&[0xFF; 5], 0, Field::Record), refused(22, 0));
-    assert_eq!(number_at(&[0xFF; 8], 0, Field::Sheet), refused(21, 8));
-    assert_eq!(number_at(&[0xFF; 9], 0, Field::Sheet), refused(22, 0));
+    assert_eq!(number_at(&[0xAC, 0x02], 0, Field::COUNT), Ok((300, 2)));
+    assert_eq!(number_at(&[0x80, 0x00], 0, Field::COUNT), refused(22, 0));
+    assert_eq!(number_at(&[0x01], 2, Field::COUNT), refused(21, 1));
+    assert_eq!(number_at(&[0xFF; 4], 0, Field::COUNT), refused(21, 4));
+    assert_eq!(number_at(&[0xFF; 5], 0, Field::COUNT), refused(22, 0));
+    assert_eq!(number_at(&[0xFF; 6], 0, Field::PART_NUMBER), refused(21, 6));
+    assert_eq!(number_at(&[0xFF; 7], 0, Field::PART_NUMBER), refused(22, 0));
+    assert_eq!(number_at(&[0xFF; 8], 0, Field::SHEET), refused(21, 8));
+    assert_eq!(number_at(&[0xFF; 9], 0, Field::SHEET), refused(22, 0));
 }
 
 #[test]

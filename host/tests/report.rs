@@ -114,15 +114,15 @@ fn numbers_of_every_length() {
     compare(&record_bytes(&plain)).expect("an accepted record");
 }
 
-/// The largest record, and the longest text: 16 parts with part numbers of ten digits.
+/// The largest record, and the longest text: 16 parts with part numbers of fifteen digits.
 #[test]
 fn the_largest_record() {
     let bytes = largest_record();
     let (_, text) = compare(&bytes).expect("an accepted record");
     assert!(text.len() <= MOST_TEXT);
-    assert!(text.starts_with("parts 16 sets 12870 mark 4294967295\norder 1 0\n"));
+    assert!(text.starts_with("parts 16 sets 12870 mark 281474976710655\norder 1 0\n"));
     assert!(text.contains("\norder 9 20922789888000\n"));
-    assert!(text.ends_with("part 4294967295 1307674368000\n"));
+    assert!(text.ends_with("part 281474976710655 1307674368000\n"));
 }
 
 /// Machines that run on each number of their parts, of every size.

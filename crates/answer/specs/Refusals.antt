@@ -77,7 +77,7 @@ inEverySet = 18
 abbrev pub fullMachine : ℕ
 fullMachine = 19
 
--- the mark is 2^32-1 and a part is to be added
+-- the mark is 2^48-1 and a part is to be added
 abbrev pub numbersSpent : ℕ
 numbersSpent = 20
 

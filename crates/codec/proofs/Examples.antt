@@ -40,14 +40,45 @@ five-carried : numberAt (0x01 ∷ replicate 5 0xFF) 1 Count ≡ refused (at wron
 unfolding numberAt numberIn
 five-carried = refl
 
--- the top value of a record, and one group over it
-record-top : numberAt (0x01 ∷ replicate 4 0xFF ++ (0x0F ∷ 0x01 ∷ [])) 1 PartNumber ≡ found (2 ^ 32 - 1) 6
+-- the top value of a count and of a set, and one over it
+count-top : numberAt (replicate 4 0xFF ++ (0x0F ∷ 0x01 ∷ [])) 0 Count ≡ found (2 ^ 32 - 1) 5
 unfolding numberAt numberIn
-record-top = refl
+count-top = refl
 
-record-over : numberAt (0x01 ∷ replicate 4 0x80 ++ (0x10 ∷ 0x01 ∷ [])) 1 PartNumber ≡ refused (at wrongNumber 1)
+count-over : numberAt (replicate 4 0x80 ++ (0x10 ∷ [])) 0 Count ≡ refused (at wrongNumber 0)
 unfolding numberAt numberIn
-record-over = refl
+count-over = refl
+
+set-top : numberAt (replicate 4 0xFF ++ (0x0F ∷ [])) 0 Set ≡ found (2 ^ 32 - 1) 5
+unfolding numberAt numberIn
+set-top = refl
+
+set-over : numberAt (replicate 4 0x80 ++ (0x10 ∷ [])) 0 Set ≡ refused (at wrongNumber 0)
+unfolding numberAt numberIn
+set-over = refl
+
+-- a part number goes on where a count ends
+part-number-on : numberAt (0x01 ∷ replicate 4 0x80 ++ (0x10 ∷ 0x01 ∷ [])) 1 PartNumber ≡ found (2 ^ 32) 6
+unfolding numberAt numberIn
+part-number-on = refl
+
+-- its top value, and one over it
+part-number-top : numberAt (0x01 ∷ replicate 6 0xFF ++ (0x3F ∷ 0x01 ∷ [])) 1 PartNumber ≡ found (2 ^ 48 - 1) 8
+unfolding numberAt numberIn
+part-number-top = refl
+
+part-number-over : numberAt (0x01 ∷ replicate 6 0x80 ++ (0x40 ∷ 0x01 ∷ [])) 1 PartNumber ≡ refused (at wrongNumber 1)
+unfolding numberAt numberIn
+part-number-over = refl
+
+-- six bytes with bit 7 and the end, and seven
+six-carried : numberAt (0x01 ∷ replicate 6 0xFF) 1 PartNumber ≡ refused (at endOfBytes 7)
+unfolding numberAt numberIn
+six-carried = refl
+
+seven-carried : numberAt (0x01 ∷ replicate 7 0xFF) 1 PartNumber ≡ refused (at wrongNumber 1)
+unfolding numberAt numberIn
+seven-carried = refl
 
 -- the top value of a sheet, and its eight and nine bytes with bit 7
 sheet-top : numberAt (replicate 8 0xFF ++ (0x7F ∷ [])) 0 Sheet ≡ found (2 ^ 63 - 1) 9

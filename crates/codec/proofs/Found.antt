@@ -34,6 +34,10 @@ pub then-found : {A B : Type 0} (first : Read A) (later : A → ℕ → Read B) 
 then-found (found a next) later b end e = (a, next, refl, e)
 then-found (refused r) later b end e = let z : _≡_ {A = ℕ} 0 1 = cc in absurd (omega arith)
 
+-- and the other way round
+pub found-then : {A B : Type 0} {first : Read A} (later : A → ℕ → Read B) {b : B} {end : ℕ} {a : A} {next : ℕ} → first ≡ found a next → later a next ≡ found b end → then first later ≡ found b end
+found-then {A} later e h = ap (λ (r : Read A). then r later) e ∙ h
+
 -- what is read after equal things is equal where it is equal for what was found
 pub then-alike : {A B : Type 0} (first other : Read A) (later last : A → ℕ → Read B) → other ≡ first → ((a : A) (next : ℕ) → first ≡ found a next → last a next ≡ later a next)
     → then other last ≡ then first later

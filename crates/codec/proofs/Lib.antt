@@ -8,4 +8,5 @@ pub mod WriteAfterRead
 pub mod Found
 pub mod FieldReads
 pub mod Window
+pub mod Widths
 pub mod Examples

@@ -36,7 +36,7 @@ impl Field {
     {
         match self {
             Field::Count => 5,
-            Field::PartNumber => 5,
+            Field::PartNumber => 7,
             Field::Set => 5,
             Field::Sheet => 9,
         }
@@ -48,7 +48,7 @@ impl Field {
     {
         match self {
             Field::Count => 4294967295,
-            Field::PartNumber => 4294967295,
+            Field::PartNumber => 281474976710655,
             Field::Set => 4294967295,
             Field::Sheet => 9223372036854775807,
         }

@@ -1,5 +1,5 @@
-// Runs worked examples of 01 on numbers, records and changes and prints what the calculator answers; the file stdout beside this one's folder
-// holds what it must print.
+// Runs worked examples of 01 and 02 on numbers, records and changes and prints what the calculator answers; the file stdout beside this one's
+// folder holds what it must print.
 use answer::Written;
 use codec::Field;
 use codec::Reading;
@@ -9,24 +9,66 @@ use record_reader::Found;
 
 fn main() {
     numbers();
+    part_numbers();
     replayed();
 }
 
-// Numbers in groups of seven bits, on an edge.
+// Numbers in groups of seven bits, on the edges of two fields: of counts, and of part numbers.
 fn numbers() {
     say(b"numbers\n");
-    number(b"AC 02", &[0xAC, 0x02]);
-    number(b"80 00", &[0x80, 0x00]);
-    number(b"80", &[0x80]);
-    number(b"FF FF FF FF 0F", &[0xFF, 0xFF, 0xFF, 0xFF, 0x0F]);
-    number(b"FF FF FF FF 10", &[0xFF, 0xFF, 0xFF, 0xFF, 0x10]);
-    number(b"FF FF FF FF FF", &[0xFF, 0xFF, 0xFF, 0xFF, 0xFF]);
+    number(b"AC 02", &[0xAC, 0x02], Field::Count);
+    number(b"80 00", &[0x80, 0x00], Field::Count);
+    number(b"80", &[0x80], Field::Count);
+    number(
+        b"FF FF FF FF 0F",
+        &[0xFF, 0xFF, 0xFF, 0xFF, 0x0F],
+        Field::Count,
+    );
+    number(
+        b"FF FF FF FF 10",
+        &[0xFF, 0xFF, 0xFF, 0xFF, 0x10],
+        Field::Count,
+    );
+    number(
+        b"FF FF FF FF FF",
+        &[0xFF, 0xFF, 0xFF, 0xFF, 0xFF],
+        Field::Count,
+    );
 }
 
-fn number(name: &[u8], bytes: &[u8]) {
+fn part_numbers() {
+    say(b"part numbers\n");
+    number(
+        b"80 80 80 80 10",
+        &[0x80, 0x80, 0x80, 0x80, 0x10],
+        Field::PartNumber,
+    );
+    number(
+        b"FF FF FF FF FF FF 3F",
+        &[0xFF, 0xFF, 0xFF, 0xFF, 0xFF, 0xFF, 0x3F],
+        Field::PartNumber,
+    );
+    number(
+        b"FF FF FF FF FF FF 40",
+        &[0xFF, 0xFF, 0xFF, 0xFF, 0xFF, 0xFF, 0x40],
+        Field::PartNumber,
+    );
+    number(
+        b"FF FF FF FF FF FF",
+        &[0xFF, 0xFF, 0xFF, 0xFF, 0xFF, 0xFF],
+        Field::PartNumber,
+    );
+    number(
+        b"FF FF FF FF FF FF FF",
+        &[0xFF, 0xFF, 0xFF, 0xFF, 0xFF, 0xFF, 0xFF],
+        Field::PartNumber,
+    );
+}
+
+fn number(name: &[u8], bytes: &[u8], field: Field) {
     say(name);
     say(b": ");
-    let found = codec::read_number(bytes, 0, Field::Count);
+    let found = codec::read_number(bytes, 0, field);
     match found {
         Reading::Refused(refusal) => refused(refusal.number, refusal.place),
         Reading::Number { value, next: _ } => {

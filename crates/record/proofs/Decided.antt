@@ -1,4 +1,4 @@
--- The first 40,000 bytes decide: a record is read by its first 38,710 bytes at the most, so that an input of at least 40,000 bytes never ends
+-- The first 40,000 bytes decide: a record is read by its first 38,744 bytes at the most, so that an input of at least 40,000 bytes never ends
 -- inside a number and always has a byte left.
 -- Assumes nothing.
 use mathlib.Core.Path.{_≡_, refl, sym, ap, _∙_}
@@ -37,7 +37,7 @@ set-longest n few earlier place set passed allowed =
 -- ---- where a record ends at the latest
 
 module _ (bytes : List ℕ) (small : Bytes bytes) where
-  parts-next : (start : ℕ) (parts : PartList) (next : ℕ) → partsAt bytes start ≡ found parts next → next ≤ start + 90
+  parts-next : (start : ℕ) (parts : PartList) (next : ℕ) → partsAt bytes start ≡ found parts next → next ≤ start + 124
   unfolding partsAt
   parts-next start parts next e =
       let a = then-found (fieldAt bytes start Count (partsRefusal start)) _ parts next e in
@@ -47,10 +47,10 @@ module _ (bytes : List ℕ) (small : Bytes bytes) where
       let few = count-few bytes start (a .0) (a .1) (a .2) in
       let first = field-next bytes small start Count (partsRefusal start) (a .0) (a .1) (a .2) in
       let second = field-next bytes small (a .1) PartNumber markRefusal (b .0) (b .1) (b .2) in
-      let third = fields-next bytes small PartNumber (partNumberJudge (b .0)) 5 (none-longer PartNumber (partNumberJudge (b .0))) (a .0) [] (b .1) (c .0) (c .1) (c .2) in
+      let third = fields-next bytes small PartNumber (partNumberJudge (b .0)) 7 (none-longer PartNumber (partNumberJudge (b .0))) (a .0) [] (b .1) (c .0) (c .1) (c .2) in
       omega arith
 
-  head-next : (start : ℕ) (head : Head) (begin : ℕ) → headAt bytes start ≡ found head begin → begin ≤ start + 95
+  head-next : (start : ℕ) (head : Head) (begin : ℕ) → headAt bytes start ≡ found head begin → begin ≤ start + 129
   unfolding headAt
   head-next start head begin e =
       let a = then-found (partsAt bytes start) _ head begin e in
@@ -60,7 +60,7 @@ module _ (bytes : List ℕ) (small : Bytes bytes) where
       let second = field-next bytes small (a .1) Count (setCountRefusal (a .1)) (b .0) (b .1) (b .2) in
       omega arith
 
-  pub record-next : (start : ℕ) (here : DesignAt) (next : ℕ) → recordAt bytes start ≡ found here next → next ≤ start + 38705
+  pub record-next : (start : ℕ) (here : DesignAt) (next : ℕ) → recordAt bytes start ≡ found here next → next ≤ start + 38739
   unfolding recordAt
   record-next start here next e =
       let a = then-found (headAt bytes start) _ here next e in
@@ -76,7 +76,7 @@ module _ (bytes : List ℕ) (small : Bytes bytes) where
 -- ---- the first bytes alone
 
 module _ (bytes : List ℕ) (small : Bytes bytes) (most : ℕ) (long : most ≤ length bytes) where
-  parts-first : (start : ℕ) → start + 95 ≤ most → partsAt (take most bytes) start ≡ partsAt bytes start
+  parts-first : (start : ℕ) → start + 131 ≤ most → partsAt (take most bytes) start ≡ partsAt bytes start
   unfolding partsAt
   parts-first start h =
       then-alike (fieldAt bytes start Count (partsRefusal start)) (fieldAt (take most bytes) start Count (partsRefusal start)) _ _
@@ -87,9 +87,9 @@ module _ (bytes : List ℕ) (small : Bytes bytes) (most : ℕ) (long : most ≤ 
       (field-first bytes most long next PartNumber markRefusal (omega arith)) (λ mark after d.
       let near-mark = field-next bytes small next PartNumber markRefusal mark after d in
       ap (λ (r : Read (List ℕ)). then r (λ numbers end. found (listOf mark numbers) end))
-      (fields-first bytes small PartNumber (partNumberJudge mark) 5 (none-longer PartNumber (partNumberJudge mark)) most long n [] after (omega arith))))
+      (fields-first bytes small PartNumber (partNumberJudge mark) 7 (none-longer PartNumber (partNumberJudge mark)) most long n [] after (omega arith))))
 
-  head-first : (start : ℕ) → start + 95 ≤ most → headAt (take most bytes) start ≡ headAt bytes start
+  head-first : (start : ℕ) → start + 131 ≤ most → headAt (take most bytes) start ≡ headAt bytes start
   unfolding headAt
   head-first start h =
       then-alike (partsAt bytes start) (partsAt (take most bytes) start) _ _ (parts-first start h) (λ parts next e.
@@ -97,8 +97,8 @@ module _ (bytes : List ℕ) (small : Bytes bytes) (most : ℕ) (long : most ≤ 
       ap (λ (r : Read ℕ). then r (λ count after. found (record { parts = parts; count = count }) after))
       (field-first bytes most long next Count (setCountRefusal next) (omega arith)))
 
-  -- a record is read by its first 38,710 bytes
-  pub record-first : (start : ℕ) → start + 38710 ≤ most → recordAt (take most bytes) start ≡ recordAt bytes start
+  -- a record is read by its first 38,744 bytes
+  pub record-first : (start : ℕ) → start + 38744 ≤ most → recordAt (take most bytes) start ≡ recordAt bytes start
   unfolding recordAt
   record-first start h =
       then-alike (headAt bytes start) (headAt (take most bytes) start) _ _ (head-first start (omega arith)) (λ head begin e.

@@ -1,8 +1,9 @@
 -- The definitions on the bridge and at the edges of the refusals of a record: they compute.
 -- Assumes nothing.
 use mathlib.Core.Path.{_≡_, refl}
-use mathlib.Core.List.{List, [], _∷_}
-use Prim.Native.Nat.{ℕ}
+use mathlib.Core.List.{List, [], _∷_, _++_}
+use Prim.Native.Nat.{ℕ, _-_, _^_}
+use lib.ListN.{replicate}
 use Rattle.answer.specs.Outcome.{at}
 use Rattle.codec.specs.Reading.{numberIn, numberAt}
 use Rattle.codec.specs.ByteForm.{grouped, bytesOf, formsOf}
@@ -36,6 +37,41 @@ too-many-parts = refl
 end-inside : wholeRecord (145 ∷ []) ≡ refused (at 21 1)
 unfolding wholeRecord onlyRecord recordAt headAt partsAt fieldsAt fieldAt misplaced holds numberAt numberIn
 end-inside = refl
+
+-- 2^32 is over the top value of n, and of a set, and a part number like any other
+wide-count : wholeRecord (replicate 4 128 ++ (16 ∷ [])) ≡ refused (at 22 0)
+unfolding wholeRecord onlyRecord recordAt headAt partsAt fieldsAt fieldAt misplaced holds numberAt numberIn
+wide-count = refl
+
+wide-number : wholeRecord (1 ∷ replicate 4 128 ++ (16 ∷ 1 ∷ 1 ∷ 1 ∷ [])) ≡ found (design (listOf (2 ^ 32) (1 ∷ [])) (1 ∷ [])) 9
+unfolding wholeRecord onlyRecord recordAt headAt partsAt fieldsAt fieldAt misplaced holds numberAt numberIn
+wide-number = refl
+
+set-over-its-top : wholeRecord (1 ∷ 1 ∷ 1 ∷ 1 ∷ replicate 4 128 ++ (16 ∷ [])) ≡ refused (at 22 4)
+unfolding wholeRecord onlyRecord recordAt headAt partsAt fieldsAt fieldAt misplaced holds numberAt numberIn
+set-over-its-top = refl
+
+-- the highest mark, and one more
+top-mark : wholeRecord (1 ∷ replicate 6 255 ++ (63 ∷ 1 ∷ 1 ∷ 1 ∷ [])) ≡ found (design (listOf (2 ^ 48 - 1) (1 ∷ [])) (1 ∷ [])) 11
+unfolding wholeRecord onlyRecord recordAt headAt partsAt fieldsAt fieldAt misplaced holds numberAt numberIn
+top-mark = refl
+
+over-the-top-mark : wholeRecord (1 ∷ replicate 6 255 ++ (64 ∷ 1 ∷ 1 ∷ 1 ∷ [])) ≡ refused (at 22 1)
+unfolding wholeRecord onlyRecord recordAt headAt partsAt fieldsAt fieldAt misplaced holds numberAt numberIn
+over-the-top-mark = refl
+
+-- the input ends behind five, six and seven groups of a mark, each with bit 7 set
+five-groups : wholeRecord (1 ∷ replicate 5 255) ≡ refused (at 21 6)
+unfolding wholeRecord onlyRecord recordAt headAt partsAt fieldsAt fieldAt misplaced holds numberAt numberIn
+five-groups = refl
+
+six-groups : wholeRecord (1 ∷ replicate 6 255) ≡ refused (at 21 7)
+unfolding wholeRecord onlyRecord recordAt headAt partsAt fieldsAt fieldAt misplaced holds numberAt numberIn
+six-groups = refl
+
+seven-groups : wholeRecord (1 ∷ replicate 7 255) ≡ refused (at 22 1)
+unfolding wholeRecord onlyRecord recordAt headAt partsAt fieldsAt fieldAt misplaced holds numberAt numberIn
+seven-groups = refl
 
 -- a part number that does not rise, before 21 of what is missing
 equal-numbers : wholeRecord (2 ∷ 5 ∷ 3 ∷ 3 ∷ []) ≡ refused (at 23 3)

@@ -1,4 +1,4 @@
--- No record is longer than 38,698 bytes: one for n, five for the mark and each of 16 part numbers, two for the count and three for each of
+-- No record is longer than 38,732 bytes: one for n, seven for the mark and each of 16 part numbers, two for the count and three for each of
 -- 12,870 sets.
 -- Assumes nothing.
 use mathlib.Core.Path.{_≡_, refl, subst}
@@ -28,7 +28,7 @@ set-small (x ∷ sets) small zero = small x (List·Memᴰ·head refl)
 set-small (x ∷ sets) small (suc i) = set-small sets (λ a m. small a (List·Memᴰ·tail m)) i
 
 -- what is written
-pub record-longest : (d : Design) → DesignRules d → length (recordBytes d) ≤ 38698
+pub record-longest : (d : Design) → DesignRules d → length (recordBytes d) ≤ 38732
 unfolding recordBytes headBytes partsBytes
 record-longest d r =
     let parts = r .parts .rules in
@@ -38,7 +38,7 @@ record-longest d r =
     let count : List ℕ = bytesOf (length (d .sets)) in
     let inside : 2 ^ d .parts .count ≤ 2 ^ 16 = pow-mono (parts .few) in
     let one = bytes-at-most 1 (d .parts .count) (omega arith) (omega (arith, parts .few)) in
-    let five = bytes-at-most 5 (d .parts .mark) (omega arith) (omega (arith, parts .top)) in
+    let seven = bytes-at-most 7 (d .parts .mark) (omega arith) (omega (arith, parts .top)) in
     let all = forms-allowed PartNumber numbers (rising-allowed (d .parts .mark) 0 (parts .top) numbers (parts .rising)) in
     let two = bytes-at-most 2 (length (d .sets)) (omega arith) (omega (arith, r .sets .most)) in
     let small = set-small (d .sets) (λ a m. omega (arith, r .sets .within a m .0)) in
@@ -55,7 +55,7 @@ record-longest d r =
     )
 
 -- and what is accepted
-pub accepted-longest : (bytes : List ℕ) → Bytes bytes → (d : Design) (next : ℕ) → wholeRecord bytes ≡ found d next → length bytes ≤ 38698
+pub accepted-longest : (bytes : List ℕ) → Bytes bytes → (d : Design) (next : ℕ) → wholeRecord bytes ≡ found d next → length bytes ≤ 38732
 accepted-longest bytes small d next e =
     let w = whole-written bytes d next small e in
-    subst (λ (l : List ℕ). length l ≤ 38698) (w .1) (record-longest d (w .0))
+    subst (λ (l : List ℕ). length l ≤ 38732) (w .1) (record-longest d (w .0))

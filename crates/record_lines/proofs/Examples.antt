@@ -1,7 +1,7 @@
 -- The definitions of changes on the bridge and at the edges: they compute.
 -- Assumes nothing.
 use mathlib.Core.Path.{_≡_, refl}
-use mathlib.Core.List.{List, [], _∷_, map}
+use mathlib.Core.List.{List, [], _∷_, _++_, map}
 use Prim.Native.Nat.{ℕ}
 use lib.ListN.{replicate}
 use Rattle.answer.specs.Outcome.{at, outcome}
@@ -53,7 +53,7 @@ made = refl
 -- needed length behind the change's own refusals; and 25 of the record before anything of the change.
 not-made :
     answer (takeOut 1) (1 ∷ 1 ∷ 1 ∷ 1 ∷ 1 ∷ []) 9 ∷ answer (takeOut 1) (3 ∷ 3 ∷ 1 ∷ 2 ∷ 3 ∷ 2 ∷ 3 ∷ 5 ∷ []) 9 ∷ answer (takeOut 0) (1 ∷ 1 ∷ 1 ∷ 1 ∷ 1 ∷ []) 9
-    ∷ answer (takeOut 2) (1 ∷ 1 ∷ 1 ∷ 1 ∷ 1 ∷ []) 9 ∷ answer addPart (1 ∷ 255 ∷ 255 ∷ 255 ∷ 255 ∷ 15 ∷ 1 ∷ 1 ∷ 1 ∷ []) 9
+    ∷ answer (takeOut 2) (1 ∷ 1 ∷ 1 ∷ 1 ∷ 1 ∷ []) 9 ∷ answer addPart (1 ∷ replicate 6 255 ++ (63 ∷ 1 ∷ 1 ∷ 1 ∷ [])) 9
     ∷ answer (addSet 0) (1 ∷ 1 ∷ 1 ∷ 1 ∷ 1 ∷ []) 9 ∷ answer (addSet 2) (1 ∷ 1 ∷ 1 ∷ 1 ∷ 1 ∷ []) 9 ∷ answer (takeOut 3) bridge 8
     ∷ answer (takeOut 9) bridge 0 ∷ answer (takeOut 9) (1 ∷ 1 ∷ 1 ∷ 1 ∷ 1 ∷ 0 ∷ []) 9 ∷ []
     ≡ map Refused (at 18 0 ∷ at 18 0 ∷ at 17 0 ∷ at 17 0 ∷ at 20 0 ∷ at 5 0 ∷ at 4 0 ∷ at 11 9 ∷ at 17 0 ∷ at 25 5 ∷ [])
@@ -64,6 +64,15 @@ not-made = refl
 sensor : lastOf (call (takeOut 3) ∷ call addPart ∷ []) bridge ≡ 5 ∷ 6 ∷ 1 ∷ 2 ∷ 4 ∷ 5 ∷ 6 ∷ 2 ∷ 5 ∷ 10 ∷ []
 unfolding changedRecord wholeRecord onlyRecord recordAt headAt partsAt fieldsAt fieldAt misplaced has holds any those listed minimal numberAt numberIn recordBytes headBytes partsBytes formsOf bytesOf grouped partAdded partListRefusal others meets squeezed setsWithout
 sensor = refl
+
+-- At a mark of 2^32-1 the numbers go on, and they end at 2^48-1.
+on : after (call addPart) (1 ∷ replicate 4 255 ++ (15 ∷ 1 ∷ 1 ∷ 1 ∷ [])) ≡ 2 ∷ replicate 4 128 ++ (16 ∷ 1 ∷ replicate 4 128 ++ (16 ∷ 1 ∷ 1 ∷ []))
+unfolding changedRecord wholeRecord onlyRecord recordAt headAt partsAt fieldsAt fieldAt misplaced has holds any those listed minimal numberAt numberIn recordBytes headBytes partsBytes formsOf bytesOf grouped partAdded partListRefusal others meets squeezed setsWithout
+on = refl
+
+last-number : lastOf (call addPart ∷ call addPart ∷ []) (1 ∷ 254 ∷ replicate 5 255 ++ (63 ∷ 1 ∷ 1 ∷ 1 ∷ [])) ≡ 2 ∷ replicate 6 255 ++ (63 ∷ 1 ∷ replicate 6 255 ++ (63 ∷ 1 ∷ 1 ∷ []))
+unfolding changedRecord wholeRecord onlyRecord recordAt headAt partsAt fieldsAt fieldAt misplaced has holds any those listed minimal numberAt numberIn recordBytes headBytes partsBytes formsOf bytesOf grouped partAdded partListRefusal others meets squeezed setsWithout
+last-number = refl
 
 -- parts 2 and 3 taken out of the bridge together: only the set of parts 1 and 4 is left, which then stand at positions 1 and 2
 together : setsWithout 6 (9 ∷ 14 ∷ 18 ∷ 21 ∷ []) ≡ 3 ∷ []

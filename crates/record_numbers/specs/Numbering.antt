@@ -17,7 +17,7 @@ use Rattle.codec.specs.declared.Field.the-variants.{PartNumber}
 abbrev pub mostParts : ℕ
 mostParts = 16
 
--- the top part number: the largest that a record can hold, 2^32-1
+-- the top part number: the largest that a record can hold, 2^48-1
 abbrev pub topNumber : ℕ
 topNumber = top PartNumber
 

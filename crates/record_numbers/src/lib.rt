@@ -7,7 +7,7 @@ ghost use Rattle.record_numbers.specs.Numbering.{mostParts, cellsOf, mis
 // The most parts of a machine, and the top part number.
 pub const MOST_PARTS: usize = 16;
 
-pub const TOP_NUMBER: u64 = 4294967295;
+pub const TOP_NUMBER: u64 = 281474976710655;
 
 // Whether these numbers and this mark make a part list.
 pub fn judge(mark: u64, numbers: &[u64]) -> Verdict

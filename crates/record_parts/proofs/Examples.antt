@@ -2,7 +2,7 @@
 -- Assumes nothing.
 use mathlib.Core.Path.{_≡_, refl}
 use mathlib.Core.List.{List, [], _∷_}
-use Prim.Native.Nat.{ℕ, _+_}
+use Prim.Native.Nat.{ℕ, _+_, _-_, _^_}
 use lib.ListN.{replicate}
 use Rattle.answer.specs.Refusals.{wrongPartCount, unknownPosition, inEverySet, fullMachine, numbersSpent, wrongPartNumber}
 use Rattle.answer.specs.Outcome.{at}
@@ -100,6 +100,11 @@ the-only-part = refl
 spent : partAdded (listOf topNumber (1 ∷ [])) .answer ≡ numbered.Refused (at numbersSpent 0)
 unfolding partListRefusal made partAdded takenOut
 spent = refl
+
+-- and 2^32-1 is no end any more
+old-top : partAdded (listOf (2 ^ 32 - 1) (1 ∷ [])) .answer ≡ numbered.Number (2 ^ 32)
+unfolding partListRefusal made partAdded takenOut
+old-top = refl
 
 abbrev sixteen : List ℕ
 sixteen = 1 ∷ 2 ∷ 3 ∷ 4 ∷ 5 ∷ 6 ∷ 7 ∷ 8 ∷ 9 ∷ 10 ∷ 11 ∷ 12 ∷ 13 ∷ 14 ∷ 15 ∷ 16 ∷ []

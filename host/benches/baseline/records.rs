@@ -6,6 +6,10 @@ use super::table::{refused, table_length, Words};
 use nahokipe_host::records::Record;
 use nahokipe_host::Refusal;
 
+/// The top values: of n, the count of sets and a set, and of the mark and a part number.
+const SHORT: u64 = (1 << 32) - 1;
+const LONG: u64 = (1 << 48) - 1;
+
 /// A record that is accepted, and its path sets.
 pub struct Read {
     pub record: Record,
@@ -32,10 +36,10 @@ pub fn table_of_record(bytes: &[u8], table: &mut [u8]) -> Result<usize, Refusal>
 pub fn walk(bytes: &[u8], record: &Record) -> u64 {
     let (mut at, mut sum) = (record.offset, 0);
     for _ in 0..record.sets {
-        let Ok((set, next)) = number_at(bytes, at) else {
+        let Ok((set, next)) = number_at::<SHORT>(bytes, at) else {
             break;
         };
-        (at, sum) = (next, sum + set as u64);
+        (at, sum) = (next, sum + set);
     }
     sum
 }
@@ -61,26 +65,26 @@ pub fn read(bytes: &[u8]) -> Result<Read, Refusal> {
 
 /// n, the mark, the part numbers and the count of sets.
 fn read_head(bytes: &[u8]) -> Result<Record, Refusal> {
-    let (n, at) = number_at(bytes, 0)?;
+    let (n, at) = number_at::<SHORT>(bytes, 0)?;
     if !(1..=16).contains(&n) {
         return refused(1, 0);
     }
-    let (mark, mut at) = number_at(bytes, at)?;
+    let (mark, mut at) = number_at::<LONG>(bytes, at)?;
     let mut numbers = Vec::with_capacity(16);
     let mut last = 0;
     for _ in 0..n {
-        let (number, next) = number_at(bytes, at)?;
+        let (number, next) = number_at::<LONG>(bytes, at)?;
         if number <= last || number > mark {
             return refused(23, at);
         }
-        numbers.push(number as u64);
+        numbers.push(number);
         (last, at) = (number, next);
     }
-    let (sets, offset) = number_at(bytes, at)?;
+    let (sets, offset) = number_at::<SHORT>(bytes, at)?;
     match sets {
         0 => refused(2, at),
         1..=12_870 => Ok(Record {
-            mark: mark as u64,
+            mark,
             numbers,
             sets: sets as usize,
             offset,
@@ -99,7 +103,7 @@ fn mark_sets(
 ) -> Result<usize, Refusal> {
     let (mut at, mut last) = (record.offset, 0);
     for _ in 0..record.sets {
-        let (set, next) = number_at(bytes, at)?;
+        let (set, next) = number_at::<SHORT>(bytes, at)?;
         if set >> n != 0 {
             return refused(4, at);
         }
@@ -117,9 +121,9 @@ fn mark_sets(
 
 /// Where the first set stands that holds an earlier one; there is one.
 fn first_holding(bytes: &[u8], n: usize, record: &Record, works: &Words) -> usize {
-    let is_path = |set: u32| works[set as usize / 64] >> (set % 64) & 1 == 1;
+    let is_path = |set: u64| works[set as usize / 64] >> (set % 64) & 1 == 1;
     let mut at = record.offset;
-    while let Ok((set, next)) = number_at(bytes, at) {
+    while let Ok((set, next)) = number_at::<SHORT>(bytes, at) {
         if (0..n).any(|i| set >> i & 1 == 1 && is_path(set ^ 1 << i)) {
             break;
         }
@@ -130,18 +134,18 @@ fn first_holding(bytes: &[u8], n: usize, record: &Record, works: &Words) -> usiz
 
 /// The number at a position and the position behind it, or 21 and 22.
 #[inline(always)]
-fn number_at(bytes: &[u8], at: usize) -> Result<(u32, usize), Refusal> {
+fn number_at<const TOP: u64>(bytes: &[u8], at: usize) -> Result<(u64, usize), Refusal> {
     let mut number = 0_u64;
-    for group in 0..5 {
+    for group in 0..TOP.ilog2() as usize / 7 + 1 {
         let Some(&byte) = bytes.get(at + group) else {
             return refused(21, bytes.len());
         };
         number |= ((byte & 0x7F) as u64) << (7 * group);
         if byte < 0x80 {
             let is_shortest = byte != 0 || group == 0;
-            return match u32::try_from(number) {
-                Ok(number) if is_shortest => Ok((number, at + group + 1)),
-                _ => refused(22, at),
+            return match is_shortest && number <= TOP {
+                true => Ok((number, at + group + 1)),
+                false => refused(22, at),
             };
         }
     }

@@ -1,0 +1,171 @@
+-- "Records accepted until now read as before" (02, §7): bytes that were accepted while part numbers reached 2^32-1 give the same part list, the
+-- same sets, stretch and table, and are what is written of them; what a change wrote then it writes now. They are exactly the bytes that are
+-- accepted now with a mark of 2^32-1 at most.
+-- Assumes nothing.
+use mathlib.Core.Path.{_≡_, refl, sym, ap, ap₂, _∙_, subst}
+use mathlib.Core.List.{List, []}
+use mathlib.Core.Logic.{_↔_}
+use Prim.Native.Nat.{ℕ, _-_, _^_, _≤_, _<_}
+use native.Mathlib.Omega.{arith}
+use borrow.Author.Tests.{eqb-false}
+use lib.Dec.{eqb}
+use Rattle.answer.specs.Refusals.{fullMachine, numbersSpent}
+use Rattle.answer.specs.Outcome.{outcome, delivered}
+use Rattle.answer.specs.declared.Verdict.{Verdict}
+use Rattle.answer.specs.declared.Verdict.the-variants.{Accepted}
+use Rattle.answer.specs.declared.Written.{Written}
+use Rattle.answer.specs.declared.Written.the-variants.{Length}
+use Rattle.answer.proofs.Outcomes.{refuse-accepted}
+use Rattle.answer.proofs.Deliveries.{given}
+use Rattle.codec.specs.declared.Field.the-variants.{Count}
+use Rattle.codec.specs.Fields.{top}
+use Rattle.codec.specs.Bytes.{Bytes}
+use Rattle.codec.specs.Reads.{Read, found, refused, then, alone}
+use Rattle.codec.specs.FieldReads.{fieldAt}
+use Rattle.codec.proofs.Found.{then-found, found-then, alone-found}
+use Rattle.theory_sets.specs.Structures.{listed}
+use Rattle.theory_sets.specs.Tables.{tableOf}
+use Rattle.record_numbers.specs.Numbering.{mostParts, topNumber}
+use Rattle.record_parts.specs.declared.Changed.{Changed}
+use Rattle.record_parts.proofs.OneChange.{added-given}
+use Rattle.record_head.specs.Headings.{setCountRefusal, partsAt, Head, headAt}
+use Rattle.record.specs.declared.Contents.{Contents}
+use Rattle.record.specs.Records.{setsAt, Design, design, DesignAt, designAt, recordAt, onlyRecord, wholeRecord}
+use Rattle.record.specs.RecordBytes.{recordBytes, DesignRules}
+use Rattle.record.specs.Contents.{contentsOf, wholeContents, recordRefusal, designOr, designIn, withWordsOf, wholeWithWords, stretchOf}
+use Rattle.record.proofs.RoundTrip.{whole-written}
+use Rattle.record_lines.specs.Changes.{Change, addPart, takeOut, addSet, changeRefusal, changed}
+use Rattle.record_lines.specs.Records.{changedRead, changedRecord}
+use Rattle.record_lines.proofs.Refusals.{add-part-exactly}
+use Rattle.record_former.specs.Former.{formerField, formerPartsAt, formerHeadAt, formerRecordAt, formerRecord, formerChangeRefusal, formerChanged, formerChangedRead, formerChangedRecord, ReadAsBefore}
+use Rattle.record_former.proofs.Fields.{parts-now, parts-marked, parts-then}
+
+-- where something else is found first, what comes later finds the same
+then-other : {A B : Type 0} (first other : Read A) (later : A → ℕ → Read B) (b : B) (end : ℕ)
+    → ((a : A) (next : ℕ) → first ≡ found a next → later a next ≡ found b end → other ≡ found a next) → then first later ≡ found b end → then other later ≡ found b end
+then-other {A} {B} first other later b end same e =
+    let a = then-found first later b end e in
+    found-then later (same (a .0) (a .1) (a .2) (a .3)) (a .3)
+
+module _ (bytes : List ℕ) (small : Bytes bytes) where
+  -- ---- until then, and now
+
+  head-now : (start : ℕ) (head : Head) (begin : ℕ) → formerHeadAt bytes start ≡ found head begin → headAt bytes start ≡ found head begin
+  unfolding formerHeadAt headAt
+  head-now start head begin =
+      then-other (formerPartsAt bytes start) (partsAt bytes start) _ head begin (λ parts next e later. parts-now bytes small start parts next e)
+
+  -- a record that was read at a position of any bytes is read there as it was
+  pub record-now : (start : ℕ) (here : DesignAt) (next : ℕ) → formerRecordAt bytes start ≡ found here next → recordAt bytes start ≡ found here next
+  unfolding formerRecordAt recordAt
+  record-now start here next =
+      then-other (formerHeadAt bytes start) (headAt bytes start) _ here next (λ head begin e later. head-now start head begin e)
+
+  only-now : (here : DesignAt) (next : ℕ) → formerRecord bytes ≡ found here next → onlyRecord bytes ≡ found here next
+  unfolding formerRecord onlyRecord
+  only-now here next =
+      then-other (formerRecordAt bytes 0) (recordAt bytes 0) (alone bytes) here next (λ at end e later. record-now 0 at end e)
+
+  -- ---- which bytes were accepted
+
+  -- with a mark of 2^32-1 at most
+  head-marked : (start : ℕ) (head : Head) (begin : ℕ) → formerHeadAt bytes start ≡ found head begin → head .parts .mark ≤ top formerField
+  unfolding formerHeadAt
+  head-marked start head begin e =
+      let a = then-found (formerPartsAt bytes start) _ head begin e in
+      let b = then-found (fieldAt bytes (a .1) Count (setCountRefusal (a .1))) _ head begin (a .3) in
+      let same : record { parts = a .0; count = b .0 } ≡ head = cc (b .3) in
+      subst (λ (h : Head). h .parts .mark ≤ top formerField) same (parts-marked bytes small start (a .0) (a .1) (a .2))
+
+  record-marked : (start : ℕ) (here : DesignAt) (next : ℕ) → formerRecordAt bytes start ≡ found here next → here .design .parts .mark ≤ top formerField
+  unfolding formerRecordAt
+  record-marked start here next e =
+      let a = then-found (formerHeadAt bytes start) _ here next e in
+      let b = then-found (setsAt bytes (a .0 .parts .count) (a .0 .count) [] (a .1)) _ here next (a .3) in
+      let same : designAt (a .0 .parts) (b .0) (a .1) (b .1) ≡ here = cc (b .3) in
+      subst (λ (w : DesignAt). w .design .parts .mark ≤ top formerField) same (head-marked start (a .0) (a .1) (a .2))
+
+  only-marked : (here : DesignAt) (next : ℕ) → formerRecord bytes ≡ found here next → here .design .parts .mark ≤ top formerField
+  unfolding formerRecord
+  only-marked here next e =
+      let a = then-found (formerRecordAt bytes 0) (alone bytes) here next e in
+      let last = alone-found bytes (a .0) (a .1) here next (a .3) in
+      subst (λ (w : DesignAt). w .design .parts .mark ≤ top formerField) (last .0) (record-marked 0 (a .0) (a .1) (a .2))
+
+  -- and what is accepted now with such a mark was accepted
+  head-then : (start : ℕ) (head : Head) (begin : ℕ) → head .parts .mark ≤ top formerField → headAt bytes start ≡ found head begin → formerHeadAt bytes start ≡ found head begin
+  unfolding formerHeadAt headAt
+  head-then start head begin low =
+      then-other (partsAt bytes start) (formerPartsAt bytes start) _ head begin (λ parts next e later.
+      let b = then-found (fieldAt bytes next Count (setCountRefusal next)) _ head begin later in
+      let same : record { parts = parts; count = b .0 } ≡ head = cc (b .3) in
+      parts-then bytes small start parts next (subst (λ (h : Head). h .parts .mark ≤ top formerField) (sym same) low) e)
+
+  record-then : (start : ℕ) (here : DesignAt) (next : ℕ) → here .design .parts .mark ≤ top formerField → recordAt bytes start ≡ found here next → formerRecordAt bytes start ≡ found here next
+  unfolding formerRecordAt recordAt
+  record-then start here next low =
+      then-other (headAt bytes start) (formerHeadAt bytes start) _ here next (λ head begin e later.
+      let b = then-found (setsAt bytes (head .parts .count) (head .count) [] begin) _ here next later in
+      let same : designAt (head .parts) (b .0) begin (b .1) ≡ here = cc (b .3) in
+      head-then start head begin (subst (λ (w : DesignAt). w .design .parts .mark ≤ top formerField) (sym same) low) e)
+
+  only-then : (here : DesignAt) (next : ℕ) → here .design .parts .mark ≤ top formerField → onlyRecord bytes ≡ found here next → formerRecord bytes ≡ found here next
+  unfolding formerRecord onlyRecord
+  only-then here next low =
+      then-other (recordAt bytes 0) (formerRecordAt bytes 0) (alone bytes) here next (λ at end e later.
+      record-then 0 at end (subst (λ (w : DesignAt). w .design .parts .mark ≤ top formerField) (sym (alone-found bytes at end here next later .0)) low) e)
+
+  -- bytes were accepted exactly if they are accepted now with a mark of 2^32-1 at most
+  pub accepted-before : (here : DesignAt) (next : ℕ) → (formerRecord bytes ≡ found here next) ↔ ((onlyRecord bytes ≡ found here next) × (here .design .parts .mark ≤ 2 ^ 32 - 1))
+  accepted-before here next = (λ e. (only-now here next e, only-marked here next e), λ both. only-then here next (both .1) (both .0))
+
+  -- ---- what they give
+
+  pub read-as-before : (here : DesignAt) (next : ℕ) → formerRecord bytes ≡ found here next → ReadAsBefore bytes here next
+  unfolding wholeRecord wholeContents wholeWithWords designIn
+  read-as-before here next e =
+      let only : onlyRecord bytes ≡ found here next = only-now here next e in
+      let design : wholeRecord bytes ≡ found (here .design) next = ap (λ (r : Read DesignAt). then r (λ at end. found (at .design) end)) only in
+      let contents : wholeContents bytes ≡ contentsOf (found here next) = ap contentsOf only in
+      record {
+        design = design;
+        contents = contents;
+        stretch = ap (λ (c : Contents). stretchOf c bytes) contents;
+        words = ap withWordsOf only;
+        table = λ buffer. ap₂ (λ (v : Verdict) (d : Design). delivered v (tableOf (d .parts .count) (listed (d .sets))) buffer) (ap (λ (c : Contents). c .verdict) contents) (ap designOr design);
+        written = whole-written bytes (here .design) next small design .1;
+      }
+
+  -- ---- what a change writes
+
+  -- nothing that did not refuse a change then refuses it now, and it gives the same design
+  change-now : (change : Change) (d : Design) → DesignRules d → d .parts .mark ≤ top formerField → formerChangeRefusal change d ≡ Accepted
+      → (changeRefusal change d ≡ Accepted) × (changed change d ≡ formerChanged change d)
+  change-now (takeOut position) d rules low accepted = (accepted, refl)
+  change-now (addSet set) d rules low accepted = (accepted, refl)
+  change-now addPart d rules low accepted =
+      let s = refuse-accepted (eqb (d .parts .count) mostParts) fullMachine 0 _ accepted in
+      let t = refuse-accepted (eqb (d .parts .mark) (top formerField)) numbersSpent 0 Accepted (s .1) in
+      let few : d .parts .count < mostParts = omega (arith, eqb-false (d .parts .count) mostParts (s .0), rules .parts .rules .few) in
+      let under : d .parts .mark < topNumber = omega (arith, eqb-false (d .parts .mark) (top formerField) (t .0)) in (
+        add-part-exactly d rules .1 (few, under),
+        ap (λ (c : Changed). design (c .list) (d .sets)) (added-given (d .parts) (rules .parts) few under),
+      )
+
+  -- what a change wrote then, it writes now, and answers and leaves the buffer as it did
+  pub change-as-before : (change : Change) (buffer : List ℕ) (n : ℕ) → formerChangedRecord change bytes buffer .answer ≡ Length n
+      → changedRecord change bytes buffer ≡ formerChangedRecord change bytes buffer
+  unfolding formerChangedRecord changedRecord
+  change-as-before change buffer n = cases (formerRecord bytes) refl
+    where
+      cases : (read : Read DesignAt) → formerRecord bytes ≡ read → formerChangedRead change read buffer .answer ≡ Length n
+          → changedRead change (wholeRecord bytes) buffer ≡ formerChangedRead change read buffer
+      cases (refused r) here e = let z : _≡_ {A = ℕ} 0 1 = cc in absurd (omega arith)
+      cases (found at next) here e =
+          let d : Design = at .design in
+          let read = read-as-before at next here .design in
+          let left = formerChangedRead change (found at next) buffer .buffer in
+          let g = given (formerChangeRefusal change d) (recordBytes (formerChanged change d)) buffer left n (ap (λ (w : Written). outcome w left) (sym e)) in
+          let same = change-now change d (whole-written bytes d next small read .0) (only-marked at next here) (g .accepted) in
+          ap (λ (r : Read Design). changedRead change r buffer) read
+          ∙ ap₂ (λ (v : Verdict) (x : Design). delivered v (recordBytes x) buffer) (same .0 ∙ sym (g .accepted)) (same .1)

@@ -2,13 +2,13 @@
 //! numbers reached 2^32-1, and lines of changes that cross 2^32 and that end at the top number.
 
 use nahokipe_host::comparing::handed_out;
-use nahokipe_host::making::{damaged_record, random_record};
-use nahokipe_host::naive::{refused, table_length};
+use nahokipe_host::making::{damaged_record, random_record, random_set};
+use nahokipe_host::naive::{self, refused, table_length};
 use nahokipe_host::naive_records::{self as by_words, former_record, record_bytes, Change, Plain};
 use nahokipe_host::naive_records::{Design, TOP_NUMBER};
 use nahokipe_host::records::whole_record_answer;
 use nahokipe_host::seeded::Seeded;
-use nahokipe_host::{add_part, table_of_record, take_out, whole_record, Refusal};
+use nahokipe_host::{add_part, add_set, table_of_record, take_out, whole_record, Refusal};
 use std::collections::BTreeSet;
 
 /// Where part numbers ended until then.
@@ -136,7 +136,8 @@ fn records_accepted_until_then() {
             let bytes = random_record(&mut seeded, n);
             if reads_as_before(&bytes) {
                 before += 1;
-                changes_as_before(&bytes, seeded.between(1, n));
+                let set = random_set(&mut seeded, n);
+                changes_as_before(&bytes, seeded.between(1, n), set);
             }
         }
     }
@@ -144,16 +145,19 @@ fn records_accepted_until_then() {
 }
 
 /// The table, and what a change wrote, from the record as it was read then; the mark 2^32-1 alone ended a line.
-fn changes_as_before(bytes: &[u8], position: usize) {
+fn changes_as_before(bytes: &[u8], position: usize, set: u16) {
     let plain = former_record(bytes).expect("a record accepted then").plain;
     let design = Design::of(&plain);
-    let mut table = vec![0xA5; table_length(plain.numbers.len())];
+    let n = plain.numbers.len();
+    let mut table = vec![0xA5; table_length(n)];
     assert_eq!(table_of_record(bytes, &mut table), Ok(table.len()));
-    assert!(by_words::table_of_record(bytes) == Ok(table));
+    assert!(naive::table_of_list(n, &plain.sets) == Ok(table));
     let written =
         |design: Result<Design, Refusal>| design.map(|design| record_bytes(&design.plain()));
     let taken = written(design.clone().take_out(position));
     assert!(changed(bytes, Change::TakeOut(position)) == taken);
+    let with_set = written(design.clone().add_set(set));
+    assert!(changed(bytes, Change::AddSet(set)) == with_set);
     if plain.mark < OLD_TOP {
         assert!(changed(bytes, Change::AddPart) == written(design.add_part()));
     }
@@ -168,7 +172,7 @@ fn changed(bytes: &[u8], change: Change) -> Result<Vec<u8>, Refusal> {
     let length = match change {
         Change::AddPart => add_part(bytes, &mut buffer)?,
         Change::TakeOut(position) => take_out(bytes, position, &mut buffer)?,
-        Change::AddSet(_) => unreachable!("no line here adds a set"),
+        Change::AddSet(set) => add_set(bytes, set, &mut buffer)?,
     };
     buffer.truncate(length);
     Ok(buffer)

@@ -17,7 +17,7 @@ use Rattle.codec.specs.FieldReads.{Judge, fieldAt, fieldsAt}
 use Rattle.codec.specs.Bytes.{Bytes}
 use Rattle.codec.proofs.ByteForms.{forms-most}
 use Rattle.codec.proofs.ReadAfterWrite.{form-groups}
-use Rattle.codec.proofs.Found.{then-found, Stands, stands-none, stands-both, behind, field-found, field-read}
+use Rattle.codec.proofs.Found.{then-found, found-then, Stands, stands-none, stands-both, behind, field-found, field-read}
 
 -- a judge that passes a number at any place if at one
 abbrev pub AnyPlace : Judge → Type 0
@@ -99,9 +99,9 @@ module _ (bytes : List ℕ) (field : Field) (judge : Judge) where
       let ends : next + length (formsOf numbers) ≡ start + length (bytesOf v ++ formsOf numbers) = omega (arith, length-append (bytesOf v) (formsOf numbers)) in
       let first : fieldAt bytes start field (judge earlier start) ≡ found v next =
       field-read bytes start field (judge earlier start) v (formsOf numbers ++ rest) forms (allowed .0) (follow .0 start) in
-      ap (λ (r : Read ℕ). then r (λ number after. fieldsAt bytes field judge (length numbers) (earlier ++ (number ∷ [])) after)) first
-      ∙ fields-read numbers (earlier ++ (v ∷ [])) next rest (allowed .1) (follow .1) (behind bytes start (bytesOf v) (formsOf numbers ++ rest) forms)
-      ∙ rw (append-assoc, ends)
+      found-then _ first
+      (fields-read numbers (earlier ++ (v ∷ [])) next rest (allowed .1) (follow .1) (behind bytes start (bytesOf v) (formsOf numbers ++ rest) forms)
+      ∙ rw (append-assoc, ends))
 
 -- ---- a walk along the numbers: what is known before the number at an index
 

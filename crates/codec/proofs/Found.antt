@@ -38,6 +38,13 @@ then-found (refused r) later b end e = let z : _≡_ {A = ℕ} 0 1 = cc in absur
 pub found-then : {A B : Type 0} {first : Read A} (later : A → ℕ → Read B) {b : B} {end : ℕ} {a : A} {next : ℕ} → first ≡ found a next → later a next ≡ found b end → then first later ≡ found b end
 found-then {A} later e h = ap (λ (r : Read A). then r later) e ∙ h
 
+-- where something else is found first, what comes later finds the same
+pub then-other : {A B : Type 0} (first other : Read A) (later : A → ℕ → Read B) (b : B) (end : ℕ)
+    → ((a : A) (next : ℕ) → first ≡ found a next → later a next ≡ found b end → other ≡ found a next) → then first later ≡ found b end → then other later ≡ found b end
+then-other first other later b end same e =
+    let a = then-found first later b end e in
+    found-then later (same (a .0) (a .1) (a .2) (a .3)) (a .3)
+
 -- what is read after equal things is equal where it is equal for what was found
 pub then-alike : {A B : Type 0} (first other : Read A) (later last : A → ℕ → Read B) → other ≡ first → ((a : A) (next : ℕ) → first ≡ found a next → last a next ≡ later a next)
     → then other last ≡ then first later

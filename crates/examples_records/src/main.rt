@@ -13,7 +13,7 @@ fn main() {
     replayed();
 }
 
-// Numbers in groups of seven bits, on the edges of two fields: of counts, and of part numbers.
+// Numbers in groups of seven bits, on the edges of the field of counts.
 fn numbers() {
     say(b"numbers\n");
     number(b"AC 02", &[0xAC, 0x02], Field::Count);
@@ -36,6 +36,7 @@ fn numbers() {
     );
 }
 
+// And on those of part numbers.
 fn part_numbers() {
     say(b"part numbers\n");
     number(

@@ -22,7 +22,7 @@ use Rattle.codec.specs.Fields.{top}
 use Rattle.codec.specs.Bytes.{Bytes}
 use Rattle.codec.specs.Reads.{Read, found, refused, then, alone}
 use Rattle.codec.specs.FieldReads.{fieldAt}
-use Rattle.codec.proofs.Found.{then-found, found-then, alone-found}
+use Rattle.codec.proofs.Found.{then-found, then-other, alone-found}
 use Rattle.theory_sets.specs.Structures.{listed}
 use Rattle.theory_sets.specs.Tables.{tableOf}
 use Rattle.record_numbers.specs.Numbering.{mostParts, topNumber}
@@ -39,13 +39,6 @@ use Rattle.record_lines.specs.Records.{changedRead, changedRecord}
 use Rattle.record_lines.proofs.Refusals.{add-part-exactly}
 use Rattle.record_former.specs.Former.{formerField, formerPartsAt, formerHeadAt, formerRecordAt, formerRecord, formerChangeRefusal, formerChanged, formerChangedRead, formerChangedRecord, ReadAsBefore}
 use Rattle.record_former.proofs.Fields.{parts-now, parts-marked, parts-then}
-
--- where something else is found first, what comes later finds the same
-then-other : {A B : Type 0} (first other : Read A) (later : A → ℕ → Read B) (b : B) (end : ℕ)
-    → ((a : A) (next : ℕ) → first ≡ found a next → later a next ≡ found b end → other ≡ found a next) → then first later ≡ found b end → then other later ≡ found b end
-then-other {A} {B} first other later b end same e =
-    let a = then-found first later b end e in
-    found-then later (same (a .0) (a .1) (a .2) (a .3)) (a .3)
 
 module _ (bytes : List ℕ) (small : Bytes bytes) where
   -- ---- until then, and now

@@ -1,12 +1,12 @@
 -- A part list read by one field for its numbers is read by another as well, where the other allows the mark; so for the part numbers of 2^32-1
 -- at most and those of today, both ways.
 -- Assumes nothing.
-use mathlib.Core.Path.{_≡_, refl, sym, _∙_, subst}
-use mathlib.Core.Bool.{Bool, true, false, cond}
+use mathlib.Core.Path.{_≡_, sym, subst}
+use mathlib.Core.Bool.{true, false, cond}
 use mathlib.Core.List.{List, []}
-use Prim.Native.Nat.{ℕ, _≤_, _<_}
+use Prim.Native.Nat.{ℕ, _≤_}
 use native.Mathlib.Omega.{arith}
-use borrow.Author.Tests.{leb-false, ltb-false, lt-leb, le-ltb}
+use borrow.Author.Tests.{ltb-false, le-ltb}
 use lib.Dec.{leb, ltb}
 use Rattle.answer.specs.Refusals.{wrongPartNumber}
 use Rattle.answer.specs.declared.Verdict.the-variants.{Accepted}
@@ -19,17 +19,14 @@ use Rattle.codec.specs.Reads.{Read, found, then}
 use Rattle.codec.specs.FieldReads.{Judge, fieldAt, fieldsAt}
 use Rattle.codec.proofs.Found.{then-found, found-then, field-found}
 use Rattle.codec.proofs.Widths.{field-other, fields-other}
-use Rattle.record_numbers.specs.Numbering.{topNumber, misnumbered}
+use Rattle.record_numbers.specs.Numbering.{topNumber}
+use Rattle.record_numbers.proofs.Rules.{either-none}
 use Rattle.record_parts.specs.declared.PartList.{PartList}
 use Rattle.record_parts.specs.PartLists.{listOf}
 use Rattle.record_head.specs.Headings.{partsRefusal, markRefusal, lastNumber, partNumberJudge, partsAt}
 use Rattle.record_former.specs.Former.{formerField, formerJudge, formerPartsAt}
 
 -- ---- 23, whatever the top number
-
-either-none : (a b : Bool) → cond a true b ≡ false → (a ≡ false) × (b ≡ false)
-either-none true b e = let z : _≡_ {A = ℕ} 0 1 = cc in absurd (omega arith)
-either-none false b e = (refl, e)
 
 -- a number that rises to the mark and not over one top number does so under another
 retopped : (high other previous mark number : ℕ) → cond (leb number previous) true (cond (ltb mark number) true (ltb high number)) ≡ false → mark ≤ other

@@ -88,7 +88,7 @@ formerChangeRefusal addPart d =
 formerChangeRefusal (takeOut position) d = changeRefusal (takeOut position) d
 formerChangeRefusal (addSet set) d = changeRefusal (addSet set) d
 
--- a part more: position n+1, part number mark+1, in no set; the other changes know no part number
+-- a part more: position n+1, part number mark+1, in no set; the other changes ask for no top number
 abbrev pub formerChanged : Change → Design → Design
 formerChanged addPart d = design (withPart (d .parts) .list) (d .sets)
 formerChanged (takeOut position) d = changed (takeOut position) d

@@ -13,7 +13,7 @@ use Rattle.answer.proofs.Checks.{parts-passed, parts-right}
 use Rattle.record_numbers.specs.Numbering.{topNumber, RisingWithin, Rules, misnumbered, numbersRefusal, partListRefusal}
 
 -- neither of two tests
-either-none : (a b : Bool) → cond a true b ≡ false → (a ≡ false) × (b ≡ false)
+pub either-none : (a b : Bool) → cond a true b ≡ false → (a ≡ false) × (b ≡ false)
 either-none true b e = let z : _≡_ {A = ℕ} 0 1 = cc in absurd (omega arith)
 either-none false b e = (refl, e)
 

@@ -1,21 +1,19 @@
--- A record that was opened for a change: a refused one refuses the change, and an accepted one has a design, whose sets stand in front of the
--- array. What the design refuses the change for is then the answer, and else the changed design is written.
+-- A record that was opened for a change: a refused one refuses the change. What the design of an accepted one refuses the change for is the
+-- answer, and else the changed design is written.
 -- Assumes nothing.
 use mathlib.Core.Path.{_≡_, refl, sym, ap, ap₂, _∙_, subst}
-use mathlib.Core.List.{List, []}
+use mathlib.Core.List.{List}
 use Prim.Native.Nat.{ℕ, _≤_}
 use native.Mathlib.Omega.{arith}
 use borrow.Author.Tests.{ne-eqb, le-ltb}
-use lib.ListN.{length, take, drop, length-replicate}
-use lib.Seq.{take-append-seam}
+use lib.ListN.{length}
 use Rattle.answer.specs.Refusals.{inEverySet}
 use Rattle.answer.specs.Outcome.{at, outcome, andThen, delivered}
 use Rattle.answer.specs.declared.Refusal.{Refusal}
 use Rattle.answer.specs.declared.Verdict.{Verdict}
 use Rattle.answer.specs.declared.Verdict.the-variants.{Accepted, Refused}
 use Rattle.answer.specs.declared.Written.the-variants as written
-use Rattle.answer.proofs.Outcomes.{refuse-passed, refuse-held, InFront, in-front-length}
-use Rattle.codec.specs.Bytes.{Bytes}
+use Rattle.answer.proofs.Outcomes.{refuse-passed, refuse-held}
 use Rattle.record_parts.specs.declared.PartList.{PartList}
 use Rattle.record_parts.specs.declared.Changed.{Changed}
 use Rattle.record_parts.specs.declared.Numbered.the-variants as numbered
@@ -23,87 +21,26 @@ use Rattle.record_parts.specs.Changes.{addRefusal, partAdded, takenOut, withPar
 use Rattle.record_parts.specs.Changes as parts
 use Rattle.record_parts.proofs.OneChange.{added-whole, taken-out-whole, take-out-accepted}
 use Rattle.masks.specs.Groups.{meets}
-use Rattle.codec.specs.Reads.{Read, found, refused}
+use Rattle.codec.specs.Reads.{Read}
 use Rattle.record.specs.Records.{Design, design, wholeRecord}
 use Rattle.record.specs.RecordBytes.{recordBytes, DesignRules}
-use Rattle.record.proofs.RoundTrip.{whole-written}
 use Rattle.record.proofs.MinimalSets.{design-list}
 use Rattle.record_lines.specs.Changes.{Change, addPart, takeOut, addSet, every, setsWithout, withoutRefusal, changeRefusal, changed}
 use Rattle.record_lines.specs.Records.{changedRead, changedRecord}
 use Rattle.record_lines.proofs.TakenOut.{without-none, without-some}
 use Rattle.record_lines.proofs.Rules.{changed-rules, take-out-agrees}
-use Rattle.record_changes.specs.declared.Opened.{Opened}
-use Rattle.record_changes.specs.Inside.{openedOf}
+use Rattle.record_opening.specs.declared.Opened.{Opened}
+use Rattle.record_opening.specs.Opening.{openedOf}
+use Rattle.record_opening.proofs.Designs.{DesignOpened, opened-why}
 use Rattle.record_sets.specs.Lists.{withSetRefusal}
-use Rattle.record_changes.proofs.Loading.{room}
-
--- a result in front of an array is what its first cells hold
-front-taken : {buffer result now : List ℕ} {next : ℕ} → InFront buffer result now next → take next now ≡ result
-front-taken {buffer} {result} front =
-    ap₂ (λ (k : ℕ) (l : List ℕ). take k l) (front .ends) (front .stands) ∙ take-append-seam result (drop (length result) buffer)
-
--- what was opened of an accepted record
-pub record DesignOpened (bytes : List ℕ) (o : Opened) : Type 0 where
-  pub d : Design
-  pub next : ℕ
-  pub read : wholeRecord bytes ≡ found d next
-  pub rules : DesignRules d
-  pub list : o .list ≡ d .parts
-  pub front : InFront room (d .sets) (o .sets) (o .count)
 
 module _ (bytes : List ℕ) (o : Opened) (e : o ≡ openedOf (wholeRecord bytes)) where
-  pub opened-design : Bytes bytes → o .verdict ≡ Accepted → DesignOpened bytes o
-  opened-design bounded v = cases (wholeRecord bytes) refl
-    where
-      cases : (r : Read Design) → wholeRecord bytes ≡ r → DesignOpened bytes o
-      cases (refused why) h =
-          let same : Refused why ≡ Accepted = sym (ap (λ (x : Opened). x .verdict) (e ∙ ap openedOf h)) ∙ v in
-          let z : _≡_ {A = ℕ} 0 1 = cc in
-          absurd (omega arith)
-      cases (found d next) h =
-          let same : o ≡ openedOf (found d next) = e ∙ ap openedOf h in
-          record {
-            d = d;
-            next = next;
-            read = h;
-            rules = whole-written bytes d next bounded h .0;
-            list = ap (λ (x : Opened). x .list) same;
-            front = record { ends = ap (λ (x : Opened). x .count) same; stands = ap (λ (x : Opened). x .sets) same };
-          }
-
   -- a record that is refused refuses every change
   pub opened-refused : (why : Refusal) → o .verdict ≡ Refused why → (change : Change) (buffer : List ℕ) → outcome (written.Refused why) buffer ≡ changedRecord change bytes buffer
   unfolding changedRecord
-  opened-refused why v change buffer = cases (wholeRecord bytes) refl
-    where
-      cases : (r : Read Design) → wholeRecord bytes ≡ r → outcome (written.Refused why) buffer ≡ changedRead change r buffer
-      cases (refused r) h =
-          let same : Refused r ≡ Refused why = sym (ap (λ (x : Opened). x .verdict) (e ∙ ap openedOf h)) ∙ v in
-          ap (λ (x : Verdict). delivered x [] buffer) (sym same)
-      cases (found d next) h =
-          let same : Accepted ≡ Refused why = sym (ap (λ (x : Opened). x .verdict) (e ∙ ap openedOf h)) ∙ v in
-          let z : _≡_ {A = ℕ} 0 1 = cc in
-          absurd (omega arith)
-
--- ---- the sets in the array
+  opened-refused why v change buffer = ap (λ (r : Read Design). changedRead change r buffer) (sym (opened-why bytes o e why v))
 
 module _ {bytes : List ℕ} {o : Opened} (w : DesignOpened bytes o) where
-  pub sets-front : take (o .count) (o .sets) ≡ w .d .sets
-  sets-front = front-taken (w .front)
-
-  pub sets-counted : o .count ≡ length (w .d .sets)
-  sets-counted = w .front .ends
-
-  pub sets-few : o .count ≤ 12870
-  sets-few = omega (arith, sets-counted, w .rules .sets .most)
-
-  pub sets-room : length (o .sets) ≡ 12870
-  sets-room =
-      in-front-length room (w .d .sets) (o .sets) (o .count) (w .front) (omega (arith, w .rules .sets .most, length-replicate {A = ℕ} 12870 0))
-      ∙ length-replicate {A = ℕ} 12870 0
-
-  -- ---- the answer
-
   -- what refuses a change of the design is the answer
   pub change-refused : (change : Change) (why : Refusal) → changeRefusal change (w .d) ≡ Refused why → (buffer : List ℕ)
       → outcome (written.Refused why) buffer ≡ changedRecord change bytes buffer

@@ -1,4 +1,3 @@
 mod FirstNumbers
-pub mod Loading
 pub mod Answers
 pub mod Writing

@@ -2,13 +2,10 @@
 // reader checks it, then the change, then the new record is written.
 use answer::Verdict;
 use answer::Written;
-use record::Cursor;
-use record::Step;
 use record_parts::Numbered;
 use record_parts::PartList;
 ghost use mathlib.Core.Path.{_≡_};
-ghost use Prim.Native.Nat.{ℕ, _+_, _≤_, _<_};
-ghost use mathlib.Core.List.{List·Memᴰ};
+ghost use Prim.Native.Nat.{_+_, _≤_};
 ghost use lib.ListN.{length};
 ghost use Rattle.answer.specs.Outcome.{outcome, delivered};
 ghost use Rattle.answer.specs.Placed.{placed};
@@ -16,27 +13,16 @@ ghost use Rattle.theory_orders.specs.Antichains.{mostSets};
 ghost use Rattle.record_numbers.specs.Numbering.{mostParts};
 ghost use Rattle.record_parts.specs.PartLists.{listOf};
 ghost use Rattle.codec.specs.ByteForm.{formsOf};
-ghost use Rattle.record.specs.Records.{design, wholeRecord};
-ghost use Rattle.record.specs.Contents.{stepAt, metIn};
+ghost use Rattle.record.specs.Records.{design};
 ghost use Rattle.record.specs.RecordBytes.{recordBytes, DesignRules};
 ghost use Rattle.record_lines.specs.Changes.{addPart, takeOut, addSet, setsWithout};
 ghost use Rattle.record_lines.specs.Records.{changedRecord, firstRecord};
-ghost use Rattle.record_changes.specs.Inside.{setCells, openedOf};
-
-// What a change works on: the part list of a record, the number of its sets, and these sets in front of an array.
-// Of a refused record: a list of no parts and no sets.
-struct Opened {
-    list: PartList,
-    count: usize,
-    sets: [u16; 12870],
-    verdict: Verdict,
-}
 
 // Add part: position n+1, part number mark+1, in no set.
 pub fn add_part(bytes: &[u8], buffer: &mut [u8]) -> Written
     ensures { λ r. ⌜ outcome r (now (buffer .exit)) ≡ changedRecord addPart (now (bytes .entry)) (now (buffer .entry)) ⌝ }
 {
-    let opened = open_record(bytes);
+    let opened = record_opening::open_record(bytes);
     let verdict = opened.verdict;
     if let Verdict::Refused(refusal) = verdict {
         return Written::Refused(refusal);
@@ -57,7 +43,7 @@ pub fn add_part(bytes: &[u8], buffer: &mut [u8]) -> Written
 pub fn take_out(bytes: &[u8], position: usize, buffer: &mut [u8]) -> Written
     ensures { λ r. ⌜ outcome r (now (buffer .exit)) ≡ changedRecord (takeOut position) (now (bytes .entry)) (now (buffer .entry)) ⌝ }
 {
-    let opened = open_record(bytes);
+    let opened = record_opening::open_record(bytes);
     let verdict = opened.verdict;
     if let Verdict::Refused(refusal) = verdict {
         return Written::Refused(refusal);
@@ -84,7 +70,7 @@ pub fn take_out(bytes: &[u8], position: usize, buffer: &mut [u8]) -> Written
 pub fn add_set(bytes: &[u8], set: u16, buffer: &mut [u8]) -> Written
     ensures { λ r. ⌜ outcome r (now (buffer .exit)) ≡ changedRecord (addSet set) (now (bytes .entry)) (now (buffer .entry)) ⌝ }
 {
-    let opened = open_record(bytes);
+    let opened = record_opening::open_record(bytes);
     let verdict = opened.verdict;
     if let Verdict::Refused(refusal) = verdict {
         return Written::Refused(refusal);
@@ -114,52 +100,6 @@ pub fn first_record(n: usize, list: &[u16], buffer: &mut [u8]) -> Written
             write_record(n as u64, &numbers[..n], &sets[..count], buffer)
         }
     }
-}
-
-// The record that the bytes are, checked whole, and its sets loaded.
-fn open_record(bytes: &[u8]) -> Opened
-    ensures { λ r. ⌜ r ≡ openedOf (wholeRecord (now (bytes .entry))) ⌝ }
-{
-    let contents = record::whole_record(bytes);
-    let first = Cursor {
-        next: contents.begin,
-        left: contents.sets,
-    };
-    let sets = load_sets(bytes, first);
-    let list = contents.list;
-    let verdict = contents.verdict;
-    Opened {
-        list,
-        count: contents.sets,
-        sets,
-        verdict,
-    }
-}
-
-// The sets that a walk from a cursor meets.
-fn load_sets(bytes: &[u8], first: Cursor) -> [u16; 12870]
-    requires { ⌜ first .left ≤ mostSets ⌝ }
-    requires { ⌜ ((set : ℕ) → List·Memᴰ set (metIn (first .left) (now bytes) (stepAt (now bytes) first)) → set < 65536) ⌝ }
-    ensures { λ r. ⌜ r ≡ setCells (metIn (first .left) (now (bytes .entry)) (stepAt (now (bytes .entry)) first)) ⌝ }
-{
-    let mut sets = [0u16; 12870];
-    let count = first.left;
-    let mut cursor = first;
-    let mut read = 0;
-    while read < count {
-        let step = cursor.step(bytes);
-        let Step::Set {
-            set,
-            cursor: behind,
-        } = step
-        else {
-            return sets;
-        };
-        sets[read] = set as u16;
-        cursor = behind;
-        read += 1;
-    }
-    sets
 }
 
 // The sets that have no part of a group, with higher positions moved down, into a local array, and how many they are.

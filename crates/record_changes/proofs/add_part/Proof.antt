@@ -8,7 +8,8 @@ use Rattle.answer.specs.declared.Verdict.the-variants.{Accepted}
 use Rattle.record_parts.specs.declared.Changed.{Changed}
 use Rattle.record_parts.specs.Changes.{partAdded}
 use Rattle.record_lines.specs.Changes.{addPart, changeRefusal}
-use Rattle.record_changes.proofs.Answers.{DesignOpened, opened-design, opened-refused, sets-front, sets-counted, sets-few, sets-room, change-refused, change-rules, change-made, add-refused, add-made}
+use Rattle.record_opening.proofs.Designs.{DesignOpened, opened-design, sets-front, sets-counted, sets-few, sets-room}
+use Rattle.record_changes.proofs.Answers.{opened-refused, change-refused, change-rules, change-made, add-refused, add-made}
 use borrow.Author.Needs.{needs}
 use Rattle.record_changes.proofs.add_part.Statement.{statement}
 use Rattle.record_changes.proofs.add_part.Tie as tie

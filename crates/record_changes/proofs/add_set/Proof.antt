@@ -18,7 +18,8 @@ use Rattle.record_sets.specs.Lists.{withSetRefusal}
 use Rattle.record_lines.specs.Changes.{addSet, changeRefusal, changed}
 use Rattle.record_lines.proofs.Rules.{changed-rules}
 use Rattle.answer.proofs.Deliveries.{Given, given, refused-by}
-use Rattle.record_changes.proofs.Answers.{DesignOpened, opened-design, opened-refused, sets-front, sets-counted, sets-few, sets-room, change-refused, change-rules, change-made, with-set}
+use Rattle.record_opening.proofs.Designs.{DesignOpened, opened-design, sets-front, sets-counted, sets-few, sets-room}
+use Rattle.record_changes.proofs.Answers.{opened-refused, change-refused, change-rules, change-made, with-set}
 use borrow.Author.Needs.{needs}
 use Rattle.record_changes.proofs.add_set.Statement.{statement}
 use Rattle.record_changes.proofs.add_set.Tie as tie

@@ -19,7 +19,8 @@ use Rattle.record_parts.specs.Changes.{takenOut, single, listWithout}
 use Rattle.record_lines.specs.Changes.{takeOut, setsWithout, changeRefusal}
 use Rattle.record_lines.proofs.TakenOut.{without-fewer}
 use Rattle.answer.proofs.Deliveries.{Given, given}
-use Rattle.record_changes.proofs.Answers.{DesignOpened, opened-design, opened-refused, sets-front, sets-counted, sets-few, sets-room, change-refused, change-rules, change-made, out-refused, out-list, out-left, out-none, out-some}
+use Rattle.record_opening.proofs.Designs.{DesignOpened, opened-design, sets-front, sets-counted, sets-few, sets-room}
+use Rattle.record_changes.proofs.Answers.{opened-refused, change-refused, change-rules, change-made, out-refused, out-list, out-left, out-none, out-some}
 use borrow.Author.Needs.{needs}
 use Rattle.record_changes.proofs.take_out.Statement.{statement}
 use Rattle.record_changes.proofs.take_out.Tie as tie

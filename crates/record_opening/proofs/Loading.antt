@@ -19,7 +19,7 @@ use Rattle.codec.specs.Reads.{Read, found, refused}
 use Rattle.record.specs.Records.{Design, wholeRecord}
 use Rattle.record.specs.Contents.{wholeContents, cursor, stepAt, metIn}
 use Rattle.record.proofs.Whole.{refused-contents, design-read, walk-meets}
-use Rattle.record_changes.specs.Inside.{setCells, openedOf}
+use Rattle.record_opening.specs.Opening.{setCells, openedOf}
 
 -- ---- a walk along the sets
 

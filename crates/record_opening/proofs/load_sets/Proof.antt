@@ -1,13 +1,13 @@
--- `record_changes::load_sets` meets its contract. The loop's invariant: it walks along the sets (`SetWalk`). The measure is the sets left.
+-- `record_opening::load_sets` meets its contract. The loop's invariant: it walks along the sets (`SetWalk`). The measure is the sets left.
 -- Assumes nothing.
 use mathlib.Core.Path.{sym, _∙_}
 use Prim.Native.Nat.{_-_, _<_}
 use native.Mathlib.Omega.{arith}
 use denote.Ref.{now}
 use borrow.Author.Needs.{needs}
-use Rattle.record_changes.proofs.Loading.{SetWalk, set-walk-none, set-walk-end, set-walk-ended, set-walk-member, set-walk-more}
-use Rattle.record_changes.proofs.load_sets.Statement.{statement}
-use Rattle.record_changes.proofs.load_sets.Tie as tie
+use Rattle.record_opening.proofs.Loading.{SetWalk, set-walk-none, set-walk-end, set-walk-ended, set-walk-member, set-walk-more}
+use Rattle.record_opening.proofs.load_sets.Statement.{statement}
+use Rattle.record_opening.proofs.load_sets.Tie as tie
 
 abbrev Inv-loop : tie.InvT-loop
 Inv-loop bytes sets₀ count cursor₀ read₀ sets cursor read = SetWalk bytes count cursor₀ sets cursor read

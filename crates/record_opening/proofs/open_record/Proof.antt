@@ -1,4 +1,4 @@
--- `record_changes::open_record` meets its contract: the walk from the first set meets the sets of the design that was read, and none where the record
+-- `record_opening::open_record` meets its contract: the walk from the first set meets the sets of the design that was read, and none where the record
 -- is refused.
 -- Assumes nothing.
 use mathlib.Core.Path.{ap, _∙_}
@@ -7,10 +7,10 @@ use Prim.Native.Nat.{ℕ}
 use native.Mathlib.Omega.{arith}
 use denote.Ref.{now}
 use Rattle.record.specs.declared.Contents.{Contents}
-use Rattle.record_changes.proofs.Loading.{Loaded, metOf, contents-loaded}
+use Rattle.record_opening.proofs.Loading.{Loaded, metOf, contents-loaded}
 use borrow.Author.Needs.{needs}
-use Rattle.record_changes.proofs.open_record.Statement.{statement}
-use Rattle.record_changes.proofs.open_record.Tie as tie
+use Rattle.record_opening.proofs.open_record.Statement.{statement}
+use Rattle.record_opening.proofs.open_record.Tie as tie
 
 loaded : (c : tie.After-whole-record) → Loaded (now (c .before .before .args .bytes)) (c .whole-record .result) (metOf (now (c .before .before .args .bytes)) (c .whole-record .result))
 loaded c =

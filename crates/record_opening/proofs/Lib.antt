@@ -1,0 +1,2 @@
+mod Loading
+pub mod Designs

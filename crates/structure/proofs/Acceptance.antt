@@ -21,10 +21,10 @@ use Rattle.answer.proofs.Outcomes.{refuse-accepted, refuse-passed}
 use Rattle.theory_orders.specs.Antichains.{mostSets}
 use Rattle.theory_orders.proofs.Sperner.{minimalSets-most}
 use Rattle.theory_sets.specs.Masks.{has, holds, any, least, Rising}
-use Rattle.theory_sets.specs.Structures.{Semicoherent, listed, broken, minimal, minimalSets}
+use Rattle.theory_sets.specs.Structures.{Covers, Semicoherent, listed, broken, minimal, minimalSets}
 use Rattle.theory_sets.specs.Tables.{packed, inTable, tableOf, tableLength}
 use Rattle.numbers.proofs.Bools.{and-left, and-right, and-both, clash}
-use Rattle.theory_sets.proofs.Lists.{Covers, listed-same, listed-semicoherent, minimal-listed, listed-minimal}
+use Rattle.theory_sets.proofs.Lists.{listed-same, listed-semicoherent, minimal-listed, listed-minimal}
 use Rattle.numbers.proofs.Bounds.{below-or-above}
 use Rattle.theory_sets.proofs.Ranges.{any-false, any-none, any-same, those-elim, those-intro}
 use Rattle.theory_sets.proofs.Structures.{upward-by-parts, by-parts-upward, unbroken-by-parts, by-parts-unbroken, minimal-works, minimal-below, semicoherent-same, minimalSets-same}

@@ -8,7 +8,7 @@ use mathlib.Core.Logic.{_⊎_, inl, inr}
 use Prim.Native.Nat.{ℕ, _-_, _^_, _<_}
 use native.Mathlib.Nat.{lt-of-le-of-lt, lt-irrefl, lt-of-lt-of-le}
 use Rattle.theory_sets.specs.Masks.{holds, Rising}
-use Rattle.theory_sets.specs.Structures.{Semicoherent, listed, minimal, minimalSets}
+use Rattle.theory_sets.specs.Structures.{Covers, Semicoherent, listed, minimal, minimalSets}
 use Rattle.numbers.proofs.Bools.{or-cases, or-left, or-right, clash, false-of, same-test}
 use Rattle.theory_sets.proofs.Masks.{holds-refl, holds-trans, holds-le, holds-antisym, full-holds}
 use Rattle.theory_sets.proofs.Ranges.{those-elim, those-intro, those-rising, rising-unique}
@@ -33,17 +33,13 @@ listed-elim (x ∷ xs) a h = cases (or-cases (holds a x) (listed xs a) h) (liste
     cases (inl k) rest = (x, List·Memᴰ·head refl, k)
     cases (inr k) rest = let found = rest k in (found .0, List·Memᴰ·tail (found .1), found .2)
 
--- each set of one list holds one of the other, and the other way round: the lists give the same structure
-module _ (xs ys : List ℕ) where
-  abbrev pub Covers : Type 0
-  Covers = (b : ℕ) → List·Memᴰ b xs → (c : ℕ) × List·Memᴰ c ys × (holds b c ≡ true)
-
 covered : (xs ys : List ℕ) → Covers xs ys → (a : ℕ) → listed xs a ≡ true → listed ys a ≡ true
 covered xs ys cover a h =
     let found = listed-elim xs a h in
     let inner = cover (found .0) (found .1) in
     listed-intro ys a (inner .0) (inner .1) (holds-trans a (found .0) (inner .0) (found .2) (inner .2))
 
+-- each set of one list holds one of the other, and the other way round: the lists give the same structure
 pub listed-same : (xs ys : List ℕ) → Covers xs ys → Covers ys xs → (a : ℕ) → listed xs a ≡ listed ys a
 listed-same xs ys there back a = same-test (listed xs a) (listed ys a) (covered xs ys there a) (covered ys xs back a)
 

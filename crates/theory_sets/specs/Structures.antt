@@ -1,6 +1,6 @@
 -- A structure of n parts as a set function: `works a` says of each mask a below 2^n whether the machine runs on that set (01, "Structures").
 use mathlib.Core.Bool.{Bool, true, false, not, _&&_, _||_}
-use mathlib.Core.List.{List, [], _∷_}
+use mathlib.Core.List.{List, [], _∷_, List·Memᴰ}
 use mathlib.Core.Path.{_≡_}
 use Prim.Native.Nat.{ℕ, _+_, _-_, _^_, _<_}
 use lib.Dec.{eqb}
@@ -16,6 +16,10 @@ pub record Semicoherent (n : ℕ) (works : ℕ → Bool) : Type 0 where
 unfoldable pub listed : List ℕ → ℕ → Bool
 listed [] a = false
 listed (b ∷ bs) a = holds a b || listed bs a
+
+-- each set of a list holds one of another
+abbrev pub Covers : List ℕ → List ℕ → Type 0
+Covers sets others = (b : ℕ) → List·Memᴰ b sets → (c : ℕ) × List·Memᴰ c others × (holds b c ≡ true)
 
 -- a path set from which some single part more leads to a set that is none: what check 10 looks for
 unfoldable pub broken : ℕ → (ℕ → Bool) → ℕ → Bool

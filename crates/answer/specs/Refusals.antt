@@ -1,4 +1,4 @@
--- The refusal numbers of 01, "Where each refusal is found", by name.
+-- The refusal numbers of 01, "Where each refusal is found", and of 02, by name.
 use Prim.Native.Nat.{ℕ}
 
 -- n is not 1 to 16
@@ -104,3 +104,11 @@ bytesLeft = 25
 -- a sheet's kind is not 1 to 4
 abbrev pub wrongKind : ℕ
 wrongKind = 26
+
+-- a line of a drawing's text is of another form
+abbrev pub wrongLine : ℕ
+wrongLine = 27
+
+-- a position stands twice on a line of a drawing's text
+abbrev pub repeatedPosition : ℕ
+repeatedPosition = 28

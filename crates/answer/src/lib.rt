@@ -21,7 +21,7 @@ pub enum Written {
     Refused(Refusal),
 }
 
-// 01's refusal numbers by name; specs/Refusals.antt has the same names with their conditions.
+// The refusal numbers of 01 and 02 by name; specs/Refusals.antt has the same names with their conditions.
 pub const WRONG_PART_COUNT: u8 = 1;
 
 pub const EMPTY_LIST: u8 = 2;
@@ -73,6 +73,10 @@ pub const WRONG_SET: u8 = 24;
 pub const BYTES_LEFT: u8 = 25;
 
 pub const WRONG_KIND: u8 = 26;
+
+pub const WRONG_LINE: u8 = 27;
+
+pub const REPEATED_POSITION: u8 = 28;
 
 // A refusal by its number and place, as a verdict.
 pub fn refused(number: u8, place: usize) -> Verdict

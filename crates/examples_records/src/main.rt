@@ -11,6 +11,7 @@ fn main() {
     numbers();
     part_numbers();
     replayed();
+    drawings();
 }
 
 // Numbers in groups of seven bits, on the edges of the field of counts.
@@ -130,6 +131,59 @@ fn with_sensor(bytes: &[u8], length: usize) {
 
 fn sensor_design(record: &[u8]) {
     design(b"an oxygen sensor added", record);
+}
+
+// Texts of the drawing tool: one that is read, and written again from its record, and refusals with their lines.
+fn drawings() {
+    say(b"drawings\n");
+    drawing(
+        b"the bridge",
+        b"parts 5\nset 4 1\nset 2 3 4\nset 5 2\nset 1 3 5\n",
+    );
+    drawing(b"parts 17, set x", b"parts 17\nset x\n");
+    drawing(b"parts 5, set 9 x", b"parts 5\nset 9 x\n");
+    drawing(b"parts 5, set 1 1 9", b"parts 5\nset 1 1 9\n");
+    drawing(b"parts 5, set 1 1", b"parts 5\nset 1 1\n");
+    drawing(b"parts 5, set 00", b"parts 5\nset 00\n");
+    drawing(b"parts 2^64 + 1", b"parts 18446744073709551617\n");
+    drawing(b"parts 5", b"parts 5\n");
+    drawing(b"no line feed behind set 1", b"parts 5\nset 1");
+}
+
+fn drawing(name: &[u8], text: &[u8]) {
+    let mut bytes = [0u8; 40];
+    let read = drawing_reading::record_of_drawing(text, &mut bytes);
+    match read {
+        Written::Refused(refusal) => {
+            say(name);
+            say(b": ");
+            refused(refusal.number, refusal.place);
+            say(b"\n");
+        }
+        Written::Length(length) => drawn(name, &bytes, length),
+    }
+}
+
+fn drawn(name: &[u8], bytes: &[u8], length: usize) {
+    if length <= bytes.len() {
+        written_again(name, &bytes[..length]);
+    }
+}
+
+fn written_again(name: &[u8], record: &[u8]) {
+    design(name, record);
+    let mut text = [0u8; 80];
+    let written = drawing_writing::drawing_of_record(record, &mut text);
+    match written {
+        Written::Refused(refusal) => refused(refusal.number, refusal.place),
+        Written::Length(length) => show_text(&text, length),
+    }
+}
+
+fn show_text(text: &[u8], length: usize) {
+    if length <= text.len() {
+        say(&text[..length]);
+    }
 }
 
 // A design by its part numbers.

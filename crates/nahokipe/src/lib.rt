@@ -22,6 +22,8 @@ ghost use Rattle.vector_conversion.specs.Vectors.{vectorRefusal, converted};
 ghost use Rattle.record.specs.Contents.{wholeContents, contentsAt, cursor, stepAt, recordRefusal, designIn};
 ghost use Rattle.record_lines.specs.Changes.{addPart, takeOut, addSet};
 ghost use Rattle.record_lines.specs.Records.{firstRecord, changedRecord};
+ghost use Rattle.drawing_text.specs.Drawings.{recordOfDrawing};
+ghost use Rattle.drawing_text.specs.Writing.{drawingOfRecord};
 ghost use Rattle.sheet.specs.Sheets.{sheetBytes, sheetOf};
 ghost use Rattle.sheet_entries.specs.Answers.{entriesDelivered};
 ghost use Rattle.report_lines.specs.Lines.{refusedLine};
@@ -314,6 +316,22 @@ pub extern "C" fn nahokipe_add_set(bytes: &[u8], set: u16, buffer: &mut [u8]) ->
     ensures { λ r. ⌜ outcome r (now (buffer .exit)) ≡ retold ofWritten (changedRecord (addSet set) (now (bytes .entry)) (now (buffer .entry))) ⌝ }
 {
     of_written(record_changes::add_set(bytes, set, buffer))
+}
+
+// The record of a drawing's text.
+#[no_mangle]
+pub extern "C" fn nahokipe_record_of_drawing(text: &[u8], buffer: &mut [u8]) -> Answer
+    ensures { λ r. ⌜ outcome r (now (buffer .exit)) ≡ retold ofWritten (recordOfDrawing (now (text .entry)) (now (buffer .entry))) ⌝ }
+{
+    of_written(drawing_reading::record_of_drawing(text, buffer))
+}
+
+// The drawing's text of a record.
+#[no_mangle]
+pub extern "C" fn nahokipe_drawing_of_record(bytes: &[u8], buffer: &mut [u8]) -> Answer
+    ensures { λ r. ⌜ outcome r (now (buffer .exit)) ≡ retold ofWritten (drawingOfRecord (now (bytes .entry)) (now (buffer .entry))) ⌝ }
+{
+    of_written(drawing_writing::drawing_of_record(bytes, buffer))
 }
 
 // The report of a record, and the record's table.

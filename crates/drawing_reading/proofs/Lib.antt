@@ -1,0 +1,8 @@
+mod Numerals
+mod Keywords
+mod Positions
+mod Shown
+mod LineReads
+mod SetLines
+mod Texts
+mod Records

@@ -1,0 +1,176 @@
+-- There and back: the text of an accepted record is read as a record with the same sets, part numbers 1 to n and mark n; writing that gives the
+-- same text; and for records that have those numbers already the bytes come back. What a text says does not depend on the order of its lines
+-- and positions, nor on repeats and nested sets. And whatever is written of a text is accepted again.
+-- Assumes nothing.
+use mathlib.Core.Path.{_≡_, refl, sym, ap, ap₂, _∙_, subst}
+use mathlib.Core.List.{Memᴰ·map, Memᴰ·of-map, List, List·Memᴰ}
+use Prim.Native.Nat.{ℕ, _+_, _≤_}
+use native.Mathlib.Omega.{arith}
+use lib.ListN.{length, take, drop}
+use Rattle.answer.specs.Outcome.{Outcome, outcome, delivered}
+use Rattle.answer.specs.declared.Verdict.{Verdict}
+use Rattle.answer.specs.declared.Verdict.the-variants.{Accepted}
+use Rattle.answer.specs.declared.Written.{Written}
+use Rattle.answer.specs.declared.Written.the-variants as written
+use Rattle.answer.proofs.Deliveries.{given, delivered-whole}
+use Rattle.numbers.specs.Tables.{tabulate}
+use Rattle.numbers.proofs.Tables.{tabulate-length}
+use Rattle.codec.specs.Bytes.{Bytes}
+use Rattle.codec.specs.Reads.{Read, found}
+use Rattle.theory_sets.specs.Structures.{Covers, listed}
+use Rattle.theory_sets.proofs.Masks.{holds-refl}
+use Rattle.theory_sets.proofs.Lists.{listed-same, listed-minimal}
+use Rattle.theory_sets.proofs.Structures.{minimalSets-same}
+use Rattle.record_parts.specs.declared.PartList.{PartList}
+use Rattle.record_parts.specs.PartLists.{listOf}
+use Rattle.record.specs.Records.{Design, design, wholeRecord}
+use Rattle.record.specs.RecordBytes.{recordBytes, DesignRules}
+use Rattle.record.proofs.Lengths.{record-longest}
+use Rattle.record.proofs.RoundTrip.{whole-read, whole-written}
+use Rattle.record_lines.specs.Changes.{firstDesign}
+use Rattle.record_lines.proofs.Rules.{first-rules}
+use Rattle.drawing_text.specs.Lines.{linesOf}
+use Rattle.drawing_text.specs.Forms.{numbersIn}
+use Rattle.drawing_text.specs.Drawings.{setOn, drawingRefusal, drawnParts, drawnSets, recordOfDrawing}
+use Rattle.drawing_text.specs.Writing.{textOf, drawingOf, drawingRead, drawingOfRecord, wrote, textThere, recordBack, renumbered}
+use Rattle.drawing_text.specs.Whole.{Redrawn}
+use Rattle.drawing_text.proofs.Sets.{set-same}
+use Rattle.drawing_text.proofs.Drawings.{drawn-accepted, written-accepted, written-parts, written-sets}
+use Rattle.drawing_text.proofs.Lengths.{drawing-most}
+
+-- ---- a record that is made of a text
+
+-- what is written of a text is accepted again, and read as the first design of what the text says
+pub drawn-read : (text buffer : List ℕ) (k : ℕ) → recordOfDrawing text buffer .answer ≡ written.Length k
+    → (wrote (recordOfDrawing text buffer) k ≡ recordBytes (firstDesign (drawnParts text) (drawnSets text)))
+    × (wholeRecord (wrote (recordOfDrawing text buffer) k) ≡ found (firstDesign (drawnParts text) (drawnSets text)) k)
+unfolding recordOfDrawing
+drawn-read text buffer k e =
+    let first : Design = firstDesign (drawnParts text) (drawnSets text) in
+    let left = delivered (drawingRefusal text) (recordBytes first) buffer .buffer in
+    let g = given (drawingRefusal text) (recordBytes first) buffer left k (ap (λ (w : Written). outcome w left) (sym e)) in
+    let rules = first-rules (drawnParts text) (drawnSets text) (drawn-accepted text (g .accepted)) in
+    (g .front, ap wholeRecord (g .front) ∙ whole-read first rules ∙ ap (found first) (sym (g .counted)))
+
+-- ---- which lengths are always enough
+
+-- 553,419 bytes for the text of an accepted record
+pub text-given : (bytes : List ℕ) → Bytes bytes → (d : Design) (next : ℕ) → wholeRecord bytes ≡ found d next → (buffer : List ℕ) → 553419 ≤ length buffer
+    → drawingOfRecord bytes buffer .answer ≡ written.Length (length (drawingOf d))
+unfolding drawingOfRecord
+text-given bytes bounded d next read buffer long =
+    let rules = whole-written bytes d next bounded read .0 in
+    ap (λ (r : Read Design). drawingRead r buffer .answer) read
+    ∙ sym (ap (λ (o : Outcome Written (List ℕ)). o .answer) (delivered-whole Accepted (drawingOf d) buffer refl (length (drawingOf d)) refl _ refl (omega (arith, long, drawing-most d rules))))
+
+-- 38,732 for the record of an accepted text
+pub record-given : (text : List ℕ) → drawingRefusal text ≡ Accepted → (buffer : List ℕ) → 38732 ≤ length buffer
+    → recordOfDrawing text buffer .answer ≡ written.Length (length (recordBytes (firstDesign (drawnParts text) (drawnSets text))))
+unfolding recordOfDrawing
+record-given text accepted buffer long =
+    let first : Design = firstDesign (drawnParts text) (drawnSets text) in
+    let rules = first-rules (drawnParts text) (drawnSets text) (drawn-accepted text accepted) in
+    sym
+    (ap (λ (o : Outcome Written (List ℕ)). o .answer)
+    (delivered-whole (drawingRefusal text) (recordBytes first) buffer accepted (length (recordBytes first)) refl _ refl (omega (arith, long, record-longest first rules))))
+
+-- ---- the order of lines and positions, repeats and nested sets do not matter
+
+-- two accepted texts of as many parts, of which each set holds one of the other text's, give the same record
+pub same-record : (text other buffer : List ℕ) → drawingRefusal text ≡ Accepted → drawingRefusal other ≡ Accepted → drawnParts text ≡ drawnParts other
+    → Covers (drawnSets text) (drawnSets other) → Covers (drawnSets other) (drawnSets text) → recordOfDrawing text buffer ≡ recordOfDrawing other buffer
+unfolding recordOfDrawing
+same-record text other buffer here there parts forth back =
+    ap₂ (λ (v : Verdict) (d : Design). delivered v (recordBytes d) buffer) (here ∙ sym there)
+    (ap (λ (n : ℕ). firstDesign n (drawnSets text)) parts
+    ∙ ap (design (listOf (drawnParts other) (tabulate (drawnParts other) (λ i. i + 1))))
+    (minimalSets-same (drawnParts other) (listed (drawnSets text)) (listed (drawnSets other)) (λ a small. listed-same (drawnSets text) (drawnSets other) forth back a)))
+
+-- so it is if they have the same sets, in whatever order and however often
+pub same-sets : (text other buffer : List ℕ) → drawingRefusal text ≡ Accepted → drawingRefusal other ≡ Accepted → drawnParts text ≡ drawnParts other
+    → ((set : ℕ) → List·Memᴰ set (drawnSets text) → List·Memᴰ set (drawnSets other)) → ((set : ℕ) → List·Memᴰ set (drawnSets other) → List·Memᴰ set (drawnSets text))
+    → recordOfDrawing text buffer ≡ recordOfDrawing other buffer
+same-sets text other buffer here there parts forth back =
+    same-record text other buffer here there parts (λ set m. (set, forth set m, holds-refl set)) (λ set m. (set, back set m, holds-refl set))
+
+lines-sets : (text other : List ℕ) → Redrawn text other → (set : ℕ) → List·Memᴰ set (drawnSets text) → List·Memᴰ set (drawnSets other)
+lines-sets text other lines set m =
+    let f = Memᴰ·of-map setOn (drop 1 (linesOf text)) m in
+    let same = lines (f .0) (f .1) in
+    subst (λ (a : ℕ). List·Memᴰ a (drawnSets other)) (sym (set-same (numbersIn (f .0)) (numbersIn (same .0)) (same .2)) ∙ f .2)
+    (Memᴰ·map setOn (same .1))
+
+-- and so it is if each set line of one stands in the other too, its positions in whatever order
+pub same-lines : (text other buffer : List ℕ) → drawingRefusal text ≡ Accepted → drawingRefusal other ≡ Accepted → drawnParts text ≡ drawnParts other
+    → Redrawn text other → Redrawn other text → recordOfDrawing text buffer ≡ recordOfDrawing other buffer
+same-lines text other buffer here there parts forth back =
+    same-sets text other buffer here there parts (lines-sets text other forth) (lines-sets other text back)
+
+-- ---- a design, its text, and back
+
+module _ (d : Design) (rules : DesignRules d) where
+  -- the text of a design says the design with its parts numbered again
+  pub read-back : firstDesign (drawnParts (drawingOf d)) (drawnSets (drawingOf d)) ≡ renumbered d
+  read-back =
+      ap₂ firstDesign (written-parts d rules) (written-sets d rules)
+      ∙ ap (design (listOf (d .parts .count) (tabulate (d .parts .count) (λ i. i + 1))))
+      (listed-minimal (d .parts .count) (d .sets) (rules .sets .rising) (λ b m. rules .sets .within b m .0) (rules .sets .apart))
+
+-- a design's parts numbered again are as many, so that its text is the same
+pub same-text : (d : Design) → drawingOf (renumbered d) ≡ drawingOf d
+unfolding drawingOf
+same-text d = ap (λ (n : ℕ). textOf n (d .sets)) (tabulate-length (d .parts .count) (λ i. i + 1))
+
+-- a design whose parts are numbered 1 to n, with mark n, is its own
+pub numbered-already : (d : Design) → d .parts ≡ listOf (d .parts .count) (tabulate (d .parts .count) (λ i. i + 1)) → renumbered d ≡ d
+numbered-already d parts = ap (λ (list : PartList). design list (d .sets)) (sym parts)
+
+-- ---- record bytes, their text, and back
+
+-- what is written of an accepted record is the text of its design
+pub text-written : (bytes : List ℕ) (d : Design) (next : ℕ) → wholeRecord bytes ≡ found d next → (buffer : List ℕ) (k : ℕ) → drawingOfRecord bytes buffer .answer ≡ written.Length k
+    → textThere bytes buffer k ≡ drawingOf d
+unfolding drawingOfRecord
+text-written bytes d next read buffer k e = rw read (front (rw read at e))
+  where
+    front : drawingRead (found d next) buffer .answer ≡ written.Length k → take k (drawingRead (found d next) buffer .buffer) ≡ drawingOf d
+    front e =
+        let left = drawingRead (found d next) buffer .buffer in
+        given Accepted (drawingOf d) buffer left k (ap (λ (w : Written). outcome w left) (sym e)) .front
+
+-- a record that is accepted, its text in one buffer, and the record of that text in another
+module _ (bytes : List ℕ) (bounded : Bytes bytes) (d : Design) (next : ℕ) (read : wholeRecord bytes ≡ found d next) (textBuffer : List ℕ) (textBytes : ℕ) (e : drawingOfRecord bytes textBuffer .answer ≡ written.Length textBytes) where
+  abbrev text : List ℕ
+  text = textThere bytes textBuffer textBytes
+
+  rules : DesignRules d
+  rules = whole-written bytes d next bounded read .0
+
+  said : firstDesign (drawnParts text) (drawnSets text) ≡ renumbered d
+  said = ap (λ (l : List ℕ). firstDesign (drawnParts l) (drawnSets l)) (text-written bytes d next read textBuffer textBytes e) ∙ read-back d rules
+
+  -- the text is read: only a buffer that is too short refuses it, and 38,732 bytes are enough
+  pub text-is-read : (recordBuffer : List ℕ) → 38732 ≤ length recordBuffer
+      → recordOfDrawing (textThere bytes textBuffer textBytes) recordBuffer .answer ≡ written.Length (length (recordBytes (renumbered d)))
+  text-is-read recordBuffer long =
+      record-given text (ap drawingRefusal (text-written bytes d next read textBuffer textBytes e) ∙ written-accepted d rules) recordBuffer long
+      ∙ ap (λ (x : Design). written.Length (length (recordBytes x))) said
+
+  module _ (recordBuffer : List ℕ) (count : ℕ) (g : recordOfDrawing (textThere bytes textBuffer textBytes) recordBuffer .answer ≡ written.Length count) where
+    -- read back, it is a record with the same sets, part numbers 1 to n and mark n
+    pub text-read-back : (recordBack bytes textBuffer textBytes recordBuffer count ≡ recordBytes (renumbered d))
+        × (wholeRecord (recordBack bytes textBuffer textBytes recordBuffer count) ≡ found (renumbered d) count)
+    text-read-back =
+        let r = drawn-read text recordBuffer count g in
+        (r .0 ∙ ap recordBytes said, r .1 ∙ ap (λ (x : Design). found x count) said)
+
+    -- writing that gives the same text
+    pub text-again : (other : List ℕ) (otherBytes : ℕ) → drawingOfRecord (recordBack bytes textBuffer textBytes recordBuffer count) other .answer ≡ written.Length otherBytes
+        → textThere (recordBack bytes textBuffer textBytes recordBuffer count) other otherBytes ≡ textThere bytes textBuffer textBytes
+    text-again other otherBytes h =
+        text-written (recordBack bytes textBuffer textBytes recordBuffer count) (renumbered d) count (text-read-back .1) other otherBytes h
+        ∙ same-text d ∙ sym (text-written bytes d next read textBuffer textBytes e)
+
+    -- a record that has those numbers already comes back byte for byte
+    pub record-identity : d .parts ≡ listOf (d .parts .count) (tabulate (d .parts .count) (λ i. i + 1)) → recordBack bytes textBuffer textBytes recordBuffer count ≡ bytes
+    record-identity parts = text-read-back .0 ∙ ap recordBytes (numbered-already d parts) ∙ whole-written bytes d next bounded read .1

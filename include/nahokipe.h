@@ -1,5 +1,6 @@
 /*
- * Nahokipe: structures of machines of up to 16 parts, their figures, and the records and sheets that keep them.
+ * Nahokipe: structures of machines of up to 16 parts, their figures, the records and sheets that keep them, and the texts of the drawing
+ * tool.
  *
  * A set of parts is a 16-bit mask: the part at position i, 1 to n, is bit i - 1. A structure says on which sets the machine runs, its
  * path sets. A list gives 1 to 12,870 sets, and a set is a path set exactly if it holds a listed one. A table has a bit for each of the
@@ -62,12 +63,16 @@ extern "C" {
  *   24  a set is not above the one before it, or holds an earlier one; its first byte's position
  *   25  bytes are left behind the last number; the first one's position
  *   26  the kind is not 1 to 4
+ *   27  a line of a drawing's text is of another form; the line's number, from 1. An empty text is 27 at 1
+ *   28  a position stands twice on a line of a drawing's text; the line's number, from 1
  *
- * A record's own n, count and sets are refused with 1 to 5 as well, and then the place is the position of the number's first byte.
+ * A record's own n, count and sets are refused with 1 to 5 as well, and then the place is the position of the number's first byte. A
+ * drawing's text is refused with 1, 2, 3 and 17 as well, and then the place is the line's number, from 1.
  *
  * The first that holds in the order of checks is reported. That order is the one in which the functions below name their refusals, but
- * that 4 and 5 go entry by entry, and that a record's numbers are judged one after the other, each as it is read: 21, 22, and then 1 for
- * n, 23 for a part number, 2 and 3 for the count, 4, 5 and 24 for a set.
+ * that 4 and 5 go entry by entry, that a record's numbers are judged one after the other, each as it is read: 21, 22, and then 1 for
+ * n, 23 for a part number, 2 and 3 for the count, 4, 5 and 24 for a set; and that a text's lines are judged one after the other too: 27, 1
+ * and 2 for the first, 3, 27, 17 and 28 for each of the others.
  */
 typedef struct nahokipe_answer {
     uint8_t number;
@@ -248,6 +253,29 @@ nahokipe_answer nahokipe_take_out(const uint8_t *bytes, size_t bytes_len, size_t
 
 /* One path set more: the minimal sets of the old ones and the new one. Refused: 4, 5, with the place 0. */
 nahokipe_answer nahokipe_add_set(const uint8_t *bytes, size_t bytes_len, uint16_t set, uint8_t *buffer, size_t buffer_len);
+
+/*
+ * Drawings: the text that the drawing tool writes. Line 1 is `parts` and n, as `parts 5`; each line behind it is `set` and the positions of
+ * a set, as `set 1 4`, in any order. One space stands in front of each number, a line feed at the end of each line, the last one too, and
+ * nothing else: no other space, tab, carriage return, byte order mark or empty line. Numbers are decimal without a leading zero, of any
+ * length, and a set line has at least one.
+ *
+ * A text has positions and no part numbers: a record that is read from one is numbered 1 to n anew and starts another line of changes, so
+ * that numbers may be issued again which another record of the same machine has used.
+ */
+
+/*
+ * Writes the record of a text: part numbers 1 to n, mark n, the minimal sets; sets may stand in any order, repeatedly, and hold others. 40,000
+ * bytes are enough. Refused, line by line: line 1 with 27, 1, and 2 if the text ends there; each of the others with 3 if it is line 12,872,
+ * whatever stands there, 27, 17 for any of its positions, 28. Then with 11.
+ */
+nahokipe_answer nahokipe_record_of_drawing(const uint8_t *text, size_t text_len, uint8_t *buffer, size_t buffer_len);
+
+/*
+ * Writes the text of a record: its number of parts, and a line for each minimal set, sets ascending by mask and positions ascending.
+ * 553,419 bytes are enough for every record. Refused: as nahokipe_whole_record, 11.
+ */
+nahokipe_answer nahokipe_drawing_of_record(const uint8_t *bytes, size_t bytes_len, uint8_t *buffer, size_t buffer_len);
 
 /*
  * Writes the report on a record, and the record's table into the first buffer; value is the text's length in bytes, of which 4,096 are

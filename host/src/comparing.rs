@@ -1,5 +1,6 @@
 //! What a call leaves of a lent buffer, compared cell by cell, and what is handed out of a record.
 
+use crate::naive;
 use crate::naive_records::Reading;
 use crate::records::RecordAnswer;
 use crate::Refusal;
@@ -29,6 +30,34 @@ pub fn buffers<T: Copy>(
     let lengths = [0, needed - 1, needed, needed + 1, needed + 9];
     let filled = |length| patterns.map(|cell| vec![cell; length]);
     lengths.into_iter().flat_map(filled).collect()
+}
+
+/// A call that works on bytes and writes into a buffer.
+pub type Call = fn(&[u8], &mut [u8]) -> Result<usize, Refusal>;
+
+/// A call into one buffer: the answer, and every cell afterwards.
+pub fn same_into(call: Call, bytes: &[u8], expected: &Result<Vec<u8>, Refusal>, before: Vec<u8>) {
+    let mut after = before.clone();
+    let answer = call(bytes, &mut after);
+    same((answer, after), naive::delivered(expected, &before), || {
+        let front = String::from_utf8_lossy(&bytes[..bytes.len().min(80)]);
+        format!("{} bytes: {front:?}, {} lent", bytes.len(), before.len())
+    });
+}
+
+/// The same into buffers of every length that matters.
+pub fn same_into_all(call: Call, bytes: &[u8], expected: &Result<Vec<u8>, Refusal>) {
+    for before in buffers(expected, 9, [0xA5, 0x5A]) {
+        same_into(call, bytes, expected, before);
+    }
+}
+
+/// What a call gives with a buffer that is always enough.
+pub fn given(call: Call, bytes: &[u8], enough: usize) -> Result<Vec<u8>, Refusal> {
+    let mut buffer = vec![0xA5; enough];
+    let length = call(bytes, &mut buffer)?;
+    buffer.truncate(length);
+    Ok(buffer)
 }
 
 /// The first cells, for a message.

@@ -12,6 +12,7 @@ pub mod known;
 pub mod making;
 pub mod naive;
 pub mod naive_bytes;
+pub mod naive_drawing;
 pub mod naive_figures;
 pub mod naive_records;
 pub mod naive_report;
@@ -23,13 +24,13 @@ pub mod seeded;
 pub mod vectors;
 
 pub use records::{
-    add_part, add_set, first_record, next_set, record_at, stretch, table_of_record, take_out, walk,
-    whole_record,
+    add_part, add_set, drawing_of_record, first_record, next_set, record_at, record_of_drawing,
+    stretch, table_of_record, take_out, walk, whole_record,
 };
 pub use report::{refused_line, report};
 pub use vectors::{convert, read_sheet, vector_verdict, write_sheet};
 
-/// Why a call was refused: a number of document 01, "Where each refusal is found", and the place that it reports.
+/// Why a call was refused: a number of document 01, "Where each refusal is found", or of document 02, and the place that it reports.
 #[derive(Clone, Copy, Debug, PartialEq, Eq)]
 pub struct Refusal {
     pub number: u8,

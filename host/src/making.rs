@@ -1,4 +1,4 @@
-//! Lists, tables and records for the tests to try.
+//! Lists, tables, records and drawings' texts for the tests to try.
 
 use crate::naive::{self, MOST_SETS};
 use crate::naive_bytes::numbers_bytes;
@@ -120,6 +120,86 @@ pub fn damaged_record(seeded: &mut Seeded, n: usize) -> Vec<u8> {
         }
     }
     numbers_bytes(numbers)
+}
+
+/// A line of a drawing's text: a word, numbers with a space in front of each, and a line feed.
+pub fn drawing_line(word: &str, numbers: impl IntoIterator<Item = usize>) -> String {
+    let numbers = numbers.into_iter().map(|number| format!(" {number}"));
+    format!("{word}{}\n", numbers.collect::<String>())
+}
+
+/// The text of n parts with a line for each set of a list, in its order, and the positions on each line in any order.
+pub fn drawing_of_list(seeded: &mut Seeded, n: usize, list: &[u16]) -> String {
+    let mut text = drawing_line("parts", [n]);
+    for &set in list {
+        let mut positions = positions(set);
+        seeded.shuffle(&mut positions);
+        text += &drawing_line("set", positions);
+    }
+    text
+}
+
+/// The positions of a set, ascending.
+fn positions(set: u16) -> Vec<usize> {
+    (1..=16).filter(|i| set >> (i - 1) & 1 == 1).collect()
+}
+
+/// A drawing's text of n parts that is accepted.
+pub fn random_drawing(seeded: &mut Seeded, n: usize) -> String {
+    let list = random_list(seeded, n);
+    drawing_of_list(seeded, n, &list)
+}
+
+/// A drawing's text of n parts with one of its lines moved, taken away or put in, or with a word of one changed; most are refused.
+pub fn damaged_drawing(seeded: &mut Seeded, n: usize) -> String {
+    let text = random_drawing(seeded, n);
+    let mut lines: Vec<Vec<&str>> = text.lines().map(|line| line.split(' ').collect()).collect();
+    let index = seeded.between(0, lines.len() - 1);
+    let beside = [n + 1, n + 10, n + 256].map(|number| number.to_string());
+    match seeded.between(0, 9) {
+        0 => lines.truncate(index),
+        1 => lines.swap(0, index),
+        2 => drop(lines.remove(index)),
+        3 => lines.insert(index, Vec::new()),
+        _ => damage_line(seeded, &mut lines[index], &beside),
+    }
+    let line = |words: Vec<&str>| words.join(" ") + "\n";
+    lines.into_iter().map(line).collect()
+}
+
+/// Takes a word of a line away, gives it twice, turns the line round, or puts another word in its place: a number that is too large,
+/// or what is no number.
+fn damage_line<'a>(seeded: &mut Seeded, words: &mut Vec<&'a str>, beside: &'a [String; 3]) {
+    let index = seeded.between(0, words.len() - 1);
+    let word = words[index];
+    match seeded.between(0, 5) {
+        0 => drop(words.remove(index)),
+        1 => words.insert(index, word),
+        2 => words.reverse(),
+        3 => words[index] = beside[seeded.between(0, 2)].as_str(),
+        _ => {
+            let long = ["4294967297", "18446744073709551617"];
+            let wrong = ["", "00", "01", "-1", "x", "set", "parts", "1\r", "1\t2"];
+            let right = ["0", "1", "2", "16"];
+            words[index] = seeded.pick(&[&long[..], &wrong, &right].concat());
+        }
+    }
+}
+
+/// All texts of so many bytes that are made of these.
+pub fn texts_of(bytes: &[u8], length: u32) -> impl Iterator<Item = Vec<u8>> + '_ {
+    let choices = bytes.len();
+    let byte = move |text: usize, i| bytes[text / choices.pow(i) % choices];
+    (0..choices.pow(length)).map(move |text| (0..length).map(|i| byte(text, i)).collect())
+}
+
+/// The text of all sets of 8 of 16 parts, ascending: the most sets that a record can have.
+pub fn largest_drawing() -> String {
+    let sets = sets_of_size(16, 8).into_iter();
+    let lines: String = sets
+        .map(|set| drawing_line("set", positions(set)))
+        .collect();
+    drawing_line("parts", [16]) + &lines
 }
 
 /// The table of all sets of 6 or more of 16 parts.

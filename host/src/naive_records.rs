@@ -11,6 +11,9 @@ use std::collections::BTreeSet;
 /// The highest part number that can be issued.
 pub const TOP_NUMBER: u64 = (1 << 48) - 1;
 
+/// So many bytes are enough for every record.
+pub const MOST_RECORD: usize = 40_000;
+
 // ---- reading
 
 /// A record as it stands: its sets are masks by position.

@@ -1,4 +1,4 @@
-//! Design records: read, walked, turned into tables, and changed.
+//! Design records: read, walked, turned into tables, changed, and read from and written as the drawing tool's text.
 
 use crate::{Answer, Refusal};
 
@@ -143,6 +143,27 @@ pub fn add_set(bytes: &[u8], set: u16, buffer: &mut [u8]) -> Result<usize, Refus
     answer.given()
 }
 
+/// The record of a drawing tool's text, with part numbers 1 to n and mark n, into `buffer`: the number of bytes written.
+pub fn record_of_drawing(text: &[u8], buffer: &mut [u8]) -> Result<usize, Refusal> {
+    let answer = unsafe {
+        nahokipe_record_of_drawing(text.as_ptr(), text.len(), buffer.as_mut_ptr(), buffer.len())
+    };
+    answer.given()
+}
+
+/// The drawing tool's text of a record, sets and positions ascending, into `buffer`: the number of bytes written.
+pub fn drawing_of_record(bytes: &[u8], buffer: &mut [u8]) -> Result<usize, Refusal> {
+    let answer = unsafe {
+        nahokipe_drawing_of_record(
+            bytes.as_ptr(),
+            bytes.len(),
+            buffer.as_mut_ptr(),
+            buffer.len(),
+        )
+    };
+    answer.given()
+}
+
 /// The answer about a record as it comes through C. Of a refused one all is 0 beside the number and the place.
 #[repr(C)]
 #[derive(Clone, Copy, Debug, PartialEq, Eq)]
@@ -242,6 +263,20 @@ extern "C" {
         bytes: *const u8,
         bytes_len: usize,
         set: u16,
+        buffer: *mut u8,
+        buffer_len: usize,
+    ) -> Answer;
+
+    fn nahokipe_record_of_drawing(
+        text: *const u8,
+        text_len: usize,
+        buffer: *mut u8,
+        buffer_len: usize,
+    ) -> Answer;
+
+    fn nahokipe_drawing_of_record(
+        bytes: *const u8,
+        bytes_len: usize,
         buffer: *mut u8,
         buffer_len: usize,
     ) -> Answer;

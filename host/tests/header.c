@@ -286,6 +286,42 @@ static void test_part_numbers(void)
     expect_refused_record("whole_record, inside the mark", nahokipe_whole_record(top_mark, 7), 21, 7);
 }
 
+/* A text that is read into a buffer of some length; its own words tell where it is not answered as it should be. */
+static void expect_read(const char *text, uint8_t *buffer, size_t length, unsigned number, size_t value)
+{
+    expect(text, nahokipe_record_of_drawing((const uint8_t *)text, strlen(text), buffer, length), number, value);
+}
+
+/* The bridge's text into its record and back, with the cell behind each result as it was, and refusals that leave all of it so. */
+static void test_drawings(void)
+{
+    static const char drawing[] = "parts 5\nset 1 4\nset 2 3 4\nset 2 5\nset 1 3 5\n";
+    static const uint8_t read[13] = {0x05, 0x05, 0x01, 0x02, 0x03, 0x04, 0x05, 0x04, 0x09, 0x0E, 0x12, 0x15, 0xA5};
+    const size_t length = sizeof drawing - 1;
+    uint8_t buffer[13], text[sizeof drawing];
+
+    memset(buffer, 0xA5, sizeof buffer);
+    memset(text, 0xA5, sizeof text);
+    expect_read(drawing, buffer, 13, 0, 12);
+    expect_bytes("record_of_drawing", buffer, read, sizeof read);
+    memset(buffer, 0xA5, sizeof buffer);
+    expect_read("parts 5\nset 5 3 1\nset 4 3 2\nset 5 2\nset 2 5\nset 4 1\nset 1 2 3 4 5\n", buffer, 12, 0, 12);
+    expect_read(drawing, buffer, 11, 11, 12);
+    expect_read("", buffer, 13, 27, 1);
+    expect_read("parts 18446744073709551617\n", buffer, 13, 1, 1);
+    expect_read("parts 5\n", buffer, 13, 2, 1);
+    expect_read("parts 5\nset 1 4\nset 2  5\n", buffer, 13, 27, 3);
+    expect_read("parts 5\nset 1 4\nset 2 5", buffer, 13, 27, 3);
+    expect_read("parts 5\nset 6\n", buffer, 13, 17, 2);
+    expect_read("parts 5\nset 3 1 3\n", buffer, 13, 28, 2);
+    expect_bytes("record_of_drawing, shuffled and refused", buffer, read, sizeof read);
+    expect("drawing_of_record", nahokipe_drawing_of_record(record, 12, text, sizeof text), 0, length);
+    expect("drawing_of_record, short buffer", nahokipe_drawing_of_record(record, 12, text, length - 1), 11, length);
+    expect("drawing_of_record, cut off", nahokipe_drawing_of_record(record, 11, text, sizeof text), 21, 11);
+    expect_bytes("drawing_of_record", text, drawing, length);
+    expect_bytes("drawing_of_record, behind the text", text + length, read + 12, 1);
+}
+
 static void test_report(void)
 {
     static const char said[] = "parts 5 sets 4 mark 5\n"
@@ -323,6 +359,7 @@ int main(void)
     test_records();
     test_changes();
     test_part_numbers();
+    test_drawings();
     test_report();
     return failures != 0;
 }

@@ -10,13 +10,13 @@
 
 #include "nahokipe.h"
 
-enum { ROOM = 4 << 20, PROMISED = 256 << 10, PAINT = 0xA5, SETS = 12870, BYTES = 40000 };
+enum { ROOM = 4 << 20, PROMISED = 256 << 10, PAINT = 0xA5, SETS = 12870, BYTES = 40000, DRAWN = 553419 };
 
 static uint16_t sets[SETS], found[SETS];
-static uint8_t table[8192], other[8192], record[BYTES], written[BYTES], text[4096], sheet[256];
+static uint8_t table[8192], other[8192], record[BYTES], written[BYTES], text[4096], sheet[256], drawing[DRAWN];
 static int64_t counts[17], first[17], second[17], cells[81];
 static uint64_t parts[16];
-static size_t length, sheet_length;
+static size_t length, sheet_length, drawing_length, read_length;
 static unsigned char *ground;
 
 static void nothing(void) {}
@@ -32,6 +32,8 @@ static void read_sheet(void) { nahokipe_read_sheet(sheet, sheet_length, first, 1
 static void first_record(void) { length = nahokipe_first_record(16, sets, SETS, record, BYTES).value; }
 static void whole_record(void) { nahokipe_whole_record(record, length); }
 static void table_of_record(void) { nahokipe_table_of_record(record, length, other, sizeof other); }
+static void drawing_of_record(void) { drawing_length = nahokipe_drawing_of_record(record, length, drawing, DRAWN).value; }
+static void record_of_drawing(void) { read_length = nahokipe_record_of_drawing(drawing, drawing_length, written, BYTES).value; }
 static void take_out(void) { nahokipe_take_out(record, length, 3, written, BYTES); }
 static void add_set(void) { nahokipe_add_set(record, length, 0x7F, written, BYTES); }
 static void add_part(void) { nahokipe_add_part(written, nahokipe_take_out(record, length, 3, written, BYTES).value, record, BYTES); }
@@ -65,7 +67,8 @@ int main(void) {
         {"table_of_list", table_of_list}, {"table_verdict", table_verdict}, {"minimal_sets", minimal_sets}, {"figures", figures},
         {"shares_by_both_routes", both_routes}, {"reliability", reliability}, {"convert", convert}, {"write_sheet", write_sheet},
         {"read_sheet", read_sheet}, {"first_record", first_record}, {"whole_record", whole_record},
-        {"table_of_record", table_of_record}, {"take_out", take_out}, {"add_set", add_set}, {"report", report}, {"add_part", add_part},
+        {"table_of_record", table_of_record}, {"drawing_of_record", drawing_of_record}, {"record_of_drawing", record_of_drawing},
+        {"take_out", take_out}, {"add_set", add_set}, {"report", report}, {"add_part", add_part},
     };
     const char *largest = "";
     size_t most = 0, count = 0, bare;
@@ -82,6 +85,6 @@ int main(void) {
         if (taken > most) most = taken, largest = calls[count].name;
     }
     printf("stack: the largest call is %s with %zu bytes\n", largest, most);
-    if (length == 0 || sheet_length == 0 || most > PROMISED) return 1;
+    if (length == 0 || sheet_length == 0 || read_length != length || most > PROMISED) return 1;
     return 0;
 }

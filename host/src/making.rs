@@ -102,6 +102,14 @@ pub fn largest_record() -> Vec<u8> {
     })
 }
 
+/// A record with a byte behind it, or a damaged one, by turns: most of them are refused.
+pub fn spoilt_record(seeded: &mut Seeded, n: usize, round: usize) -> Vec<u8> {
+    match round % 3 {
+        0 => [random_record(seeded, n), vec![1]].concat(),
+        _ => damaged_record(seeded, n),
+    }
+}
+
 /// A record of n parts with one of its numbers changed, taken away, given twice or exchanged with the next; most are refused.
 pub fn damaged_record(seeded: &mut Seeded, n: usize) -> Vec<u8> {
     let mut numbers = record_numbers(&random_plain(seeded, n));

@@ -2,8 +2,8 @@
 //! buffers, along lines of changes with refused ones among them.
 
 use nahokipe_host::comparing::{buffers, front, same};
-use nahokipe_host::making::{damaged_record, largest_record, random_plain, random_set};
-use nahokipe_host::making::{random_record, sets_of_size};
+use nahokipe_host::making::{largest_record, random_plain, random_set};
+use nahokipe_host::making::{random_record, sets_of_size, spoilt_record};
 use nahokipe_host::naive::{self, in_table, refused, table_length, MOST_SETS};
 use nahokipe_host::naive_records::{self as by_words, named, record_bytes, Change, Design};
 use nahokipe_host::naive_records::{Plain, TOP_NUMBER};
@@ -255,10 +255,7 @@ fn changes_of_damaged_records() {
     let mut seen = BTreeSet::new();
     for n in 1..=16 {
         for round in 0..60 {
-            let bytes = match round % 3 {
-                0 => [random_record(&mut seeded, n), vec![1]].concat(),
-                _ => damaged_record(&mut seeded, n),
-            };
+            let bytes = spoilt_record(&mut seeded, n, round);
             let wrong = by_words::whole_record(&bytes).err();
             seen.extend(wrong.map(|refusal| refusal.number));
             let set = seeded.pick(&[0, 1, u16::MAX]);

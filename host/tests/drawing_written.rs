@@ -3,8 +3,10 @@
 
 use nahokipe_host::comparing::{given, same_into, same_into_all};
 use nahokipe_host::known::{READ_DRAWINGS, REFUSED_RECORDS};
-use nahokipe_host::making::{damaged_record, drawing_of_list, largest_drawing, largest_record};
-use nahokipe_host::making::{minimal_of_list, random_list, random_record, sets_of_size};
+use nahokipe_host::making::{drawing_of_list, largest_drawing, largest_record};
+use nahokipe_host::making::{
+    minimal_of_list, random_list, random_record, sets_of_size, spoilt_record,
+};
 use nahokipe_host::naive::refused;
 use nahokipe_host::naive_drawing::{self as by_words, MOST_TEXT};
 use nahokipe_host::naive_records::{record_bytes, whole_record, Plain, MOST_RECORD};
@@ -106,10 +108,7 @@ fn no_texts_of_refused_records() {
     let mut seen = BTreeSet::new();
     for n in 1..=16 {
         for round in 0..60 {
-            let bytes = match round % 3 {
-                0 => [random_record(&mut seeded, n), vec![1]].concat(),
-                _ => damaged_record(&mut seeded, n),
-            };
+            let bytes = spoilt_record(&mut seeded, n, round);
             let refusal = compare(&bytes).err();
             seen.extend(refusal.map(|refusal| refusal.number));
         }

@@ -1,7 +1,7 @@
 -- The positions of a line as they are gathered: whether all are positions of the machine, whether one stands twice, and which set they are.
 -- Assumes nothing.
 use mathlib.Core.Path.{_≡_, refl, sym, ap, ap₂, _∙_, subst}
-use mathlib.Core.Bool.{Bool, true, false, not, _&&_, _||_}
+use mathlib.Core.Bool.{Bool, true, false, not, _&&_, _||_, and-true, and-false, and-assoc, or-assoc, or-comm}
 use mathlib.Core.List.{List, [], _∷_, _++_}
 use mathlib.Core.Logic.{_⊎_, inl, inr}
 use Prim.Native.Nat.{ℕ, suc, _+_, _-_, _%_, _^_, _≤_, _<_}
@@ -17,6 +17,7 @@ use Rattle.theory_sets.specs.Masks.{has}
 use Rattle.theory_sets.proofs.Masks.{has-add, add-below}
 use Rattle.theory_sets.proofs.Tables.{packed-unique}
 use Rattle.theory_sums.specs.Sums.{some}
+use Rattle.theory_orders.proofs.Orders.{eqb-comm}
 use Rattle.record_lines.specs.Changes.{every}
 use Rattle.record_lines.specs.Names.{names}
 use Rattle.drawing_text.specs.Sets.{setOf, within, repeated}
@@ -66,34 +67,15 @@ with-held n few g number = cases (below-or-above number 100)
 -- ---- one position more in a list of them
 
 every-more : (n : ℕ) (positions : List ℕ) (position : ℕ) → every (within n) (positions ++ (position ∷ [])) ≡ every (within n) positions && within n position
-every-more n [] position = refl-and (within n position)
-  where
-    refl-and : (t : Bool) → t && true ≡ true && t
-    refl-and true = refl
-    refl-and false = refl
+every-more n [] position = and-true (within n position)
 every-more n (p ∷ positions) position =
-    ap (λ (t : Bool). within n p && t) (every-more n positions position) ∙ assoc (within n p) (every (within n) positions) (within n position)
-  where
-    assoc : (a b c : Bool) → a && (b && c) ≡ (a && b) && c
-    assoc true b c = refl
-    assoc false b c = refl
+    ap (λ (t : Bool). within n p && t) (every-more n positions position) ∙ sym (and-assoc (within n p) (every (within n) positions) (within n position))
 
-pub names-more : (number : ℕ) (positions : List ℕ) (position : ℕ) → names number (positions ++ (position ∷ [])) ≡ names number positions || eqb number position
+names-more : (number : ℕ) (positions : List ℕ) (position : ℕ) → names number (positions ++ (position ∷ [])) ≡ names number positions || eqb number position
 unfolding some
 names-more number [] position = or-false (eqb number position)
 names-more number (p ∷ positions) position =
-    ap (λ (t : Bool). eqb number p || t) (names-more number positions position) ∙ assoc (eqb number p) (names number positions) (eqb number position)
-  where
-    assoc : (a b c : Bool) → a || (b || c) ≡ (a || b) || c
-    assoc true b c = refl
-    assoc false b c = refl
-
-eqb-swap : (a b : ℕ) → eqb a b ≡ eqb b a
-eqb-swap a b = cases (eqb b a) refl
-  where
-    cases : (t : Bool) → eqb b a ≡ t → eqb a b ≡ t
-    cases true h = eq-eqb a b (sym (eqb-true b a h))
-    cases false h = ne-eqb a b (λ e. clash {p = eqb b a} (eq-eqb b a (sym e)) h)
+    ap (λ (t : Bool). eqb number p || t) (names-more number positions position) ∙ sym (or-assoc (eqb number p) (names number positions) (eqb number position))
 
 repeated-more : (positions : List ℕ) (position : ℕ) → repeated (positions ++ (position ∷ [])) ≡ repeated positions || names position positions
 unfolding some
@@ -101,7 +83,7 @@ repeated-more [] position = refl
 repeated-more (p ∷ positions) position =
     ap₂ (λ (s t : Bool). s || t) (names-more p positions position) (repeated-more positions position)
     ∙ regroup (names p positions) (eqb p position) (repeated positions) (names position positions)
-    ∙ ap (λ (t : Bool). (names p positions || repeated positions) || (t || names position positions)) (eqb-swap p position)
+    ∙ ap (λ (t : Bool). (names p positions || repeated positions) || (t || names position positions)) (eqb-comm p position)
   where
     regroup : (a b c d : Bool) → (a || b) || (c || d) ≡ (a || c) || (b || d)
     regroup true b c d = refl
@@ -123,14 +105,6 @@ gathers-none n = record { unknown = refl; repeats = λ h. refl; parts = none; be
   where
     none : false ≡ false → (i : ℕ) → has 0 i ≡ names (suc i) []
     none h i = ap (λ (q : ℕ). eqb (q % 2) 1) (zero-div (2 ^ i))
-
-and-false : (a : Bool) → a && false ≡ false
-and-false true = refl
-and-false false = refl
-
-and-true : (a : Bool) → a && true ≡ a
-and-true true = refl
-and-true false = refl
 
 -- a position of a bit, and the bit of a position
 eqb-position : (i position : ℕ) → 1 ≤ position → eqb (suc i) position ≡ eqb i (position - 1)
@@ -191,15 +165,9 @@ module _ {n : ℕ} {positions : List ℕ} {g : Gathered} (w : Gathers n position
           unknown = known;
           repeats = λ e.
               w .repeats e ∙ sym (repeated-more positions position ∙ ap (λ (t : Bool). repeated positions || t) (sym (stood e) ∙ k) ∙ or-false (repeated positions));
-          parts = λ e i. has-add (g .set) (position - 1) k i ∙ or-swap (eqb i (position - 1)) (has (g .set) i) ∙ sym (more-parts e i);
+          parts = λ e i. has-add (g .set) (position - 1) k i ∙ or-comm (eqb i (position - 1)) (has (g .set) i) ∙ sym (more-parts e i);
           below = add-below n (g .set) (position - 1) (w .below) (let inside : position - 1 < n = omega (arith, within-bounds n position h) in inside) k;
         }
-      where
-        or-swap : (a b : Bool) → a || b ≡ b || a
-        or-swap true true = refl
-        or-swap true false = refl
-        or-swap false true = refl
-        or-swap false false = refl
 
   pub gathers-more : Gathers n (positions ++ (position ∷ [])) (withPosition n g position)
   gathers-more = inside (within n position) refl

@@ -3,13 +3,13 @@
 -- Assumes nothing.
 use mathlib.Core.Path.{_≡_, refl, sym, ap, ap₂, _∙_, subst}
 use mathlib.Core.Bool.{Bool, true, false}
-use mathlib.Core.List.{List, [], _∷_, _++_}
+use mathlib.Core.List.{List, [], _∷_, _++_, append-cancel-left}
 use mathlib.Core.Logic.{_⊎_, inl, inr}
-use Prim.Native.Nat.{ℕ, zero, suc, _+_, _≤_, _<_}
+use Prim.Native.Nat.{ℕ, _+_, _≤_, _<_}
 use native.Mathlib.Nat.{add-zero}
 use native.Mathlib.Numerals.{add-one}
 use native.Mathlib.Omega.{arith}
-use lib.ListN.{length, getD, take, drop, length-append, length-take, length-drop, List·getD-eq-default}
+use lib.ListN.{length, getD, take, drop, length-append, length-take, length-drop, List·getD-eq-default, take-append-drop}
 use lib.Seq.{drop-cons, drop-drop, drop-append-seam, take-append-seam, getD-drop}
 use Rattle.numbers.proofs.Bools.{clash}
 use Rattle.numbers.proofs.Bounds.{below-or-above}
@@ -136,21 +136,12 @@ pub record Shown (word text : List ℕ) (start next : ℕ) (numbers : List ℕ) 
   pub behind : 1 ≤ length numbers → NoDigit (drop next text)
   pub ends : next ≡ start + (length word + length (spaced numbers))
 
-take-drop : (k : ℕ) (l : List ℕ) → l ≡ take k l ++ drop k l
-take-drop zero l = refl
-take-drop (suc k) [] = refl
-take-drop (suc k) (x ∷ l) = ap (λ (m : List ℕ). x ∷ m) (take-drop k l)
-
-cancel : (word a b : List ℕ) → word ++ a ≡ word ++ b → a ≡ b
-cancel [] a b e = e
-cancel (x ∷ word) a b e = cancel word a b (let tail : word ++ a ≡ word ++ b = cc in tail)
-
 module _ (word text : List ℕ) (start : ℕ) where
   pub shown-none : sameBytes (take (length word) (drop start text)) word ≡ true → Shown word text start (start + length word) []
   unfolding spaced
   shown-none h =
       record {
-        stands = take-drop (length word) (drop start text)
+        stands = sym (take-append-drop (length word) (drop start text))
             ∙ ap₂ (λ (a b : List ℕ). a ++ b) (same-bytes (take (length word) (drop start text)) word h) (drop-drop (length word) start text);
         behind = λ none. absurd (omega arith);
         ends = omega arith;
@@ -190,4 +181,4 @@ module _ (word text : List ℕ) (start : ℕ) where
     pub shown-behind : (all more : List ℕ) → drop start text ≡ word ++ (spaced all ++ lineFeed ∷ more) → Behind numbers all (drop next text) more
     shown-behind all more e =
         spaced-behind numbers all (drop next text) more (s .behind)
-        (cancel word (spaced numbers ++ drop next text) (spaced all ++ lineFeed ∷ more) (sym (s .stands) ∙ e))
+        (append-cancel-left word (spaced numbers ++ drop next text) (spaced all ++ lineFeed ∷ more) (sym (s .stands) ∙ e))

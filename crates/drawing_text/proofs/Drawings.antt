@@ -147,7 +147,7 @@ module _ (n : ℕ) (sets : List (List ℕ)) (some : 1 ≤ n) (few : n ≤ 16) (a
   begins : linesOf (first ++ (setLines sets ++ rest)) ≡ first ∷ lines
   begins = parts-line-cut (n ∷ []) (setLines sets ++ rest) ∙ ap (λ (l : List (List ℕ)). first ∷ l) (set-lines-cut sets rest)
 
-  pub right-so-far : drawingRefusal (first ++ (setLines sets ++ rest)) ≡ setLinesRefusal n (2 + length sets) (linesOf rest)
+  right-so-far : drawingRefusal (first ++ (setLines sets ++ rest)) ≡ setLinesRefusal n (2 + length sets) (linesOf rest)
   unfolding drawingRefusal
   right-so-far =
       let on : numberOn first ≡ n = ap (λ (numbers : List ℕ). getD numbers 0 0) (parts-line-numbers n) in

@@ -5,7 +5,7 @@ use mathlib.Core.Path.{_≡_, refl, sym, ap, ap₂, _∙_, subst}
 use mathlib.Core.Bool.{true, false, _&&_}
 use mathlib.Core.List.{List, [], _∷_, _++_, append-assoc, append-nil}
 use mathlib.Core.Logic.{_↔_}
-use Prim.Native.Nat.{ℕ, _+_, _≤_}
+use Prim.Native.Nat.{ℕ, _+_, _≤_, _<_}
 use native.Mathlib.Omega.{arith}
 use borrow.Author.Tests.{eqb-true, eq-eqb, ne-eqb, leb-true, le-leb}
 use lib.Dec.{eqb, leb}
@@ -14,7 +14,7 @@ use Rattle.numbers.proofs.Bools.{and-left, and-right, and-both, clash}
 use Rattle.text.specs.Texts.{decimal}
 use Rattle.drawing_text.specs.Lines.{lineFeed}
 use Rattle.drawing_text.specs.Forms.{space, partsWord, setWord, spaced, lineOf, valueFrom, numbersIn, sameBytes, isPartsLine, isSetLine}
-use Rattle.drawing_text.proofs.Numerals.{Digits, NoDigit, digit-bounds, value-run, decimal-digits, decimal-value, run-same}
+use Rattle.drawing_text.proofs.Numerals.{NoDigit, Without, digits-without, value-run, decimal-digits, decimal-value, run-same}
 
 -- ---- equal bytes
 
@@ -31,12 +31,7 @@ bytes-same (x ∷ a) = and-both (eq-eqb x x refl) (bytes-same a)
 
 -- ---- the numbers of a line that is written
 
--- no byte of these is a space
-abbrev pub NoSpace : List ℕ → Type 0
-NoSpace [] = Unit
-NoSpace (byte ∷ bytes) = (byte ≡ space → ⊥) × NoSpace bytes
-
-numbers-past : (front rest : List ℕ) → NoSpace front → numbersIn (front ++ rest) ≡ numbersIn rest
+numbers-past : (front rest : List ℕ) → Without space front → numbersIn (front ++ rest) ≡ numbersIn rest
 unfolding numbersIn
 numbers-past [] rest h = refl
 numbers-past (byte ∷ front) rest h = rw (ne-eqb byte space (h .0), numbersIn) (numbers-past front rest (h .1))
@@ -44,10 +39,6 @@ numbers-past (byte ∷ front) rest h = rw (ne-eqb byte space (h .0), numbersIn) 
 numbers-space : (bytes : List ℕ) → numbersIn (space ∷ bytes) ≡ valueFrom 0 bytes ∷ numbersIn bytes
 unfolding numbersIn
 numbers-space bytes = refl
-
-digits-no-space : (digits : List ℕ) → Digits digits → NoSpace digits
-digits-no-space [] h = tt
-digits-no-space (byte ∷ digits) h = ((λ e. omega (arith, digit-bounds byte (h .0) .0)), digits-no-space digits (h .1))
 
 -- numbers, each behind a space, and then a line feed: no digit stands in front
 pub spaced-no-digit : (numbers : List ℕ) (rest : List ℕ) → NoDigit (spaced numbers ++ lineFeed ∷ rest)
@@ -64,10 +55,10 @@ numbers-spaced (number ∷ numbers) rest none =
     ∙ numbers-space (decimal number ++ behind)
     ∙ ap₂ (λ (n : ℕ) (l : List ℕ). n ∷ l)
     (value-run 0 (decimal number) behind (decimal-digits number) (spaced-no-digit numbers rest) ∙ decimal-value number)
-    (numbers-past (decimal number) behind (digits-no-space (decimal number) (decimal-digits number)) ∙ numbers-spaced numbers rest none)
+    (numbers-past (decimal number) behind (digits-without space (omega arith) (decimal number) (decimal-digits number)) ∙ numbers-spaced numbers rest none)
 
-module _ (word : List ℕ) (single : NoSpace word) where
-  pub numbers-written : (numbers : List ℕ) → numbersIn (lineOf word numbers) ≡ numbers
+module _ (word : List ℕ) (single : Without space word) where
+  numbers-written : (numbers : List ℕ) → numbersIn (lineOf word numbers) ≡ numbers
   unfolding lineOf numbersIn
   numbers-written numbers = numbers-past word (spaced numbers ++ (lineFeed ∷ [])) single ∙ numbers-spaced numbers [] refl
 
@@ -77,11 +68,19 @@ module _ (word : List ℕ) (single : NoSpace word) where
       let on : numbersIn line ≡ numbers = ap numbersIn e ∙ numbers-written numbers in
       (subst (λ (l : List ℕ). sameBytes line l ≡ true) (e ∙ ap (lineOf word) (sym on)) (bytes-same line), on)
 
-parts-single : NoSpace partsWord
-parts-single = ((λ e. omega (arith, e)), ((λ e. omega (arith, e)), ((λ e. omega (arith, e)), ((λ e. omega (arith, e)), ((λ e. omega (arith, e)), tt)))))
+-- neither keyword has a byte below its letters
+pub parts-word-without : (other : ℕ) → other < 97 → Without other partsWord
+parts-word-without other low =
+    ((λ e. omega (arith, low, e)), ((λ e. omega (arith, low, e)), ((λ e. omega (arith, low, e)), ((λ e. omega (arith, low, e)), ((λ e. omega (arith, low, e)), tt)))))
 
-set-single : NoSpace setWord
-set-single = ((λ e. omega (arith, e)), ((λ e. omega (arith, e)), ((λ e. omega (arith, e)), tt)))
+pub set-word-without : (other : ℕ) → other < 97 → Without other setWord
+set-word-without other low = ((λ e. omega (arith, low, e)), ((λ e. omega (arith, low, e)), ((λ e. omega (arith, low, e)), tt)))
+
+parts-single : Without space partsWord
+parts-single = parts-word-without space (omega arith)
+
+set-single : Without space setWord
+set-single = set-word-without space (omega arith)
 
 -- ---- of which form a line is
 

@@ -6,7 +6,7 @@ use mathlib.Core.Bool.{Bool, true, false, cond, _&&_}
 use mathlib.Core.List.{List, [], _∷_, _++_, append-assoc, append-nil}
 use mathlib.Core.Logic.{⊎-elim}
 use Prim.Native.Nat.{ℕ, zero, suc, _+_, _-_, _*_, _/_, _%_, _^_, _≤_, _<_}
-use native.Mathlib.Nat.{le-refl, le-trans, le-of-eq, add-zero, add-suc, mul-one, mul-zero}
+use native.Mathlib.Nat.{le-refl, add-zero, add-suc, mul-one, mul-zero}
 use native.Mathlib.Numerals.{add-one}
 use native.Mathlib.Omega.{arith}
 use borrow.Author.Tests.{le-leb}
@@ -19,7 +19,7 @@ use Rattle.text.specs.Texts.{decimal}
 use Rattle.text.proofs.Decimals.{decimal-small, decimal-large}
 use Rattle.theory_sets.specs.Masks.{has, size, those}
 use Rattle.theory_sums.specs.Sums.{indicator, sumBelow}
-use Rattle.theory_sums.proofs.Sums.{sumBelow-same, sumBelow-le, sumBelow-ones}
+use Rattle.theory_sums.proofs.Sums.{few-tests, sumBelow-same}
 use Rattle.theory_orders.proofs.Sizes.{size-bits}
 use Rattle.record_numbers.specs.Numbering.{mostParts}
 use Rattle.record.specs.Records.{Design}
@@ -133,14 +133,7 @@ positions-length set (suc k) h =
 
 positions-most : (set : ℕ) → length (spaced (positionsOf set)) ≤ 39
 unfolding positionsOf
-positions-most set = omega (arith, positions-length set mostParts (omega arith), few (has set) mostParts, few (λ i. has set (9 + i)) 7)
-  where
-    one : (p : Bool) → indicator p ≤ 1
-    one true = le-refl 1
-    one false = omega arith
-
-    few : (test : ℕ → Bool) (k : ℕ) → sumBelow (λ i. indicator (test i)) k ≤ k
-    few test k = le-trans (sumBelow-le (λ i. indicator (test i)) (λ i. 1) k (λ i h. one (test i))) (le-of-eq (sumBelow-ones k))
+positions-most set = omega (arith, positions-length set mostParts (omega arith), few-tests (has set) mostParts, few-tests (λ i. has set (9 + i)) 7)
 
 -- ---- a line
 

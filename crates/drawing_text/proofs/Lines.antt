@@ -12,8 +12,8 @@ use Rattle.numbers.proofs.Bools.{false-of}
 use Rattle.text.specs.Texts.{decimal}
 use Rattle.drawing_text.specs.Lines.{lineFeed, begun, linesOf, firstLine}
 use Rattle.drawing_text.specs.Forms.{partsWord, setWord, spaced, lineOf, isPartsLine, isSetLine}
-use Rattle.drawing_text.proofs.Numerals.{Digits, digit-bounds, decimal-digits}
-use Rattle.drawing_text.proofs.Forms.{parts-line-exactly, set-line-exactly}
+use Rattle.drawing_text.proofs.Numerals.{Without, without-append, digits-without, decimal-digits}
+use Rattle.drawing_text.proofs.Forms.{parts-word-without, set-word-without, parts-line-exactly, set-line-exactly}
 
 -- ---- one line
 
@@ -65,34 +65,15 @@ first-line byte (next ∷ bytes) = longer-line byte (next ∷ bytes) (first-line
 
 -- ---- a line that is written
 
--- no byte of these is a line feed
-abbrev NoFeed : List ℕ → Type 0
-NoFeed [] = Unit
-NoFeed (byte ∷ bytes) = (byte ≡ lineFeed → ⊥) × NoFeed bytes
-
-no-feed-append : (front rest : List ℕ) → NoFeed front → NoFeed rest → NoFeed (front ++ rest)
-no-feed-append [] rest f r = r
-no-feed-append (byte ∷ front) rest f r = (f .0, no-feed-append front rest (f .1) r)
-
-digits-no-feed : (digits : List ℕ) → Digits digits → NoFeed digits
-digits-no-feed [] h = tt
-digits-no-feed (byte ∷ digits) h = ((λ e. omega (arith, digit-bounds byte (h .0) .0)), digits-no-feed digits (h .1))
-
-spaced-no-feed : (numbers : List ℕ) → NoFeed (spaced numbers)
+spaced-no-feed : (numbers : List ℕ) → Without lineFeed (spaced numbers)
 unfolding spaced
 spaced-no-feed [] = tt
 spaced-no-feed (number ∷ numbers) =
-    ((λ e. omega (arith, e)), no-feed-append (decimal number) (spaced numbers) (digits-no-feed (decimal number) (decimal-digits number)) (spaced-no-feed numbers))
+    ((λ e. omega (arith, e)), without-append lineFeed (decimal number) (spaced numbers) (digits-without lineFeed (omega arith) (decimal number) (decimal-digits number)) (spaced-no-feed numbers))
 
-lines-cut : (front rest : List ℕ) → NoFeed front → linesOf (front ++ lineFeed ∷ rest) ≡ (front ++ (lineFeed ∷ [])) ∷ linesOf rest
+lines-cut : (front rest : List ℕ) → Without lineFeed front → linesOf (front ++ lineFeed ∷ rest) ≡ (front ++ (lineFeed ∷ [])) ∷ linesOf rest
 lines-cut [] rest h = lines-feed rest
 lines-cut (byte ∷ front) rest h = lines-other byte (front ++ lineFeed ∷ rest) (h .0) ∙ ap (begun byte) (lines-cut front rest (h .1))
-
-parts-no-feed : NoFeed partsWord
-parts-no-feed = ((λ e. omega (arith, e)), ((λ e. omega (arith, e)), ((λ e. omega (arith, e)), ((λ e. omega (arith, e)), ((λ e. omega (arith, e)), tt)))))
-
-set-no-feed : NoFeed setWord
-set-no-feed = ((λ e. omega (arith, e)), ((λ e. omega (arith, e)), ((λ e. omega (arith, e)), tt)))
 
 -- how a line stands in front of other bytes
 pub line-shown : (word numbers rest : List ℕ) → lineOf word numbers ++ rest ≡ word ++ (spaced numbers ++ lineFeed ∷ rest)
@@ -100,19 +81,19 @@ unfolding lineOf
 line-shown word numbers rest =
     append-assoc word (spaced numbers ++ (lineFeed ∷ [])) rest ∙ ap (λ (l : List ℕ). word ++ l) (append-assoc (spaced numbers) (lineFeed ∷ []) rest)
 
-module _ (word : List ℕ) (single : NoFeed word) (numbers rest : List ℕ) where
+module _ (word : List ℕ) (single : Without lineFeed word) (numbers rest : List ℕ) where
   line-cut : linesOf (lineOf word numbers ++ rest) ≡ lineOf word numbers ∷ linesOf rest
   unfolding lineOf
   line-cut =
       ap linesOf (line-shown word numbers rest ∙ sym (append-assoc word (spaced numbers) (lineFeed ∷ rest)))
-      ∙ lines-cut (word ++ spaced numbers) rest (no-feed-append word (spaced numbers) single (spaced-no-feed numbers))
+      ∙ lines-cut (word ++ spaced numbers) rest (without-append lineFeed word (spaced numbers) single (spaced-no-feed numbers))
       ∙ ap (λ (l : List ℕ). l ∷ linesOf rest) (append-assoc word (spaced numbers) (lineFeed ∷ []))
 
 pub parts-line-cut : (numbers rest : List ℕ) → linesOf (lineOf partsWord numbers ++ rest) ≡ lineOf partsWord numbers ∷ linesOf rest
-parts-line-cut numbers rest = line-cut partsWord parts-no-feed numbers rest
+parts-line-cut numbers rest = line-cut partsWord (parts-word-without lineFeed (omega arith)) numbers rest
 
 pub set-line-cut : (numbers rest : List ℕ) → linesOf (lineOf setWord numbers ++ rest) ≡ lineOf setWord numbers ∷ linesOf rest
-set-line-cut numbers rest = line-cut setWord set-no-feed numbers rest
+set-line-cut numbers rest = line-cut setWord (set-word-without lineFeed (omega arith)) numbers rest
 
 -- ---- the first line of some bytes is of a form exactly if a line of that form stands in front of them
 

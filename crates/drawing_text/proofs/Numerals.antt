@@ -84,10 +84,24 @@ run-same (x ∷ a) (y ∷ b) r s da db nr ns e =
     let same = run-same a b r s (da .1) (db .1) nr ns rest in
     (ap₂ (λ (z : ℕ) (l : List ℕ). z ∷ l) first (same .0), same .1)
 
+-- a byte that stands nowhere among others
+abbrev pub Without : ℕ → List ℕ → Type 0
+Without other [] = Unit
+Without other (byte ∷ bytes) = (byte ≡ other → ⊥) × Without other bytes
+
+pub without-append : (other : ℕ) (front rest : List ℕ) → Without other front → Without other rest → Without other (front ++ rest)
+without-append other [] rest f r = r
+without-append other (byte ∷ front) rest f r = (f .0, without-append other front rest (f .1) r)
+
+-- what is below every digit stands nowhere among digits
+pub digits-without : (other : ℕ) → other < 48 → (digits : List ℕ) → Digits digits → Without other digits
+digits-without other low [] h = tt
+digits-without other low (byte ∷ digits) h = ((λ e. omega (arith, low, e, digit-bounds byte (h .0) .0)), digits-without other low digits (h .1))
+
 -- ---- the decimal of a number
 
 -- what holds of every digit, and of a number where it holds of its tenth, holds of every number
-pub by-tenths : (P : ℕ → Type 0) → ((n : ℕ) → n < 10 → P n) → ((n : ℕ) → 10 ≤ n → P (n / 10) → P n) → (n : ℕ) → P n
+by-tenths : (P : ℕ → Type 0) → ((n : ℕ) → n < 10 → P n) → ((n : ℕ) → 10 ≤ n → P (n / 10) → P n) → (n : ℕ) → P n
 by-tenths P one more n = go n n (le-refl n)
   where
     go : (steps n : ℕ) → n ≤ steps → P n
@@ -147,7 +161,7 @@ decimal-begun =
     })
 
 -- digits behind a decimal are the decimal of what they all stand for
-pub decimal-more : (front : ℕ) (digits : List ℕ) → 1 ≤ front → Digits digits → decimal front ++ digits ≡ decimal (valueFrom front digits)
+decimal-more : (front : ℕ) (digits : List ℕ) → 1 ≤ front → Digits digits → decimal front ++ digits ≡ decimal (valueFrom front digits)
 unfolding valueFrom
 decimal-more front [] some h = append-nil (decimal front)
 decimal-more front (byte ∷ digits) some h =

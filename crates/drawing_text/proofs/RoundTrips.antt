@@ -122,7 +122,7 @@ unfolding drawingOf
 same-text d = ap (λ (n : ℕ). textOf n (d .sets)) (tabulate-length (d .parts .count) (λ i. i + 1))
 
 -- a design whose parts are numbered 1 to n, with mark n, is its own
-pub numbered-already : (d : Design) → d .parts ≡ listOf (d .parts .count) (tabulate (d .parts .count) (λ i. i + 1)) → renumbered d ≡ d
+numbered-already : (d : Design) → d .parts ≡ listOf (d .parts .count) (tabulate (d .parts .count) (λ i. i + 1)) → renumbered d ≡ d
 numbered-already d parts = ap (λ (list : PartList). design list (d .sets)) (sym parts)
 
 -- ---- record bytes, their text, and back

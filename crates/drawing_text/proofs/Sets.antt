@@ -35,7 +35,7 @@ within-bounds n position h =
     (leb-true 1 position (and-left (leb 1 position) (leb position n) h), leb-true position n (and-right (leb 1 position) (leb position n) h))
 
 -- bit i is set exactly if position i + 1 is named
-pub set-has : (positions : List ℕ) (i : ℕ) → i < 16 → has (setOf positions) i ≡ names (suc i) positions
+set-has : (positions : List ℕ) (i : ℕ) → i < 16 → has (setOf positions) i ≡ names (suc i) positions
 unfolding setOf
 set-has positions i h = has-packed 16 (λ i. names (suc i) positions) i h
 
@@ -83,7 +83,7 @@ module _ (n : ℕ) (few : n ≤ 16) (positions : List ℕ) (inside : every (with
 
 -- ---- the positions of a set
 
-pub positions-elim : (set position : ℕ) → List·Memᴰ position (positionsOf set) → (1 ≤ position) × (position ≤ 16) × (has set (position - 1) ≡ true)
+positions-elim : (set position : ℕ) → List·Memᴰ position (positionsOf set) → (1 ≤ position) × (position ≤ 16) × (has set (position - 1) ≡ true)
 unfolding positionsOf
 positions-elim set position m =
     let f = those-elim (stands set) 17 position m in (
@@ -92,7 +92,7 @@ positions-elim set position m =
       and-right (leb 1 position) (has set (position - 1)) (f .1),
     )
 
-pub positions-intro : (set position : ℕ) → 1 ≤ position → position ≤ 16 → has set (position - 1) ≡ true → List·Memᴰ position (positionsOf set)
+positions-intro : (set position : ℕ) → 1 ≤ position → position ≤ 16 → has set (position - 1) ≡ true → List·Memᴰ position (positionsOf set)
 unfolding positionsOf
 positions-intro set position low high h = those-intro (stands set) 17 position (omega arith) (and-both (le-leb 1 position low) h)
 

@@ -15,7 +15,7 @@ use borrow.Author.Tests.{eqb-true, eqb-false, eq-eqb, ne-eqb, le-leb, lt-leb, lt
 use Rattle.numbers.specs.Tables.{tabulate, NoneOver}
 use Rattle.numbers.proofs.Tables.{tabulate-unique, tabulate-at, tabulate-length}
 use Rattle.theory_sums.specs.Sums.{indicator, sumBelow}
-use Rattle.theory_sums.proofs.Sums.{sumBelow-same, sumBelow-le, sumBelow-zero, sumBelow-ones, sumBelow-add, sumBelow-append}
+use Rattle.theory_sums.proofs.Sums.{few-tests, sumBelow-same, sumBelow-le, sumBelow-zero, sumBelow-ones, sumBelow-add, sumBelow-append}
 use Rattle.theory_sets.specs.Masks.{has, size, meet}
 use Rattle.theory_sets.specs.Tables.{packed}
 use Rattle.numbers.proofs.Bools.{true-or-false}
@@ -74,13 +74,6 @@ ofSize word k = sumBelow (λ m. indicator (has word m && eqb (size m) k)) 64
 -- how many have size s and an index within the word of fewer than k parts
 unfoldable pub smaller : ℕ → ℕ → ℕ → ℕ → ℕ
 smaller word base k s = sumBelow (λ m. indicator (has word m && eqb (base + size m) s && ltb (size m) k)) 64
-
-indicator-most : (t : Bool) → indicator t ≤ 1
-indicator-most true = le-refl 1
-indicator-most false = omega arith
-
-few-tests : (test : ℕ → Bool) (k : ℕ) → sumBelow (λ m. indicator (test m)) k ≤ k
-few-tests test k = le-trans (sumBelow-le _ (λ m. 1) k (λ m h. indicator-most (test m))) (le-of-eq (sumBelow-ones k))
 
 module _ (word : ℕ) where
   pub ofSize-few : (k : ℕ) → ofSize word k ≤ 64

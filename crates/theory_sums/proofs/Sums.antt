@@ -5,7 +5,7 @@ use mathlib.Core.Bool.{Bool, true, false, _&&_, _||_}
 use mathlib.Core.List.{List, [], _∷_, _++_, map, flatMap, List·Memᴰ, List·Memᴰ·head, List·Memᴰ·tail}
 use mathlib.Core.Logic.{_⊎_, inl, inr}
 use Prim.Native.Nat.{ℕ, zero, suc, _+_, _*_, _^_, _≤_, _<_}
-use native.Mathlib.Nat.{le-trans, le-of-suc-le-suc, eq-or-lt-of-le, add-zero, zero-add, add-suc, add-assoc, mul-zero, mul-add, mul-comm, two-pow-succ, le-refl, le-step, lt-suc-self, add-le-add, add-comm}
+use native.Mathlib.Nat.{le-trans, le-of-eq, le-of-suc-le-suc, eq-or-lt-of-le, add-zero, zero-add, add-suc, add-assoc, mul-zero, mul-add, mul-comm, two-pow-succ, le-refl, le-step, lt-suc-self, add-le-add, add-comm}
 use native.Mathlib.Numerals.{add-one}
 use native.Mathlib.Omega.{arith}
 use lib.Arith.{le-zero}
@@ -101,6 +101,14 @@ pub sumBelow-ones : (k : ℕ) → sumBelow (λ i. 1) k ≡ k
 unfolding sumBelow
 sumBelow-ones zero = refl
 sumBelow-ones (suc k) = ap (λ (u : ℕ). u + 1) (sumBelow-ones k) ∙ add-one k
+
+-- no more numbers below k pass a test than there are
+pub few-tests : (test : ℕ → Bool) (k : ℕ) → sumBelow (λ i. indicator (test i)) k ≤ k
+few-tests test k = le-trans (sumBelow-le (λ i. indicator (test i)) (λ i. 1) k (λ i h. most (test i))) (le-of-eq (sumBelow-ones k))
+  where
+    most : (t : Bool) → indicator t ≤ 1
+    most true = le-refl 1
+    most false = omega arith
 
 pub sumBelow-add : (f g : ℕ → ℕ) (k : ℕ) → sumBelow (λ i. f i + g i) k ≡ sumBelow f k + sumBelow g k
 unfolding sumBelow

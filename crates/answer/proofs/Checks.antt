@@ -5,11 +5,11 @@ use mathlib.Core.Bool.{Bool, true, false, not, _&&_}
 use Prim.Native.Nat.{ℕ, _^_, _≤_, _<_}
 use native.Mathlib.Nat.{pos-of-ne-zero}
 use native.Mathlib.Omega.{arith}
-use borrow.Author.Tests.{le-leb, lt-leb, leb-true, leb-false, eqb-false, ne-eqb}
+use borrow.Author.Tests.{le-leb, lt-leb, leb-true, leb-false, eqb-false, eq-eqb, ne-eqb}
 use lib.Dec.{leb, eqb}
-use Rattle.answer.specs.Refusals.{wrongPartCount, unknownPart, emptySet}
+use Rattle.answer.specs.Refusals.{wrongPartCount, unknownPart, emptySet, emptyGroup, unknownGroupPart}
 use Rattle.answer.specs.Outcome.{at, refuse}
-use Rattle.answer.specs.Checks.{partCountRefusal, maskRefusal}
+use Rattle.answer.specs.Checks.{partCountRefusal, maskRefusal, groupRefusal}
 use Rattle.answer.specs.declared.Verdict.{Verdict}
 use Rattle.answer.specs.declared.Verdict.the-variants.{Accepted, Refused}
 use Rattle.answer.proofs.Outcomes.{refuse-accepted}
@@ -44,3 +44,19 @@ module _ (n place mask : ℕ) (later : Verdict) where
       let known = refuse-accepted (leb (2 ^ n) mask) unknownPart place (refuse (eqb mask 0) emptySet place later) e in
       let some = refuse-accepted (eqb mask 0) emptySet place later (known .1) in
       (leb-false (2 ^ n) mask (known .0), pos-of-ne-zero (eqb-false mask 0 (some .0)), some .1)
+
+module _ (n group : ℕ) (later : Verdict) where
+  pub group-empty : group ≡ 0 → groupRefusal n group later ≡ Refused (at emptyGroup 0)
+  group-empty h = simp (eq-eqb group 0 h)
+
+  pub group-unknown : (group ≡ 0 → ⊥) → 2 ^ n ≤ group → groupRefusal n group later ≡ Refused (at unknownGroupPart 0)
+  group-unknown some h = simp (ne-eqb group 0 some, le-leb (2 ^ n) group h)
+
+  pub group-passed : 0 < group → group < 2 ^ n → groupRefusal n group later ≡ later
+  group-passed some known = simp (ne-eqb group 0 (λ z. omega arith), lt-leb (2 ^ n) group known)
+
+  pub group-right : groupRefusal n group later ≡ Accepted → (0 < group) × (group < 2 ^ n) × (later ≡ Accepted)
+  group-right e =
+      let some = refuse-accepted (eqb group 0) emptyGroup 0 (refuse (leb (2 ^ n) group) unknownGroupPart 0 later) e in
+      let known = refuse-accepted (leb (2 ^ n) group) unknownGroupPart 0 later (some .1) in
+      (pos-of-ne-zero (eqb-false group 0 (some .0)), leb-false (2 ^ n) group (known .0), known .1)

@@ -20,8 +20,10 @@ use Rattle.theory_sets.specs.Structures.{Semicoherent}
 use Rattle.theory_sets.specs.Tables.{inTable}
 use Rattle.theory_orders.specs.Counting.{count}
 use Rattle.answer.proofs.Deliveries.{delivered-whole, given}
-use Rattle.structure.specs.Checks.{tableRefusal, groupRefusal}
-use Rattle.structure.proofs.Acceptance.{accepted-table, group-within}
+use Rattle.answer.specs.Checks.{groupRefusal}
+use Rattle.answer.proofs.Checks.{group-right}
+use Rattle.structure.specs.Checks.{tableRefusal}
+use Rattle.structure.proofs.Acceptance.{accepted-table}
 use Rattle.shares_claim.specs.Polynomials.{shareFrom, inCells, sharesFromCells}
 use Rattle.shares_claim.specs.SetBySet.{sharesBySets}
 use Rattle.shares_claim.specs.Reliability.{reliability, reliabilityCells, sharesByReliability}
@@ -60,8 +62,8 @@ pub record AcceptedGroup (n : ℕ) (table : List ℕ) (group : ℕ) : Type 0 whe
 pub accepted-group : (n : ℕ) (table : List ℕ) (group : ℕ) → sharesRefusal n table group ≡ Accepted → AcceptedGroup n table group
 unfolding sharesRefusal
 accepted-group n table group h =
-    let both = then-accepted (tableRefusal n table) (groupRefusal n group) h in
-    let known = group-within n group (both .1) in
+    let both = then-accepted (tableRefusal n table) (groupRefusal n group Accepted) h in
+    let known = group-right n group Accepted (both .1) in
     record {
       few = accepted-table n table (both .0) .few;
       coherent = accepted-table n table (both .0) .semicoherent;

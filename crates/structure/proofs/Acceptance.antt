@@ -1,4 +1,4 @@
--- Laws of acceptance: what an accepted table, an accepted list and an accepted group are, that acceptance is semicoherence, and the way from lists to tables
+-- Laws of acceptance: what an accepted table and an accepted list are, that acceptance is semicoherence, and the way from lists to tables
 -- to minimal sets and back.
 -- Assumes nothing.
 use mathlib.Core.Path.{_≡_, refl, sym, ap, _∙_, subst, fun-ext}
@@ -15,7 +15,7 @@ use lib.Pow.{ones-lt}
 use lib.Seq.{drop-cons}
 use borrow.Author.Tests.{eqb-true, eqb-false, eq-eqb, ne-eqb, leb-true, leb-false, le-leb, lt-leb, ltb-true, ltb-false, lt-ltb, le-ltb, not-false}
 use Rattle.answer.specs.Outcome.{refuse}
-use Rattle.answer.specs.Refusals.{wrongPartCount, emptyList, longList, unknownPart, emptySet, wrongTableLength, unusedBit, emptySetWorks, fullSetFails, brokenSet, emptyGroup, unknownGroupPart}
+use Rattle.answer.specs.Refusals.{wrongPartCount, emptyList, longList, unknownPart, emptySet, wrongTableLength, unusedBit, emptySetWorks, fullSetFails, brokenSet}
 use Rattle.answer.specs.declared.Verdict.the-variants.{Accepted}
 use Rattle.answer.proofs.Outcomes.{refuse-accepted, refuse-passed}
 use Rattle.theory_orders.specs.Antichains.{mostSets}
@@ -31,7 +31,7 @@ use Rattle.theory_sets.proofs.Structures.{upward-by-parts, by-parts-upward, unb
 use Rattle.theory_sets.proofs.Tables.{packed-unique, inTable-at, inTable-beyond, tableOf-length, tableOf-at, tableOf-works, tableLength-small, tableLength-large}
 use Rattle.numbers.proofs.Tables.{tabulate-unique}
 use Rattle.structure.specs.Accepted.{AcceptedTable}
-use Rattle.structure.specs.Checks.{entriesRefusal, listRefusal, unused, tableRefusal, groupRefusal}
+use Rattle.structure.specs.Checks.{entriesRefusal, listRefusal, unused, tableRefusal}
 
 -- ---- an accepted table
 
@@ -246,13 +246,3 @@ pub list-minimal : (n : ℕ) (list : List ℕ) → listRefusal n list ≡ Accept
 list-minimal n list h rising apart =
     minimalSets-same n (inTable (tableOf n (listed list))) (listed list) (tableOf-works n (listed list))
     ∙ listed-minimal n list rising (λ b m. accepted-list n list h .sets b m .0) apart
-
--- ---- an accepted group
-
--- it has a part, and only parts of the machine
-pub group-within : (n group : ℕ) → groupRefusal n group ≡ Accepted → (0 < group) × (group < 2 ^ n)
-unfolding groupRefusal
-group-within n group accepted =
-    let checked = refuse-accepted (eqb group 0) emptyGroup 0 (refuse (leb (2 ^ n) group) unknownGroupPart 0 Accepted) accepted in
-    let known = refuse-accepted (leb (2 ^ n) group) unknownGroupPart 0 Accepted (checked .1) in
-    (pos-of-ne-zero (eqb-false group 0 (checked .0)), leb-false (2 ^ n) group (known .0))

@@ -1,4 +1,4 @@
--- The first refusal of a list, of a table and of a group of parts (01, "Where each refusal is found"): each check in its order.
+-- The first refusal of a list and of a table (01, "Where each refusal is found"): each check in its order.
 use mathlib.Core.Bool.{Bool, not, _&&_}
 use mathlib.Core.List.{List, [], _∷_}
 use Prim.Native.Nat.{ℕ, suc, _-_, _^_}
@@ -6,7 +6,7 @@ use lib.Dec.{leb, ltb, eqb}
 use lib.ListN.{length}
 use Rattle.answer.specs.Outcome.{refuse}
 use Rattle.answer.specs.Checks.{partCountRefusal, maskRefusal}
-use Rattle.answer.specs.Refusals.{emptyList, longList, wrongTableLength, unusedBit, emptySetWorks, fullSetFails, brokenSet, emptyGroup, unknownGroupPart}
+use Rattle.answer.specs.Refusals.{emptyList, longList, wrongTableLength, unusedBit, emptySetWorks, fullSetFails, brokenSet}
 use Rattle.answer.specs.declared.Verdict.{Verdict}
 use Rattle.answer.specs.declared.Verdict.the-variants.{Accepted}
 use Rattle.theory_orders.specs.Antichains.{mostSets}
@@ -41,7 +41,3 @@ tableRefusal n table =
     partCountRefusal 0 n
     (refuse (not (eqb (length table) (tableLength n))) wrongTableLength 0
     (refuse (unused n table) unusedBit 0 (structureRefusal n (inTable table))))
-
--- 15: the group is empty; 16: it has bit n or above
-unfoldable pub groupRefusal : ℕ → ℕ → Verdict
-groupRefusal n group = refuse (eqb group 0) emptyGroup 0 (refuse (leb (2 ^ n) group) unknownGroupPart 0 Accepted)

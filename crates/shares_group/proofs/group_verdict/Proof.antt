@@ -2,13 +2,15 @@
 -- Assumes nothing.
 use mathlib.Core.Path.{_≡_, sym, _∙_, subst}
 use Prim.Native.Nat.{ℕ, _^_, _≤_, _<_}
+use native.Mathlib.Nat.{pos-of-ne-zero}
 use denote.Ref.{now}
 use borrow.Author.Needs.{needs}
 use Rattle.numbers.proofs.Counts.{upTo16-given}
 use Rattle.answer.specs.declared.Verdict.the-variants.{Accepted}
 use Rattle.structure.specs.Checks.{tableRefusal}
 use Rattle.structure.proofs.Acceptance.{accepted-table}
-use Rattle.shares_group.proofs.Refusals.{table-refused, group-empty, group-unknown, group-accepted}
+use Rattle.answer.proofs.Checks.{group-empty, group-unknown, group-passed}
+use Rattle.shares_group.proofs.Refusals.{table-refused, group-judged}
 use Rattle.shares_group.proofs.group_verdict.Statement.{statement}
 use Rattle.shares_group.proofs.group_verdict.Tie as tie
 
@@ -32,7 +34,7 @@ returns : tie.Need-returns
 returns c =
     let told = c .before .before in
     let a = told .before .before .before .before .args in
-    c .refused .ensures ∙ sym (group-empty (a .n) (now (a .table)) (a .group) (verdict told) (c .before .if1 .taken))
+    c .refused .ensures ∙ sym (group-judged (a .n) (now (a .table)) (a .group) (verdict told) ∙ group-empty (a .n) (a .group) Accepted (c .before .if1 .taken))
 
 power-of-two-requires : tie.Need-power-of-two-requires
 power-of-two-requires c κs = search needs
@@ -53,7 +55,8 @@ returns-2 c =
     let told = some .before in
     let a = told .before .before .before .before .args in
     c .refused2 .ensures
-    ∙ sym (group-unknown (a .n) (now (a .table)) (a .group) (verdict told) (some .if1 .left)
+    ∙ sym (group-judged (a .n) (now (a .table)) (a .group) (verdict told)
+    ∙ group-unknown (a .n) (a .group) Accepted (some .if1 .left)
     (subst (λ (x : ℕ). x ≤ a .group) (powered-is powered) (c .before .if2 .taken)))
 
 returns-3 : tie.Need-returns-3
@@ -67,7 +70,8 @@ returns-4 c =
     let some = powered .before in
     let told = some .before in
     let a = told .before .before .before .before .args in
-    sym (group-accepted (a .n) (now (a .table)) (a .group) (verdict told) (some .if1 .left)
+    sym (group-judged (a .n) (now (a .table)) (a .group) (verdict told)
+    ∙ group-passed (a .n) (a .group) Accepted (pos-of-ne-zero (some .if1 .left))
     (subst (λ (x : ℕ). a .group < x) (powered-is powered) (c .if2 .left)))
 
 pub group-verdict-spec : {M : Type 1} → statement M

@@ -10,6 +10,7 @@ use lib.Dec.{leb, eqb}
 use Rattle.answer.specs.Refusals.{wrongPartCount, unknownPart, emptySet, emptyGroup, unknownGroupPart}
 use Rattle.answer.specs.Outcome.{at, refuse}
 use Rattle.answer.specs.Checks.{partCountRefusal, maskRefusal, groupRefusal}
+use Rattle.answer.specs.declared.Refusal.{Refusal}
 use Rattle.answer.specs.declared.Verdict.{Verdict}
 use Rattle.answer.specs.declared.Verdict.the-variants.{Accepted, Refused}
 use Rattle.answer.proofs.Outcomes.{refuse-accepted}
@@ -60,3 +61,13 @@ module _ (n group : ℕ) (later : Verdict) where
       let some = refuse-accepted (eqb group 0) emptyGroup 0 (refuse (leb (2 ^ n) group) unknownGroupPart 0 later) e in
       let known = refuse-accepted (leb (2 ^ n) group) unknownGroupPart 0 later (some .1) in
       (pos-of-ne-zero (eqb-false group 0 (some .0)), leb-false (2 ^ n) group (known .0), known .1)
+
+  -- what comes later matters only where both checks pass
+  pub group-refused : (other : Verdict) (why : Refusal) → groupRefusal n group later ≡ Refused why → (later ≡ Refused why → other ≡ Refused why) → groupRefusal n group other ≡ Refused why
+  group-refused other why = cases (eqb group 0) (leb (2 ^ n) group)
+    where
+      cases : (p q : Bool) → refuse p emptyGroup 0 (refuse q unknownGroupPart 0 later) ≡ Refused why → (later ≡ Refused why → other ≡ Refused why)
+          → refuse p emptyGroup 0 (refuse q unknownGroupPart 0 other) ≡ Refused why
+      cases true q e same = e
+      cases false true e same = e
+      cases false false e same = same e

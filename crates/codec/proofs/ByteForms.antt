@@ -77,6 +77,20 @@ length-small v h = ap length (bytes-small v h)
 pub length-large : (v : ℕ) → 128 ≤ v → length (bytesOf v) ≡ suc (length (bytesOf (v / 128)))
 length-large v h = ap length (bytes-large v h)
 
+-- a number takes no more bytes than a larger one
+pub bytes-rise : (v w : ℕ) → v ≤ w → length (bytesOf v) ≤ length (bytesOf w)
+bytes-rise v w = by-groups (λ (w : ℕ). (v : ℕ) → v ≤ w → length (bytesOf v) ≤ length (bytesOf w)) one more w v
+  where
+    one : (w : ℕ) → w < 128 → (v : ℕ) → v ≤ w → length (bytesOf v) ≤ length (bytesOf w)
+    one w small v h = omega (arith, length-small v (omega arith), length-small w small)
+
+    more : (w : ℕ) → 128 ≤ w → ((v : ℕ) → v ≤ w / 128 → length (bytesOf v) ≤ length (bytesOf (w / 128))) → (v : ℕ) → v ≤ w → length (bytesOf v) ≤ length (bytesOf w)
+    more w large rest v h =
+        ⊎-elim
+        (λ (small : v < 128). omega (arith, length-small v small, bytes-some w))
+        (λ (both : 128 ≤ v). omega (arith, length-large v both, length-large w large, rest (v / 128) (omega arith)))
+        (below-or-above v 128)
+
 -- storing a form from an index on is storing its first byte there, and then the rest from the next index on
 pub stores-small : (l : List ℕ) (i v : ℕ) → v < 128 → sets l i (bytesOf v) ≡ set l i v
 stores-small l i v h = ap (sets l i) (bytes-small v h)

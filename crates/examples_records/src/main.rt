@@ -11,6 +11,7 @@ fn main() {
     numbers();
     part_numbers();
     replayed();
+    groups();
     drawings();
 }
 
@@ -131,6 +132,37 @@ fn with_sensor(bytes: &[u8], length: usize) {
 
 fn sensor_design(record: &[u8]) {
     design(b"an oxygen sensor added", record);
+}
+
+// Groups taken out together: refusals, and a block of two parts out of the bridge.
+fn groups() {
+    say(b"groups taken out\n");
+    group(b"no part", &[1, 1, 1, 1, 1], 0);
+    group(b"a part behind the last", &[1, 1, 1, 1, 1], 2);
+    let bridge: [u8; 12] = [5, 5, 1, 2, 3, 4, 5, 4, 9, 14, 18, 21];
+    group(b"parts 1 and 2 of the bridge", &bridge, 3);
+    group(b"parts 3 and 5 of the bridge", &bridge, 20);
+    group(b"parts 1 and 2 of three", &[3, 3, 1, 2, 3, 2, 3, 5], 3);
+}
+
+fn group(name: &[u8], record: &[u8], group: usize) {
+    let mut bytes = [0u8; 12];
+    let made = record_changes::take_out_group(record, group, &mut bytes);
+    match made {
+        Written::Refused(refusal) => {
+            say(name);
+            say(b": ");
+            refused(refusal.number, refusal.place);
+            say(b"\n");
+        }
+        Written::Length(length) => group_left(name, &bytes, length),
+    }
+}
+
+fn group_left(name: &[u8], bytes: &[u8], length: usize) {
+    if length <= bytes.len() {
+        design(name, &bytes[..length]);
+    }
 }
 
 // Texts of the drawing tool: one that is read, and written again from its record, and refusals with their lines.

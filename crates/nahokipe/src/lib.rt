@@ -20,7 +20,7 @@ ghost use Rattle.shares.specs.Both.{both, bothDelivered};
 ghost use Rattle.vector_kind.specs.Kinds.{kindOf, kindRefusal};
 ghost use Rattle.vector_conversion.specs.Vectors.{vectorRefusal, converted};
 ghost use Rattle.record.specs.Contents.{wholeContents, contentsAt, cursor, stepAt, recordRefusal, designIn};
-ghost use Rattle.record_lines.specs.Changes.{addPart, takeOut, addSet};
+ghost use Rattle.record_lines.specs.Changes.{addPart, takeOut, takeOutGroup, addSet};
 ghost use Rattle.record_lines.specs.Records.{firstRecord, changedRecord};
 ghost use Rattle.drawing_text.specs.Drawings.{recordOfDrawing};
 ghost use Rattle.drawing_text.specs.Writing.{drawingOfRecord};
@@ -308,6 +308,14 @@ pub extern "C" fn nahokipe_take_out(bytes: &[u8], position: usize, buffer: &mut 
     ensures { λ r. ⌜ outcome r (now (buffer .exit)) ≡ retold ofWritten (changedRecord (takeOut position) (now (bytes .entry)) (now (buffer .entry))) ⌝ }
 {
     of_written(record_changes::take_out(bytes, position, buffer))
+}
+
+// A record without the parts of a group.
+#[no_mangle]
+pub extern "C" fn nahokipe_take_out_group(bytes: &[u8], group: usize, buffer: &mut [u8]) -> Answer
+    ensures { λ r. ⌜ outcome r (now (buffer .exit)) ≡ retold ofWritten (changedRecord (takeOutGroup group) (now (bytes .entry)) (now (buffer .entry))) ⌝ }
+{
+    of_written(record_changes::take_out_group(bytes, group, buffer))
 }
 
 // A record with one path set more.

@@ -3,9 +3,8 @@
 -- Assumes nothing.
 use mathlib.Core.Path.{_≡_, refl, sym, ap, ap₂, _∙_, subst}
 use mathlib.Core.List.{List}
-use Prim.Native.Nat.{ℕ, _≤_}
+use Prim.Native.Nat.{ℕ}
 use native.Mathlib.Omega.{arith}
-use borrow.Author.Tests.{ne-eqb, le-ltb}
 use lib.ListN.{length}
 use Rattle.answer.specs.Refusals.{inEverySet}
 use Rattle.answer.specs.Outcome.{at, outcome, andThen, delivered}
@@ -14,21 +13,25 @@ use Rattle.answer.specs.declared.Verdict.{Verdict}
 use Rattle.answer.specs.declared.Verdict.the-variants.{Accepted, Refused}
 use Rattle.answer.specs.declared.Written.the-variants as written
 use Rattle.answer.proofs.Outcomes.{refuse-passed, refuse-held}
+use Rattle.answer.proofs.Checks.{group-passed}
 use Rattle.record_parts.specs.declared.PartList.{PartList}
 use Rattle.record_parts.specs.declared.Changed.{Changed}
 use Rattle.record_parts.specs.declared.Numbered.the-variants as numbered
-use Rattle.record_parts.specs.Changes.{addRefusal, partAdded, takenOut, withPart, single, listWithout, withoutPart}
+use Rattle.record_parts.specs.declared.Listed.{Listed}
+use Rattle.record_parts.specs.PartLists.{listedOr}
+use Rattle.record_parts.specs.Changes.{addRefusal, partAdded, withPart, listWithout, groupTakenOut}
 use Rattle.record_parts.specs.Changes as parts
-use Rattle.record_parts.proofs.OneChange.{added-whole, taken-out-whole, take-out-accepted}
+use Rattle.record_parts.proofs.OneChange.{added-whole, group-taken-out-whole, take-out-group-accepted}
+use Rattle.record_parts.proofs.WellFormed.{listed-verdict}
 use Rattle.masks.specs.Groups.{meets}
 use Rattle.codec.specs.Reads.{Read}
 use Rattle.record.specs.Records.{Design, design, wholeRecord}
 use Rattle.record.specs.RecordBytes.{recordBytes, DesignRules}
 use Rattle.record.proofs.MinimalSets.{design-list}
-use Rattle.record_lines.specs.Changes.{Change, addPart, takeOut, addSet, every, setsWithout, withoutRefusal, changeRefusal, changed}
+use Rattle.record_lines.specs.Changes.{Change, addPart, takeOutGroup, addSet, every, setsWithout, designWithout, withoutRefusal, takeOutGroupRefusal, changeRefusal, changed}
 use Rattle.record_lines.specs.Records.{changedRead, changedRecord}
 use Rattle.record_lines.proofs.TakenOut.{without-none, without-some}
-use Rattle.record_lines.proofs.Rules.{changed-rules, take-out-agrees}
+use Rattle.record_lines.proofs.Rules.{changed-rules, group-out-agrees}
 use Rattle.record_opening.specs.declared.Opened.{Opened}
 use Rattle.record_opening.specs.Opening.{openedOf}
 use Rattle.record_opening.proofs.Designs.{DesignOpened, opened-why}
@@ -61,6 +64,18 @@ module _ {bytes : List ℕ} {o : Opened} (w : DesignOpened bytes o) where
       ∙ ap (λ (v : Verdict). delivered v (recordBytes (changed change (w .d))) buffer) (sym h)
       ∙ ap (λ (r : Read Design). changedRead change r buffer) (sym (w .read))
 
+  -- what was opened keeps the rules, and without a group it is the record without the group
+  module _ (list : PartList) (sets : List ℕ) (lists : list ≡ w .d .parts) (same : sets ≡ w .d .sets) where
+    pub opened-rules : DesignRules (design list sets)
+    opened-rules = subst DesignRules (sym (ap₂ design lists same)) (w .rules)
+
+    pub opened-without : (group : ℕ) (buffer : List ℕ)
+        → delivered (takeOutGroupRefusal group (design list sets)) (recordBytes (designWithout group (design list sets))) buffer ≡ changedRecord (takeOutGroup group) bytes buffer
+    unfolding changedRecord
+    opened-without group buffer =
+        ap (λ (d : Design). delivered (takeOutGroupRefusal group d) (recordBytes (designWithout group d)) buffer) (ap₂ design lists same)
+        ∙ ap (λ (r : Read Design). changedRead (takeOutGroup group) r buffer) (sym (w .read))
+
 -- ---- what the part list answers, and what it means for the design
 
 module _ (v : Verdict) (list : PartList) (result : Changed) (number : ℕ) (given : result .answer ≡ numbered.Number number) where
@@ -87,41 +102,34 @@ module _ (d : Design) (r : DesignRules d) where
   add-made k e =
       unless-made (addRefusal (d .parts)) (d .parts) (withPart (d .parts)) _ refl k (sym (ap (λ (c : Changed). c .answer) (added-whole (d .parts) (r .parts))) ∙ e)
 
-  module _ (position : ℕ) where
-    pub out-refused : (why : Refusal) → takenOut (d .parts) position .answer ≡ numbered.Refused why → changeRefusal (takeOut position) d ≡ Refused why
-    out-refused why e =
-        take-out-agrees position d r why
-        (unless-refused (parts.takeOutRefusal (d .parts) position) (d .parts) (withoutPart (d .parts) position) _ refl why
-        (sym (ap (λ (c : Changed). c .answer) (taken-out-whole (d .parts) (r .parts) position)) ∙ e))
+  module _ (group : ℕ) where
+    listed-verdict-is : groupTakenOut (d .parts) group .verdict ≡ parts.takeOutGroupRefusal (d .parts) group
+    listed-verdict-is =
+        ap (λ (l : Listed). l .verdict) (group-taken-out-whole (d .parts) (r .parts) group)
+        ∙ listed-verdict (d .parts) (parts.takeOutGroupRefusal (d .parts) group) (listWithout group (d .parts))
 
-    -- the position is there
-    out-inside : (k : ℕ) → takenOut (d .parts) position .answer ≡ numbered.Number k → parts.takeOutRefusal (d .parts) position ≡ Accepted
-    out-inside k e =
-        unless-made (parts.takeOutRefusal (d .parts) position) (d .parts) (withoutPart (d .parts) position) _ refl k
-        (sym (ap (λ (c : Changed). c .answer) (taken-out-whole (d .parts) (r .parts) position)) ∙ e)
+    pub out-refused : (why : Refusal) → groupTakenOut (d .parts) group .verdict ≡ Refused why → takeOutGroupRefusal group d ≡ Refused why
+    out-refused why e = group-out-agrees group d r why (sym listed-verdict-is ∙ e)
 
-    -- the list is without the part at it
-    pub out-list : (k : ℕ) → takenOut (d .parts) position .answer ≡ numbered.Number k → takenOut (d .parts) position .list ≡ listWithout (single position) (d .parts)
-    out-list k e =
-        ap (λ (c : Changed). c .list) (taken-out-whole (d .parts) (r .parts) position)
-        ∙ ap (λ (v : Verdict). parts.unless v (d .parts) (withoutPart (d .parts) position) .list) (out-inside k e)
+    module _ (e : groupTakenOut (d .parts) group .verdict ≡ Accepted) where
+      -- the list is without the group
+      pub out-list : groupTakenOut (d .parts) group .list ≡ listWithout group (d .parts)
+      out-list =
+          ap (λ (l : Listed). l .list) (group-taken-out-whole (d .parts) (r .parts) group)
+          ∙ ap (λ (v : Verdict). listedOr (d .parts) v (listWithout group (d .parts)) .list) (sym listed-verdict-is ∙ e)
 
-    -- and whether every set names the part is left to be asked
-    pub out-left : (k : ℕ) → takenOut (d .parts) position .answer ≡ numbered.Number k
-        → (1 ≤ position) × (position ≤ 16) × (changeRefusal (takeOut position) d ≡ withoutRefusal (single position) d)
-    out-left k e =
-        let a = take-out-accepted (d .parts) position (r .parts .rules) (out-inside k e) in
-        (a .0, omega (arith, a .1, r .parts .rules .few), simp (ne-eqb position 0 (λ z. omega (arith, a .0)), le-ltb (d .parts .count) position (a .1)))
+      -- and whether every set names a part of it is left to be asked
+      out-left : takeOutGroupRefusal group d ≡ withoutRefusal group d
+      out-left =
+          let a = take-out-group-accepted (d .parts) group (sym listed-verdict-is ∙ e) in
+          group-passed (d .parts .count) group (withoutRefusal group d) (a .0) (a .1)
 
-    -- 18 is said exactly where no set is left
-    module _ (k : ℕ) (e : takenOut (d .parts) position .answer ≡ numbered.Number k) where
-      pub out-none : length (setsWithout (single position) (d .sets)) ≡ 0 → changeRefusal (takeOut position) d ≡ Refused (at inEverySet 0)
-      out-none none =
-          out-left k e .2 ∙ refuse-held (every (meets (single position)) (d .sets)) inEverySet 0 Accepted (without-none (single position) (d .sets) none)
+      -- 18 is said exactly where no set is left
+      pub out-none : length (setsWithout group (d .sets)) ≡ 0 → takeOutGroupRefusal group d ≡ Refused (at inEverySet 0)
+      out-none none = out-left ∙ refuse-held (every (meets group) (d .sets)) inEverySet 0 Accepted (without-none group (d .sets) none)
 
-      pub out-some : (length (setsWithout (single position) (d .sets)) ≡ 0 → ⊥) → changeRefusal (takeOut position) d ≡ Accepted
-      out-some some =
-          out-left k e .2 ∙ refuse-passed (every (meets (single position)) (d .sets)) inEverySet 0 Accepted (without-some (single position) (d .sets) some)
+      pub out-some : (length (setsWithout group (d .sets)) ≡ 0 → ⊥) → takeOutGroupRefusal group d ≡ Accepted
+      out-some some = out-left ∙ refuse-passed (every (meets group) (d .sets)) inEverySet 0 Accepted (without-some group (d .sets) some)
 
   -- the sets of a design are a list that nothing refuses, so 4 and 5 of the new one are what is left
   pub with-set : (value : ℕ) → withSetRefusal (d .parts .count) (d .sets) value ≡ changeRefusal (addSet value) d

@@ -1,5 +1,5 @@
-// Changes of design records (01, "Records on disk"): a first record, and the three changes of record bytes. The whole record is checked as a
-// reader checks it, then the change, then the new record is written.
+// Changes of design records (01, "Records on disk"; 02, §2): a first record, and the four changes of record bytes. The whole record is checked as
+// a reader checks it, then the change, then the new record is written.
 use answer::Verdict;
 use answer::Written;
 use record_parts::Numbered;
@@ -15,7 +15,7 @@ ghost use Rattle.record_parts.specs.PartLists.{listOf};
 ghost use Rattle.codec.specs.ByteForm.{formsOf};
 ghost use Rattle.record.specs.Records.{design};
 ghost use Rattle.record.specs.RecordBytes.{recordBytes, DesignRules};
-ghost use Rattle.record_lines.specs.Changes.{addPart, takeOut, addSet, setsWithout};
+ghost use Rattle.record_lines.specs.Changes.{addPart, takeOut, takeOutGroup, addSet, setsWithout, designWithout, takeOutGroupRefusal};
 ghost use Rattle.record_lines.specs.Records.{changedRecord, firstRecord};
 
 // Add part: position n+1, part number mark+1, in no set.
@@ -39,7 +39,7 @@ pub fn add_part(bytes: &[u8], buffer: &mut [u8]) -> Written
     write_design(list, &sets[..count], buffer)
 }
 
-// Take out the part at a position: the sets that name it go, higher positions move down by one, part numbers and mark stay.
+// Take out the part at a position: the group of that one part.
 pub fn take_out(bytes: &[u8], position: usize, buffer: &mut [u8]) -> Written
     ensures { λ r. ⌜ outcome r (now (buffer .exit)) ≡ changedRecord (takeOut position) (now (bytes .entry)) (now (buffer .entry)) ⌝ }
 {
@@ -48,22 +48,34 @@ pub fn take_out(bytes: &[u8], position: usize, buffer: &mut [u8]) -> Written
     if let Verdict::Refused(refusal) = verdict {
         return Written::Refused(refusal);
     }
-    let old = opened.list;
-    let changed = old.take_out(position);
-    let numbered = changed.answer;
-    if let Numbered::Refused(refusal) = numbered {
-        return Written::Refused(refusal);
+    let list = opened.list;
+    let n = list.count;
+    if position == 0 {
+        return answer::unwritten(answer::UNKNOWN_POSITION, 0);
     }
-    let list = changed.list;
+    if n < position {
+        return answer::unwritten(answer::UNKNOWN_POSITION, 0);
+    }
     let sets = opened.sets;
     let count = opened.count;
-    let mut kept = [0u16; 12870];
-    let group = numbers::power_of_two(position - 1);
-    let left = sets_left(&sets[..count], group, &mut kept);
-    if left == 0 {
-        return answer::unwritten(answer::IN_EVERY_SET, 0);
+    let single = numbers::power_of_two(position - 1);
+    write_without(list, &sets[..count], single, buffer)
+}
+
+// Take out the parts of a group, a mask of positions: the sets that name one of them go, the other parts move down past all that left, part
+// numbers and mark stay.
+pub fn take_out_group(bytes: &[u8], group: usize, buffer: &mut [u8]) -> Written
+    ensures { λ r. ⌜ outcome r (now (buffer .exit)) ≡ changedRecord (takeOutGroup group) (now (bytes .entry)) (now (buffer .entry)) ⌝ }
+{
+    let opened = record_opening::open_record(bytes);
+    let verdict = opened.verdict;
+    if let Verdict::Refused(refusal) = verdict {
+        return Written::Refused(refusal);
     }
-    write_design(list, &kept[..left], buffer)
+    let list = opened.list;
+    let sets = opened.sets;
+    let count = opened.count;
+    write_without(list, &sets[..count], group, buffer)
 }
 
 // Add set: the minimal sets of the old ones and the new one.
@@ -100,6 +112,25 @@ pub fn first_record(n: usize, list: &[u16], buffer: &mut [u8]) -> Written
             write_record(n as u64, &numbers[..n], &sets[..count], buffer)
         }
     }
+}
+
+// Writes the record without the parts of a group, or says what refuses the group or how many bytes it needs.
+fn write_without(list: PartList, sets: &[u16], group: usize, buffer: &mut [u8]) -> Written
+    requires { ⌜ DesignRules (design list (now sets)) ⌝ }
+    ensures { λ r. ⌜ outcome r (now (buffer .exit)) ≡ delivered (takeOutGroupRefusal group (design list (now (sets .entry)))) (recordBytes (designWithout group (design list (now (sets .entry))))) (now (buffer .entry)) ⌝ }
+{
+    let listed = list.take_out_group(group);
+    let verdict = listed.verdict;
+    if let Verdict::Refused(refusal) = verdict {
+        return Written::Refused(refusal);
+    }
+    let others = listed.list;
+    let mut kept = [0u16; 12870];
+    let left = sets_left(sets, group, &mut kept);
+    if left == 0 {
+        return answer::unwritten(answer::IN_EVERY_SET, 0);
+    }
+    write_design(others, &kept[..left], buffer)
 }
 
 // The sets that have no part of a group, with higher positions moved down, into a local array, and how many they are.

@@ -32,12 +32,12 @@ use Rattle.record_head.specs.Headings.{setCountRefusal, partsAt, Head, headAt}
 use Rattle.record.specs.declared.Contents.{Contents}
 use Rattle.record.specs.Records.{setsAt, Design, design, DesignAt, designAt, recordAt, onlyRecord, wholeRecord}
 use Rattle.record.specs.RecordBytes.{recordBytes, DesignRules}
-use Rattle.record.specs.Contents.{contentsOf, wholeContents, recordRefusal, designOr, designIn, withWordsOf, wholeWithWords, stretchOf}
+use Rattle.record.specs.Contents.{contentsOf, wholeContents, designOr, designIn, withWordsOf, wholeWithWords, stretchOf}
 use Rattle.record.proofs.RoundTrip.{whole-written}
-use Rattle.record_lines.specs.Changes.{Change, addPart, takeOut, addSet, changeRefusal, changed}
+use Rattle.record_lines.specs.Changes.{changeRefusal, changed}
 use Rattle.record_lines.specs.Records.{changedRead, changedRecord}
 use Rattle.record_lines.proofs.Refusals.{add-part-exactly}
-use Rattle.record_former.specs.Former.{formerField, formerPartsAt, formerHeadAt, formerRecordAt, formerRecord, formerChangeRefusal, formerChanged, formerChangedRead, formerChangedRecord, ReadAsBefore}
+use Rattle.record_former.specs.Former.{FormerChange, addPart, takeOut, addSet, asNow, formerField, formerPartsAt, formerHeadAt, formerRecordAt, formerRecord, formerChangeRefusal, formerChanged, formerChangedRead, formerChangedRecord, ReadAsBefore}
 use Rattle.record_former.proofs.Fields.{parts-now, parts-marked, parts-then}
 
 module _ (bytes : List ℕ) (small : Bytes bytes) where
@@ -132,8 +132,8 @@ module _ (bytes : List ℕ) (small : Bytes bytes) where
   -- ---- what a change writes
 
   -- nothing that did not refuse a change then refuses it now, and it gives the same design
-  change-now : (change : Change) (d : Design) → DesignRules d → d .parts .mark ≤ top formerField → formerChangeRefusal change d ≡ Accepted
-      → (changeRefusal change d ≡ Accepted) × (changed change d ≡ formerChanged change d)
+  change-now : (change : FormerChange) (d : Design) → DesignRules d → d .parts .mark ≤ top formerField → formerChangeRefusal change d ≡ Accepted
+      → (changeRefusal (asNow change) d ≡ Accepted) × (changed (asNow change) d ≡ formerChanged change d)
   change-now (takeOut position) d rules low accepted = (accepted, refl)
   change-now (addSet set) d rules low accepted = (accepted, refl)
   change-now addPart d rules low accepted =
@@ -146,13 +146,13 @@ module _ (bytes : List ℕ) (small : Bytes bytes) where
       )
 
   -- what a change wrote then, it writes now, and answers and leaves the buffer as it did
-  pub change-as-before : (change : Change) (buffer : List ℕ) (n : ℕ) → formerChangedRecord change bytes buffer .answer ≡ Length n
-      → changedRecord change bytes buffer ≡ formerChangedRecord change bytes buffer
+  pub change-as-before : (change : FormerChange) (buffer : List ℕ) (n : ℕ) → formerChangedRecord change bytes buffer .answer ≡ Length n
+      → changedRecord (asNow change) bytes buffer ≡ formerChangedRecord change bytes buffer
   unfolding formerChangedRecord changedRecord
   change-as-before change buffer n = cases (formerRecord bytes) refl
     where
       cases : (read : Read DesignAt) → formerRecord bytes ≡ read → formerChangedRead change read buffer .answer ≡ Length n
-          → changedRead change (wholeRecord bytes) buffer ≡ formerChangedRead change read buffer
+          → changedRead (asNow change) (wholeRecord bytes) buffer ≡ formerChangedRead change read buffer
       cases (refused r) here e = let z : _≡_ {A = ℕ} 0 1 = cc in absurd (omega arith)
       cases (found at next) here e =
           let d : Design = at .design in
@@ -160,5 +160,5 @@ module _ (bytes : List ℕ) (small : Bytes bytes) where
           let left = formerChangedRead change (found at next) buffer .buffer in
           let g = given (formerChangeRefusal change d) (recordBytes (formerChanged change d)) buffer left n (ap (λ (w : Written). outcome w left) (sym e)) in
           let same = change-now change d (whole-written bytes d next small read .0) (only-marked at next here) (g .accepted) in
-          ap (λ (r : Read Design). changedRead change r buffer) read
+          ap (λ (r : Read Design). changedRead (asNow change) r buffer) read
           ∙ ap₂ (λ (v : Verdict) (x : Design). delivered v (recordBytes x) buffer) (same .0 ∙ sym (g .accepted)) (same .1)

@@ -13,8 +13,7 @@ use Rattle.codec.specs.FieldReads.{fieldAt, fieldsAt}
 use Rattle.theory_sets.specs.Masks.{holds}
 use Rattle.record_parts.specs.PartLists.{listOf}
 use Rattle.record.specs.Records.{misplaced, designAt}
-use Rattle.record_lines.specs.Changes.{addPart}
-use Rattle.record_former.specs.Former.{formerField, formerPartsAt, formerHeadAt, formerRecordAt, formerRecord, formerChangedRecord}
+use Rattle.record_former.specs.Former.{addPart, formerField, formerPartsAt, formerHeadAt, formerRecordAt, formerRecord, formerChangedRecord}
 
 -- five groups and 2^32-1
 five : groups formerField ≡ 5

@@ -25,7 +25,8 @@ use Rattle.record_head.specs.Headings.{partsRefusal, markRefusal, lastNumber, s
 use Rattle.record.specs.Records.{setsAt, Design, design, DesignAt, designAt, wholeRecord}
 use Rattle.record.specs.Contents.{contentsOf, wholeContents, recordRefusal, designIn, withWordsOf, wholeWithWords, stretchOf}
 use Rattle.record.specs.RecordBytes.{recordBytes}
-use Rattle.record_lines.specs.Changes.{Change, addPart, takeOut, addSet, changeRefusal, changed}
+use Rattle.record_lines.specs.Changes.{Change, changeRefusal, changed}
+use Rattle.record_lines.specs.Changes as changes
 
 -- ---- reading
 
@@ -81,24 +82,36 @@ pub record ReadAsBefore (bytes : List ℕ) (here : DesignAt) (next : ℕ) : Type
 
 -- ---- changing
 
+-- the changes that there were: one part more, the part at a position taken out, one path set more
+pub data FormerChange : Type 0 where
+  addPart : FormerChange
+  takeOut : ℕ → FormerChange
+  addSet : ℕ → FormerChange
+
+-- each among those that there are
+abbrev pub asNow : FormerChange → Change
+asNow addPart = changes.addPart
+asNow (takeOut position) = changes.takeOut position
+asNow (addSet set) = changes.addSet set
+
 -- 19 before 20, which was a mark of 2^32-1
-abbrev pub formerChangeRefusal : Change → Design → Verdict
+abbrev pub formerChangeRefusal : FormerChange → Design → Verdict
 formerChangeRefusal addPart d =
     refuse (eqb (d .parts .count) mostParts) fullMachine 0 (refuse (eqb (d .parts .mark) (top formerField)) numbersSpent 0 verdict.Accepted)
-formerChangeRefusal (takeOut position) d = changeRefusal (takeOut position) d
-formerChangeRefusal (addSet set) d = changeRefusal (addSet set) d
+formerChangeRefusal (takeOut position) d = changeRefusal (changes.takeOut position) d
+formerChangeRefusal (addSet set) d = changeRefusal (changes.addSet set) d
 
 -- a part more: position n+1, part number mark+1, in no set; the other changes ask for no top number
-abbrev pub formerChanged : Change → Design → Design
+abbrev pub formerChanged : FormerChange → Design → Design
 formerChanged addPart d = design (withPart (d .parts) .list) (d .sets)
-formerChanged (takeOut position) d = changed (takeOut position) d
-formerChanged (addSet set) d = changed (addSet set) d
+formerChanged (takeOut position) d = changed (changes.takeOut position) d
+formerChanged (addSet set) d = changed (changes.addSet set) d
 
 -- a change of record bytes, for a lent buffer: the reader's refusal, or the change's, or the new record's bytes or 11
-abbrev pub formerChangedRead : Change → Read DesignAt → List ℕ → Outcome Written (List ℕ)
+abbrev pub formerChangedRead : FormerChange → Read DesignAt → List ℕ → Outcome Written (List ℕ)
 formerChangedRead change (refused r) buffer = delivered (verdict.Refused r) [] buffer
 formerChangedRead change (found here next) buffer =
     delivered (formerChangeRefusal change (here .design)) (recordBytes (formerChanged change (here .design))) buffer
 
-unfoldable pub formerChangedRecord : Change → List ℕ → List ℕ → Outcome Written (List ℕ)
+unfoldable pub formerChangedRecord : FormerChange → List ℕ → List ℕ → Outcome Written (List ℕ)
 formerChangedRecord change bytes buffer = formerChangedRead change (formerRecord bytes) buffer

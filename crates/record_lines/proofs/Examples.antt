@@ -21,7 +21,7 @@ use Rattle.record_head.specs.Headings.{partsAt, headAt}
 use Rattle.record.specs.Records.{misplaced, recordAt, onlyRecord, wholeRecord}
 use Rattle.record_head.specs.HeadingBytes.{partsBytes, headBytes}
 use Rattle.record.specs.RecordBytes.{recordBytes}
-use Rattle.record_lines.specs.Changes.{Change, addPart, takeOut, addSet, setsWithout}
+use Rattle.record_lines.specs.Changes.{Change, addPart, takeOut, takeOutGroup, addSet, setsWithout}
 use Rattle.record_lines.specs.Records.{changedRecord, firstRecord}
 use Rattle.record_lines.specs.Lines.{Call, after, lastOf}
 
@@ -74,10 +74,20 @@ last-number : lastOf (call addPart ∷ call addPart ∷ []) (1 ∷ 254 ∷ repli
 unfolding changedRecord wholeRecord onlyRecord recordAt headAt partsAt fieldsAt fieldAt misplaced has holds any those listed minimal numberAt numberIn recordBytes headBytes partsBytes formsOf bytesOf grouped partAdded partListRefusal others meets squeezed setsWithout
 last-number = refl
 
--- parts 2 and 3 taken out of the bridge together: only the set of parts 1 and 4 is left, which then stand at positions 1 and 2
-together : setsWithout 6 (9 ∷ 14 ∷ 18 ∷ 21 ∷ []) ≡ 3 ∷ []
-unfolding setsWithout meets squeezed has
+-- Groups of the bridge and of records of one and three parts: parts 3 and 5 leave together and parts 1 and 4 are then at positions 1 and 3; 15 for no
+-- part; 16 for a position behind the last, also beside right ones and before 18; 18 where every set names some part, though none is named by all; 11 behind
+-- 18; and 25 of the record before anything of the group.
+together : after (call (takeOutGroup 20)) bridge ≡ 3 ∷ 5 ∷ 1 ∷ 2 ∷ 4 ∷ 1 ∷ 5 ∷ []
+unfolding changedRecord wholeRecord onlyRecord recordAt headAt partsAt fieldsAt fieldAt misplaced has holds any those listed minimal numberAt numberIn recordBytes headBytes partsBytes formsOf bytesOf grouped partListRefusal others meets squeezed setsWithout
 together = refl
+
+not-together :
+    answer (takeOutGroup 0) (1 ∷ 1 ∷ 1 ∷ 1 ∷ 1 ∷ []) 9 ∷ answer (takeOutGroup 2) (1 ∷ 1 ∷ 1 ∷ 1 ∷ 1 ∷ []) 9 ∷ answer (takeOutGroup 3) bridge 12
+    ∷ answer (takeOutGroup 3) (3 ∷ 3 ∷ 1 ∷ 2 ∷ 3 ∷ 2 ∷ 3 ∷ 5 ∷ []) 9 ∷ answer (takeOutGroup 31) bridge 12 ∷ answer (takeOutGroup 52) bridge 12 ∷ answer (takeOutGroup 63) bridge 12
+    ∷ answer (takeOutGroup 20) bridge 6 ∷ answer (takeOutGroup 3) bridge 0 ∷ answer (takeOutGroup 0) (1 ∷ 1 ∷ 1 ∷ 1 ∷ 1 ∷ 0 ∷ []) 9 ∷ []
+    ≡ map Refused (at 15 0 ∷ at 16 0 ∷ at 18 0 ∷ at 18 0 ∷ at 18 0 ∷ at 16 0 ∷ at 16 0 ∷ at 11 7 ∷ at 18 0 ∷ at 25 5 ∷ [])
+unfolding changedRecord wholeRecord onlyRecord recordAt headAt partsAt fieldsAt fieldAt misplaced has holds any those listed minimal numberAt numberIn recordBytes headBytes partsBytes formsOf bytesOf grouped partListRefusal others meets squeezed setsWithout
+not-together = refl
 
 -- a first record of a list with a repeat and a nested set
 first : firstRecord 2 (3 ∷ 1 ∷ 1 ∷ []) (replicate 7 9) ≡ outcome (Length 6) (2 ∷ 2 ∷ 1 ∷ 2 ∷ 1 ∷ 1 ∷ 9 ∷ [])

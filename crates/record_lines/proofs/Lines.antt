@@ -28,13 +28,13 @@ use Rattle.record.specs.RecordBytes.{DesignRules}
 use Rattle.record.proofs.RoundTrip.{whole-written}
 use Rattle.masks.specs.Groups.{meets}
 use Rattle.numbers.proofs.Bools.{and-left, and-right, and-both, or-left, or-right, false-of}
-use Rattle.record_lines.specs.Changes.{Change, addPart, takeOut, addSet, every, designWithout, changeRefusal, changed}
+use Rattle.record_lines.specs.Changes.{Change, addPart, takeOut, takeOutGroup, addSet, every, designWithout, changeRefusal, changed}
 use Rattle.record_lines.specs.Names.{namedSets, names, namesSome, runs}
 use Rattle.record_lines.specs.Lines.{Call, outcomeOf, recordAfter, after, lastOf, unlessRefused, madeBy, designAfter, issuedIn, leftIn, givenIn, along, lastDesign, issuedBy, leftBy, givenBy, DesignLine, GivenInUse}
 use Rattle.record_lines.proofs.Keeping.{keep-elim, every-intro, every-elim, some-intro, some-elim}
 use Rattle.record_lines.proofs.Names.{names-intro, names-elim}
 use Rattle.record_lines.proofs.NamedChanges.{added-names, without-named, with-set-names, named-in-use}
-use Rattle.record_lines.proofs.Rules.{changed-rules, without-rules, take-out-accepted, set-accepted}
+use Rattle.record_lines.proofs.Rules.{changed-rules, without-rules, take-out-accepted, group-out-accepted, set-accepted}
 use Rattle.record_lines.proofs.Running.{added-runs, without-runs, with-set-runs}
 use Rattle.record_lines.proofs.Written.{made-read}
 
@@ -84,7 +84,8 @@ design-line-one addPart d r accepted =
     line (changed-rules addPart d r accepted) (line-one lines.addPart (d .parts) (r .parts)) (λ set m. inl (rw (added-names d r accepted) at m))
     (λ set m free working all. added-runs d r accepted working ∙ minimal-runs d set m working all)
     (λ set m. absurd (List·Memᴰ·not-nil m))
-design-line-one (takeOut position) d r accepted = design-line-without (single position) d r (take-out-accepted position d r accepted .left)
+design-line-one (takeOut position) d r accepted = design-line-without (single position) d r (take-out-accepted position d accepted .left)
+design-line-one (takeOutGroup group) d r accepted = design-line-without group d r (group-out-accepted group d accepted .2)
 design-line-one (addSet set) d r accepted =
     let numbers = numbersOf (d .parts) in
     line (changed-rules (addSet set) d r accepted) (line-none (d .parts) (r .parts))
@@ -242,6 +243,7 @@ given-at (change ∷ changes) d allowed set m =
     here : (c : Change) → changeRefusal c d ≡ Accepted → List·Memᴰ set (givenIn c d) → GivenInUse (c ∷ changes) d set
     here addPart accepted k = absurd (List·Memᴰ·not-nil k)
     here (takeOut position) accepted k = absurd (List·Memᴰ·not-nil k)
+    here (takeOutGroup group) accepted k = absurd (List·Memᴰ·not-nil k)
     here (addSet mask) accepted k =
         let same : set ≡ named (numbersOf (d .parts)) mask = List·Memᴰ·eq-of-singleton k in
         record {

@@ -115,7 +115,7 @@ without-named group d r =
 -- a part is taken out at a position of its own
 pub position-inside : (position : ℕ) (d : Design) → DesignRules d → changeRefusal (takeOut position) d ≡ Accepted → position - 1 < length (numbersOf (d .parts))
 position-inside position d r accepted =
-    let a = take-out-accepted position d r accepted in
+    let a = take-out-accepted position d accepted in
     omega (arith, well-formed-counted (d .parts) (r .parts), a .from, a .to)
 
 -- So taking out the part with number p leaves exactly the named minimal sets that do not name p.

@@ -1,21 +1,22 @@
--- What a change gives keeps the rules of a design, and so does a first design. Parts refuse the only part of a list by 18 themselves: every set
--- of a machine of one part names it, so the record's 18 agrees.
+-- What a change gives keeps the rules of a design, and so does a first design. A part list refuses by 18 itself that all its parts leave: every
+-- set names some part of the machine, so the record's 18 agrees.
 -- Assumes nothing.
 use mathlib.Core.Path.{_≡_, refl, sym, ap, _∙_, subst}
 use mathlib.Core.Bool.{Bool, true, false}
 use mathlib.Core.List.{List, [], _∷_, List·Memᴰ, List·Memᴰ·head, List·Memᴰ·cases-cons}
-use mathlib.Core.Logic.{_⊎_, inl, inr, ⊎-elim}
-use Prim.Native.Nat.{ℕ, zero, suc, _+_, _-_, _^_, _≤_, _<_}
+use mathlib.Core.Logic.{⊎-elim}
+use Prim.Native.Nat.{ℕ, zero, suc, _+_, _^_, _≤_, _<_}
 use native.Mathlib.Nat.{pow-succ', pos-of-ne-zero}
 use native.Mathlib.Omega.{arith}
 use borrow.Author.Tests.{eqb-true, eqb-false, ltb-false, leb-false}
 use lib.Dec.{eqb, ltb, leb}
 use lib.ListN.{length, length-append}
 use Rattle.answer.specs.Refusals.{unknownPart, emptySet, unknownPosition, inEverySet, fullMachine, numbersSpent}
-use Rattle.answer.specs.Outcome.{at, refuse}
+use Rattle.answer.specs.Outcome.{refuse}
 use Rattle.answer.specs.declared.Refusal.{Refusal}
 use Rattle.answer.specs.declared.Verdict.the-variants.{Accepted, Refused}
-use Rattle.answer.proofs.Outcomes.{refuse-accepted}
+use Rattle.answer.proofs.Outcomes.{refuse-accepted, refuse-held}
+use Rattle.answer.proofs.Checks.{group-right, group-refused}
 use Rattle.numbers.specs.Tables.{tabulate}
 use Rattle.numbers.proofs.Tables.{tabulate-length, tabulate-suc}
 use Rattle.record_parts.specs.declared.PartList.{PartList}
@@ -29,18 +30,13 @@ use Rattle.record_parts.proofs.Numbers.{rising-append}
 use Rattle.record_parts.proofs.OneChange.{line-one, line-without, added-given}
 use Rattle.record_parts.proofs.WellFormed.{list-well-formed, well-formed-counted}
 use Rattle.masks.specs.Groups.{meets}
-use Rattle.masks.proofs.Groups.{meets-single}
 use Rattle.theory_sets.specs.Structures.{listed, minimalSets}
-use Rattle.numbers.proofs.Bools.{clash}
-use Rattle.theory_sets.proofs.Masks.{has-odd}
-use Rattle.numbers.proofs.Bounds.{below-or-above}
 use Rattle.theory_sets.proofs.Lists.{listed-semicoherent}
 use Rattle.structure.specs.Checks.{listRefusal}
 use Rattle.structure.proofs.Acceptance.{AcceptedList, accepted-list}
 use Rattle.record.specs.Records.{Design}
 use Rattle.record.specs.RecordBytes.{SetRules, DesignRules}
-use Rattle.record_lines.specs.Changes.{Change, addPart, takeOut, addSet, every, setsWithout, designWithout, takeOutRefusal, addSetRefusal, changeRefusal, changed, firstDesign}
-use Rattle.record_lines.proofs.Keeping.{every-intro}
+use Rattle.record_lines.specs.Changes.{Change, addPart, takeOut, takeOutGroup, addSet, every, setsWithout, designWithout, withoutRefusal, takeOutRefusal, takeOutGroupRefusal, addSetRefusal, changeRefusal, changed, firstDesign}
 use Rattle.record_lines.proofs.MinimalSets.{minimal-set-rules}
 use Rattle.record_lines.proofs.TakenOut.{sets-without-rules}
 
@@ -52,60 +48,18 @@ add-accepted list w accepted =
     let t = refuse-accepted (eqb (list .mark) topNumber) numbersSpent 0 Accepted (s .1) in
     (omega (arith, eqb-false (list .count) mostParts (s .0), w .rules .few), omega (arith, eqb-false (list .mark) topNumber (t .0), w .rules .top))
 
--- every set of a machine of one part names it
-pub one-part : (sets : List ℕ) → SetRules 1 sets → every (meets 1) sets ≡ true
-one-part sets r =
-    every-intro (meets 1) sets (λ a m. let w = r .within a m in meets-single 0 a ∙ has-odd a (omega (arith, w .0, w .1)))
-
 pub record TakeOutAccepted (position : ℕ) (d : Design) : Type 0 where
   pub from : 1 ≤ position
   pub to : position ≤ d .parts .count
-  pub two : 2 ≤ d .parts .count
   pub left : every (meets (single position)) (d .sets) ≡ false
 
-pub take-out-accepted : (position : ℕ) (d : Design) → DesignRules d → takeOutRefusal position d ≡ Accepted → TakeOutAccepted position d
-take-out-accepted position d r accepted =
+pub take-out-accepted : (position : ℕ) (d : Design) → takeOutRefusal position d ≡ Accepted → TakeOutAccepted position d
+take-out-accepted position d accepted =
     let n : ℕ = d .parts .count in
     let s = refuse-accepted (eqb position 0) unknownPosition 0 _ accepted in
     let t = refuse-accepted (ltb n position) unknownPosition 0 _ (s .1) in
     let u = refuse-accepted (every (meets (single position)) (d .sets)) inEverySet 0 Accepted (t .1) in
-    let from : 1 ≤ position = pos-of-ne-zero (eqb-false position 0 (s .0)) in
-    let to : position ≤ n = ltb-false n position (t .0) in
-    record { from = from; to = to; two = several from to (u .0) (below-or-above 1 n); left = u .0 }
-  where
-    several : 1 ≤ position → position ≤ d .parts .count → every (meets (single position)) (d .sets) ≡ false → (1 < d .parts .count) ⊎ (d .parts .count ≤ 1)
-        → 2 ≤ d .parts .count
-    several from to left (inl more) = more
-    several from to left (inr one) =
-        let only : d .parts .count ≡ 1 = omega (arith, r .parts .rules .some) in
-        let index : position - 1 ≡ 0 = omega arith in
-        clash (one-part (d .sets) (rw only at (r .sets))) (rw index at left)
-
--- what parts refuse, the record refuses by the same number; 18 for the only part among it
-pub take-out-agrees : (position : ℕ) (d : Design) → DesignRules d → (refusal : Refusal) → parts.takeOutRefusal (d .parts) position ≡ Refused refusal
-    → takeOutRefusal position d ≡ Refused refusal
-take-out-agrees position d r refusal = first (eqb position 0) refl
-  where
-    third : ltb (d .parts .count) position ≡ false → eqb position 0 ≡ false → (p : Bool) → eqb (d .parts .count) 1 ≡ p → refuse p inEverySet 0 Accepted ≡ Refused refusal
-        → refuse (every (meets (single position)) (d .sets)) inEverySet 0 Accepted ≡ Refused refusal
-    third within some true e refused =
-        let only : d .parts .count ≡ 1 = eqb-true (d .parts .count) 1 e in
-        let index : position - 1 ≡ 0 = omega (arith, ltb-false (d .parts .count) position within) in
-        let whole : every (meets (single position)) (d .sets) ≡ true = rw index (one-part (d .sets) (rw only at (r .sets))) in
-        rw whole refused
-    third within some false e refused = let z : _≡_ {A = ℕ} 0 1 = cc in absurd (omega arith)
-
-    second : eqb position 0 ≡ false → (p : Bool) → ltb (d .parts .count) position ≡ p
-        → refuse p unknownPosition 0 (refuse (eqb (d .parts .count) 1) inEverySet 0 Accepted) ≡ Refused refusal
-        → refuse p unknownPosition 0 (refuse (every (meets (single position)) (d .sets)) inEverySet 0 Accepted) ≡ Refused refusal
-    second some true e refused = refused
-    second some false e refused = third e some (eqb (d .parts .count) 1) refl refused
-
-    first : (p : Bool) → eqb position 0 ≡ p
-        → refuse p unknownPosition 0 (refuse (ltb (d .parts .count) position) unknownPosition 0 (refuse (eqb (d .parts .count) 1) inEverySet 0 Accepted)) ≡ Refused refusal
-        → refuse p unknownPosition 0 (refuse (ltb (d .parts .count) position) unknownPosition 0 (refuse (every (meets (single position)) (d .sets)) inEverySet 0 Accepted)) ≡ Refused refusal
-    first true e refused = refused
-    first false e refused = second e (ltb (d .parts .count) position) refl refused
+    record { from = pos-of-ne-zero (eqb-false position 0 (s .0)); to = ltb-false n position (t .0); left = u .0 }
 
 -- ---- the rules
 
@@ -160,13 +114,38 @@ without-rules group d r left =
     some-part zero (x ∷ xs) r = let w = r .within x (List·Memᴰ·head refl) in absurd (omega (arith, w .0, w .1))
     some-part (suc n) (x ∷ xs) r = omega arith
 
+-- a group is taken out that has a part, and only parts of the machine, while some set names none of them
+pub group-out-accepted : (group : ℕ) (d : Design) → takeOutGroupRefusal group d ≡ Accepted → (0 < group) × (group < 2 ^ (d .parts .count)) × (every (meets group) (d .sets) ≡ false)
+group-out-accepted group d accepted =
+    let g = group-right (d .parts .count) group (withoutRefusal group d) accepted in
+    (g .0, g .1, refuse-accepted (every (meets group) (d .sets)) inEverySet 0 Accepted (g .2) .0)
+
+-- What the part list refuses, the record refuses by the same number: 15 and 16, and 18 where no part is left, since then no set is.
+pub group-out-agrees : (group : ℕ) (d : Design) → DesignRules d → (refusal : Refusal) → parts.takeOutGroupRefusal (d .parts) group ≡ Refused refusal
+    → takeOutGroupRefusal group d ≡ Refused refusal
+group-out-agrees group d r refusal refused =
+    group-refused (d .parts .count) group (refuse (eqb left 0) inEverySet 0 Accepted) (withoutRefusal group d) refusal refused (last (eqb left 0) refl)
+  where
+    left : ℕ
+    left = length (others (numbersOf (d .parts)) group)
+
+    all-gone : left ≡ 0 → (p : Bool) → every (meets group) (d .sets) ≡ p → every (meets group) (d .sets) ≡ true
+    all-gone none true e = e
+    all-gone none false e = absurd (omega (arith, without-rules group d r e .parts .rules .some))
+
+    last : (p : Bool) → eqb left 0 ≡ p → refuse p inEverySet 0 Accepted ≡ Refused refusal → withoutRefusal group d ≡ Refused refusal
+    last true e refused =
+        refuse-held (every (meets group) (d .sets)) inEverySet 0 Accepted (all-gone (eqb-true left 0 e) (every (meets group) (d .sets)) refl) ∙ refused
+    last false e refused = let z : _≡_ {A = ℕ} 0 1 = cc in absurd (omega arith)
+
 pub changed-rules : (change : Change) (d : Design) → DesignRules d → changeRefusal change d ≡ Accepted → DesignRules (changed change d)
 changed-rules addPart d r accepted =
     record {
       parts = line-one lines.addPart (d .parts) (r .parts) .well-formed;
       sets = rw (added-count (d .parts) (r .parts) accepted) (sets-more (d .parts .count) (d .sets) (r .sets));
     }
-changed-rules (takeOut position) d r accepted = without-rules (single position) d r (take-out-accepted position d r accepted .left)
+changed-rules (takeOut position) d r accepted = without-rules (single position) d r (take-out-accepted position d accepted .left)
+changed-rules (takeOutGroup group) d r accepted = without-rules group d r (group-out-accepted group d accepted .2)
 changed-rules (addSet set) d r accepted =
     record {
       parts = r .parts;

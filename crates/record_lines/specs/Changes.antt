@@ -1,11 +1,12 @@
--- Changes of a design (01, "Records on disk"): add part, take out the part at a position, add set; and a first design.
+-- Changes of a design (01, "Records on disk"; 02, §2): add part, take out the part at a position or the parts of a group, add set; and a first
+-- design.
 use mathlib.Core.Bool.{Bool, true, not, cond, _&&_}
 use mathlib.Core.List.{List, [], _∷_, map}
 use Prim.Native.Nat.{ℕ, _+_}
 use lib.Dec.{ltb, eqb}
 use Rattle.answer.specs.Refusals.{unknownPosition, inEverySet}
 use Rattle.answer.specs.Outcome.{refuse}
-use Rattle.answer.specs.Checks.{maskRefusal}
+use Rattle.answer.specs.Checks.{maskRefusal, groupRefusal}
 use Rattle.answer.specs.declared.Verdict.{Verdict}
 use Rattle.answer.specs.declared.Verdict.the-variants as verdict
 use Rattle.numbers.specs.Tables.{tabulate}
@@ -16,10 +17,12 @@ use Rattle.masks.specs.Groups.{meets, squeezed}
 use Rattle.theory_sets.specs.Structures.{listed, minimalSets}
 use Rattle.record.specs.Records.{Design, design}
 
--- a change of a design: one part more; the part at a position, from 1, taken out; one path set more, as a mask
+-- a change of a design: one part more; the part at a position, from 1, taken out; the parts of a group taken out, a mask of positions; one path
+-- set more, as a mask
 pub data Change : Type 0 where
   addPart : Change
   takeOut : ℕ → Change
+  takeOutGroup : ℕ → Change
   addSet : ℕ → Change
 
 -- ---- without a group of parts
@@ -54,6 +57,10 @@ takeOutRefusal position d =
     refuse (eqb position 0) unknownPosition 0
     (refuse (ltb (d .parts .count) position) unknownPosition 0 (withoutRefusal (single position) d))
 
+-- 15 and 16 of the group, in the place of 17; then 18
+abbrev pub takeOutGroupRefusal : ℕ → Design → Verdict
+takeOutGroupRefusal group d = groupRefusal (d .parts .count) group (withoutRefusal group d)
+
 -- a set that is added to a machine of n parts, 4: bit n or above; 5: mask 0
 abbrev pub newSetRefusal : ℕ → ℕ → Verdict
 newSetRefusal n set = maskRefusal n 0 set verdict.Accepted
@@ -65,14 +72,16 @@ addSetRefusal set d = newSetRefusal (d .parts .count) set
 abbrev pub changeRefusal : Change → Design → Verdict
 changeRefusal addPart d = addRefusal (d .parts)
 changeRefusal (takeOut position) d = takeOutRefusal position d
+changeRefusal (takeOutGroup group) d = takeOutGroupRefusal group d
 changeRefusal (addSet set) d = addSetRefusal set d
 
 -- ---- what a change gives where nothing refuses it
 
--- add part: the sets stay; take out: the part is held failed; add set: the minimal sets of the old ones and the new one
+-- add part: the sets stay; take out: the part or the group is held failed; add set: the minimal sets of the old ones and the new one
 abbrev pub changed : Change → Design → Design
 changed addPart d = design (partAdded (d .parts) .list) (d .sets)
 changed (takeOut position) d = designWithout (single position) d
+changed (takeOutGroup group) d = designWithout group d
 changed (addSet set) d = design (d .parts) (minimalSets (d .parts .count) (listed (set ∷ d .sets)))
 
 -- a first design, of n parts and a list of sets as in the list form: part numbers 1 to n, mark n, the minimal sets

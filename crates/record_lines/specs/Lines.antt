@@ -1,4 +1,4 @@
--- Lines of changes (01, "Records on disk"): a line starts from one record, and each change is applied to what the last one gave.
+-- Lines of changes (01, "Records on disk"; 02, §2): a line starts from one record, and each change is applied to what the last one gave.
 use mathlib.Core.Bool.{Bool, true}
 use mathlib.Core.List.{List, [], _∷_, _++_, List·Memᴰ}
 use mathlib.Core.Logic.{_⊎_}
@@ -14,7 +14,7 @@ use Rattle.record_parts.specs.Lines.{In, Line, givenNumber}
 use Rattle.record_parts.specs.Changes.{partAdded, single}
 use Rattle.record.specs.Records.{Design}
 use Rattle.record.specs.RecordBytes.{DesignRules}
-use Rattle.record_lines.specs.Changes.{Change, addPart, takeOut, addSet, every, changed}
+use Rattle.record_lines.specs.Changes.{Change, addPart, takeOut, takeOutGroup, addSet, every, changed}
 use Rattle.record_lines.specs.Names.{namedSets, runs}
 use Rattle.record_lines.specs.Records.{changedRecord}
 
@@ -61,16 +61,19 @@ designAfter (change ∷ changes) d = designAfter changes (changed change d)
 abbrev pub issuedIn : Change → Design → List ℕ
 issuedIn addPart d = givenNumber (partAdded (d .parts) .answer)
 issuedIn (takeOut position) d = []
+issuedIn (takeOutGroup group) d = []
 issuedIn (addSet set) d = []
 
 abbrev pub leftIn : Change → Design → List ℕ
 leftIn addPart d = []
 leftIn (takeOut position) d = named (numbersOf (d .parts)) (single position)
+leftIn (takeOutGroup group) d = named (numbersOf (d .parts)) group
 leftIn (addSet set) d = []
 
 abbrev pub givenIn : Change → Design → List (List ℕ)
 givenIn addPart d = []
 givenIn (takeOut position) d = []
+givenIn (takeOutGroup group) d = []
 givenIn (addSet set) d = named (numbersOf (d .parts)) set ∷ []
 
 -- all of these along a line, in order

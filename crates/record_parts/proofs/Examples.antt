@@ -1,4 +1,4 @@
--- The definitions at the edges of 01's refusals 1, 17 to 20 and 23, and a line of changes: they compute.
+-- The definitions at the edges of the refusals 1, 15 to 20 and 23, and lines of changes: they compute.
 -- Assumes nothing.
 use mathlib.Core.Path.{_≡_, refl}
 use mathlib.Core.List.{List, [], _∷_}
@@ -8,12 +8,13 @@ use Rattle.answer.specs.Refusals.{wrongPartCount, unknownPosition, inEverySet, 
 use Rattle.answer.specs.Outcome.{at}
 use Rattle.answer.specs.declared.Verdict.the-variants as verdict
 use Rattle.record_parts.specs.declared.PartList.{PartList}
+use Rattle.record_parts.specs.declared.Listed.{Listed}
 use Rattle.record_parts.specs.declared.Numbered.the-variants as numbered
 use Rattle.theory_sets.specs.Masks.{has}
-use Rattle.record_numbers.specs.Numbering.{topNumber, partListRefusal, highest, others}
-use Rattle.record_parts.specs.PartLists.{listOf, made}
-use Rattle.record_parts.specs.Changes.{partAdded, takenOut}
-use Rattle.record_parts.specs.Lines.{addPart, takeOut, lastOf, issuedBy, leftBy}
+use Rattle.record_numbers.specs.Numbering.{topNumber, partListRefusal, highest, named, others}
+use Rattle.record_parts.specs.PartLists.{listOf, listing, made}
+use Rattle.record_parts.specs.Changes.{partAdded, takenOut, groupTakenOut}
+use Rattle.record_parts.specs.Lines.{addPart, takeOut, takeOutGroup, lastOf, issuedBy, leftBy}
 
 -- mark 0: no part number can be right
 no-mark : made 0 (1 ∷ []) .verdict ≡ verdict.Refused (at wrongPartNumber 0)
@@ -130,3 +131,30 @@ line-issued = refl
 line-left : leftBy (addPart ∷ takeOut 9 ∷ takeOut 2 ∷ takeOut 2 ∷ []) bridge ≡ 2 ∷ 3 ∷ []
 unfolding partListRefusal made partAdded takenOut others has
 line-left = refl
+
+-- a list that stays as it was
+abbrev refusedAs : PartList → ℕ → ℕ → Listed
+refusedAs list number place = record { list = list; verdict = verdict.Refused (at number place) }
+
+-- groups: the third and the fifth part leave together; 15 for none, 16 for a position behind the last, 18 for all parts, and a list that breaks the
+-- rules before all these
+abbrev outcomes : List Listed
+outcomes =
+    groupTakenOut bridge 20 ∷ groupTakenOut bridge 0 ∷ groupTakenOut bridge 36 ∷ groupTakenOut bridge 31
+    ∷ groupTakenOut (record { count = 40; mark = 9; numbers = sixteen }) 0 ∷ []
+
+groups :
+    outcomes
+    ≡ listing verdict.Accepted (listOf 5 (1 ∷ 2 ∷ 4 ∷ [])) ∷ refusedAs bridge 15 0 ∷ refusedAs bridge 16 0 ∷ refusedAs bridge 18 0
+    ∷ refusedAs (record { count = 40; mark = 9; numbers = sixteen }) 1 0 ∷ []
+unfolding partListRefusal groupTakenOut others has
+groups = refl
+
+-- the numbers of a group leave together, and none of them is issued again
+group-line : leftBy (takeOutGroup 20 ∷ addPart ∷ takeOutGroup 9 ∷ takeOutGroup 4 ∷ []) bridge ≡ 3 ∷ 5 ∷ 1 ∷ 6 ∷ []
+unfolding partListRefusal made partAdded takenOut groupTakenOut named others has
+group-line = refl
+
+group-issued : issuedBy (takeOutGroup 20 ∷ addPart ∷ takeOutGroup 9 ∷ addPart ∷ []) bridge ≡ 6 ∷ 7 ∷ []
+unfolding partListRefusal made partAdded takenOut groupTakenOut others has
+group-issued = refl

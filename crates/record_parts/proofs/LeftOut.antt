@@ -1,15 +1,17 @@
 -- Laws of the numbers of a group of positions and of the others: how many they are, and which they are.
 -- Assumes nothing.
-use mathlib.Core.Path.{_≡_, refl, ap}
+use mathlib.Core.Path.{_≡_, refl, sym, ap, _∙_}
 use mathlib.Core.Bool.{Bool, true, false, cond}
 use mathlib.Core.List.{List, [], _∷_, _++_, List·Memᴰ·head, List·Memᴰ·tail, List·Memᴰ·cases-cons, List·Memᴰ·not-nil}
 use mathlib.Core.Logic.{_⊎_, inl, inr, ⊎-elim}
-use Prim.Native.Nat.{ℕ, zero, suc, _/_, _^_, _<_}
+use Prim.Native.Nat.{ℕ, zero, suc, _+_, _/_, _%_, _^_, _<_}
 use native.Mathlib.Nat.{pow-succ', le-of-suc-le-suc}
 use native.Mathlib.Omega.{arith}
+use borrow.Author.Tests.{eqb-true, eqb-false}
+use lib.Count.{ones, onesIn, ones-step}
 use lib.ListN.{length, getD, take, drop}
-use Rattle.theory_sets.specs.Masks.{has}
-use Rattle.theory_sets.proofs.Masks.{has-odd, has-even}
+use Rattle.theory_sets.specs.Masks.{has, size}
+use Rattle.theory_sets.proofs.Masks.{has-zero, has-odd, has-even}
 use Rattle.record_numbers.specs.Numbering.{named, others}
 use Rattle.record_numbers.proofs.Others.{named-or-others}
 use Rattle.record_parts.specs.Lines.{In}
@@ -92,3 +94,22 @@ pub others-single : (index : ℕ) (numbers : List ℕ) → index < length number
 others-single index numbers h =
     let one = ap length (named-single index numbers h) in
     omega (arith, named-or-others numbers (2 ^ index))
+
+-- ---- how many are left
+
+-- a group of as many positions as there are numbers leaves one number fewer for each of its parts
+pub others-counted : (numbers : List ℕ) (group : ℕ) → group < 2 ^ length numbers → length (others numbers group) + size group ≡ length numbers
+unfolding others ones onesIn
+others-counted [] group h =
+    let none : group ≡ 0 = omega arith in
+    rw none refl
+others-counted (n ∷ ns) group h =
+    cases (has group 0) refl (others-counted ns (group / 2) (omega (arith, pow-succ' 2 (length ns)))) (ones-step group)
+  where
+    left : List ℕ
+    left = others ns (group / 2)
+
+    cases : (p : Bool) → has group 0 ≡ p → length left + size (group / 2) ≡ length ns → size group ≡ group % 2 + size (group / 2)
+        → length (cond p left (n ∷ left)) + size group ≡ suc (length ns)
+    cases true e rest step = omega (arith, eqb-true (group % 2) 1 (sym (has-zero group) ∙ e))
+    cases false e rest step = omega (arith, eqb-false (group % 2) 1 (sym (has-zero group) ∙ e))

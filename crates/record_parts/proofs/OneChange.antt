@@ -1,28 +1,37 @@
--- One change of a well-formed part list, as a line of its own: a part more, a part taken out, or nothing where it is refused.
+-- One change of a well-formed part list, as a line of its own: a part more, a part or a group taken out, or nothing where it is
+-- refused.
 -- Assumes nothing.
-use mathlib.Core.Path.{_≡_, refl, ap, _∙_, subst}
+use mathlib.Core.Path.{_≡_, refl, sym, ap, _∙_, subst}
+use mathlib.Core.Bool.{Bool}
 use mathlib.Core.List.{List, [], _∷_, _++_, List·Memᴰ·not-nil, Memᴰ·append-left, Memᴰ·append-right, List·Memᴰ·append-cases}
 use mathlib.Core.Logic.{inl, inr, ⊎-elim}
-use Prim.Native.Nat.{ℕ, _+_, _-_, _≤_, _<_}
-use native.Mathlib.Nat.{le-refl}
+use Prim.Native.Nat.{ℕ, _+_, _-_, _^_, _≤_, _<_}
+use native.Mathlib.Nat.{le-refl, pos-of-ne-zero}
 use native.Mathlib.Omega.{arith}
-use borrow.Author.Tests.{eqb-false, ltb-false, ne-eqb, le-ltb}
+use borrow.Author.Tests.{eqb-true, eqb-false, ltb-false, eq-eqb, ne-eqb, le-ltb}
+use lib.Dec.{eqb}
+use lib.Pow.{pow-pos, pow-lt}
 use lib.ListN.{length, getD, length-append}
+use Rattle.answer.specs.Refusals.{inEverySet}
+use Rattle.answer.specs.Outcome.{refuse, andThen}
 use Rattle.answer.specs.declared.Refusal.{Refusal}
 use Rattle.answer.specs.declared.Verdict.{Verdict}
 use Rattle.answer.specs.declared.Verdict.the-variants.{Accepted, Refused}
 use Rattle.record_parts.specs.declared.PartList.{PartList}
 use Rattle.record_parts.specs.declared.Changed.{Changed}
+use Rattle.record_parts.specs.declared.Listed.{Listed}
 use Rattle.record_parts.specs.declared.Numbered.the-variants as numbered
 use Rattle.record_numbers.specs.Numbering.{mostParts, topNumber, Rules, named, others}
-use Rattle.record_parts.specs.PartLists.{numbersOf, listOf, WellFormed}
-use Rattle.record_parts.specs.Changes.{changed, unless, brokenRefusal, change, addRefusal, withPart, partAdded, takeOutRefusal, single, listWithout, withoutPart, takenOut}
-use Rattle.record_parts.specs.Lines.{PartChange, addPart, takeOut, apply, givenNumber, issuedIn, leftIn, In, Line}
+use Rattle.record_parts.specs.PartLists.{numbersOf, listOf, WellFormed, listedOr, listing}
+use Rattle.record_parts.specs.Changes.{changed, unless, brokenRefusal, change, addRefusal, withPart, partAdded, takeOutRefusal, single, listWithout, withoutPart, takenOut, takeOutGroupRefusal, groupTakenOut}
+use Rattle.record_parts.specs.Lines.{PartChange, addPart, takeOut, takeOutGroup, verdictIn, listedAfter, apply, givenNumber, ifMade, issuedIn, leftIn, In, Line}
 use Rattle.record_numbers.proofs.Others.{named-or-others}
 use Rattle.record_parts.proofs.LeftOut.{in-named, in-others, in-either, named-single, others-single}
 use Rattle.record_parts.proofs.InCells.{numbers-counted}
 use Rattle.record_parts.proofs.Numbers.{rising-in, rising-append, rising-others, others-gone}
-use Rattle.answer.proofs.Outcomes.{refuse-accepted}
+use Rattle.answer.proofs.Outcomes.{refuse-accepted, then-passed, then-refused, then-same}
+use Rattle.answer.proofs.Checks.{group-passed, group-right}
+use Rattle.numbers.proofs.Bools.{same-test}
 use Rattle.record_numbers.proofs.Rules.{accepted-rules, rules-accepted}
 use Rattle.record_parts.proofs.Changing.{change-broken}
 use Rattle.record_parts.proofs.WellFormed.{numbers-of-list, list-well-formed, well-formed-counted}
@@ -123,6 +132,10 @@ module _ (list : PartList) (w : WellFormed list) where
   unfolding takenOut
   taken-out-whole position = whole (takeOutRefusal list position) (withoutPart list position)
 
+  pub group-taken-out-whole : (group : ℕ) → groupTakenOut list group ≡ listedOr list (takeOutGroupRefusal list group) (listWithout group list)
+  unfolding groupTakenOut
+  group-taken-out-whole group = ap (λ (v : Verdict). listedOr list v (listWithout group list)) (then-passed (takeOutGroupRefusal list group) (rules-accepted (w .rules)))
+
   -- While there is room and a number is left, the numbers are the old ones and mark+1 behind them,
   pub added-given : list .count < mostParts → list .mark < topNumber → partAdded list ≡ changed (listOf (list .mark + 1) (numbersOf list ++ ((list .mark + 1) ∷ []))) (numbered.Number (list .mark + 1))
   added-given few low =
@@ -164,6 +177,25 @@ take-out-accepted list position rules accepted =
     let u = refuse-accepted _ _ _ _ (t .1) in
     (omega (arith, eqb-false position 0 (s .0)), ltb-false _ _ (t .0), omega (arith, eqb-false (list .count) 1 (u .0)))
 
+-- a group is taken out that has a part, only parts of the list, and not all of them
+pub take-out-group-accepted : (list : PartList) (group : ℕ) → takeOutGroupRefusal list group ≡ Accepted → (0 < group) × (group < 2 ^ (list .count)) × (1 ≤ length (others (numbersOf list) group))
+take-out-group-accepted list group accepted =
+    let left = length (others (numbersOf list) group) in
+    let s = group-right (list .count) group (refuse (eqb left 0) inEverySet 0 Accepted) accepted in
+    let t = refuse-accepted (eqb left 0) inEverySet 0 Accepted (s .2) in
+    (s .0, s .1, pos-of-ne-zero (eqb-false left 0 (t .0)))
+
+-- it is refused and leaves the list, or made of a list that keeps the rules
+by-group : (P : Listed → Type 0) (list : PartList) (group : ℕ) → (Rules (list .count) (list .mark) (numbersOf list) → takeOutGroupRefusal list group ≡ Accepted → P (listing Accepted (listWithout group list)))
+    → ((r : Refusal) → P (record { list = list; verdict = Refused r })) → P (groupTakenOut list group)
+unfolding groupTakenOut
+by-group P list group made refused = cases (brokenRefusal list) refl (takeOutGroupRefusal list group) refl
+  where
+    cases : (v : Verdict) → brokenRefusal list ≡ v → (w : Verdict) → takeOutGroupRefusal list group ≡ w → P (listedOr list (andThen v w) (listWithout group list))
+    cases (Refused r) broken w e = refused r
+    cases Accepted whole (Refused r) e = refused r
+    cases Accepted whole Accepted e = made (accepted-rules (list .count) (list .mark) (numbersOf list) whole) e
+
 -- each change of a well-formed list is a line
 pub line-one : (c : PartChange) (list : PartList) → WellFormed list → Line list (apply c list .list) (issuedIn c list) (leftIn c list)
 unfolding partAdded takenOut
@@ -175,20 +207,28 @@ line-one (takeOut position) list w =
     by-change (λ r. Line list (r .list) [] (givenNumber (r .answer))) list (takeOutRefusal list position) (withoutPart list position)
     (λ rules accepted. let a = take-out-accepted list position rules accepted in line-without-part list w position (a .0) (a .1) (a .2))
     (λ r. line-none list w)
+line-one (takeOutGroup group) list w =
+    by-group (λ r. Line list (r .list) [] (ifMade (r .verdict) (named (numbersOf list) group))) list group
+    (λ rules accepted. line-without list w group (take-out-group-accepted list group accepted .2))
+    (λ r. line-none list w)
 
 -- What a change gives is well-formed, whatever list it was handed: of a list with all its cells, spare ones that do not hold 0 among them.
-pub given-well-formed : (c : PartChange) (list : PartList) → length (list .numbers) ≡ mostParts → (number : ℕ) → apply c list .answer ≡ numbered.Number number → WellFormed (apply c list .list)
+pub given-well-formed : (c : PartChange) (list : PartList) → length (list .numbers) ≡ mostParts → apply c list .verdict ≡ Accepted → WellFormed (apply c list .list)
 unfolding partAdded takenOut
-given-well-formed addPart list all number =
-    by-change (λ r. r .answer ≡ numbered.Number number → WellFormed (r .list)) list (addRefusal list) (withPart list)
+given-well-formed addPart list all =
+    by-change (λ r. verdictIn (r .answer) ≡ Accepted → WellFormed (r .list)) list (addRefusal list) (withPart list)
     (λ rules accepted e. let a = add-accepted list rules accepted in with-part-well-formed list rules (numbers-counted list all (rules .few)) (a .0) (a .1))
     (λ r e. let z : _≡_ {A = ℕ} 0 1 = cc in absurd (omega arith))
-given-well-formed (takeOut position) list all number =
-    by-change (λ r. r .answer ≡ numbered.Number number → WellFormed (r .list)) list (takeOutRefusal list position) (withoutPart list position)
+given-well-formed (takeOut position) list all =
+    by-change (λ r. verdictIn (r .answer) ≡ Accepted → WellFormed (r .list)) list (takeOutRefusal list position) (withoutPart list position)
     (λ rules accepted e.
     let a = take-out-accepted list position rules accepted in
     let counted = numbers-counted list all (rules .few) in
     without-well-formed list rules counted (single position) (some-left list counted position (a .0) (a .1) (a .2)))
+    (λ r e. let z : _≡_ {A = ℕ} 0 1 = cc in absurd (omega arith))
+given-well-formed (takeOutGroup group) list all =
+    by-group (λ r. r .verdict ≡ Accepted → WellFormed (r .list)) list group
+    (λ rules accepted e. without-well-formed list rules (numbers-counted list all (rules .few)) group (take-out-group-accepted list group accepted .2))
     (λ r e. let z : _≡_ {A = ℕ} 0 1 = cc in absurd (omega arith))
 
 -- taking out leaves the mark, whatever the list
@@ -197,9 +237,45 @@ unfolding takenOut
 taken-out-mark list position =
     by-change (λ r. r .list .mark ≡ list .mark) list (takeOutRefusal list position) (withoutPart list position) (λ rules accepted. refl) (λ r. refl)
 
+pub group-taken-out-mark : (list : PartList) (group : ℕ) → groupTakenOut list group .list .mark ≡ list .mark
+group-taken-out-mark list group = by-group (λ r. r .list .mark ≡ list .mark) list group (λ rules accepted. refl) (λ r. refl)
+
 -- a list that breaks the rules is never changed
-pub broken-stays : (c : PartChange) (list : PartList) (refusal : Refusal) → brokenRefusal list ≡ Refused refusal → apply c list ≡ changed list (numbered.Refused refusal)
-unfolding partAdded takenOut
-broken-stays addPart list refusal broken = change-broken list (addRefusal list) (withPart list) refusal broken
+pub broken-stays : (c : PartChange) (list : PartList) (refusal : Refusal) → brokenRefusal list ≡ Refused refusal → apply c list ≡ record { list = list; verdict = Refused refusal }
+unfolding partAdded takenOut groupTakenOut
+broken-stays addPart list refusal broken = ap listedAfter (change-broken list (addRefusal list) (withPart list) refusal broken)
 broken-stays (takeOut position) list refusal broken =
-    change-broken list (takeOutRefusal list position) (withoutPart list position) refusal broken
+    ap listedAfter (change-broken list (takeOutRefusal list position) (withoutPart list position) refusal broken)
+broken-stays (takeOutGroup group) list refusal broken =
+    ap (λ (v : Verdict). listedOr list v (listWithout group list)) (then-refused (takeOutGroupRefusal list group) broken)
+
+-- ---- a position is the group of the one part at it
+
+-- a change by its number and one by its verdict
+change-listed : (broken refusal : Verdict) (list new : PartList) (number : ℕ)
+    → listedAfter (unless broken list (unless refusal list (changed new (numbered.Number number)))) ≡ listedOr list (andThen broken refusal) new
+change-listed (Refused r) refusal list new number = refl
+change-listed Accepted (Refused r) list new number = refl
+change-listed Accepted Accepted list new number = refl
+
+-- 18 for the only part is 18 for all parts
+same-refusal : (list : PartList) (position : ℕ) → length (numbersOf list) ≡ list .count → 1 ≤ position → position ≤ list .count → takeOutRefusal list position ≡ takeOutGroupRefusal list (single position)
+same-refusal list position counted low high =
+    let left = length (others (numbersOf list) (single position)) in
+    let one = others-single (position - 1) (numbersOf list) (omega arith) in
+    let same : eqb (list .count) 1 ≡ eqb left 0 =
+    same-test (eqb (list .count) 1) (eqb left 0)
+    (λ h. eq-eqb left 0 (omega (arith, eqb-true (list .count) 1 h))) (λ h. eq-eqb (list .count) 1 (omega (arith, eqb-true left 0 h))) in
+    simp (ne-eqb position 0 (λ e. omega arith), le-ltb (list .count) position high)
+    (ap (λ (p : Bool). refuse p inEverySet 0 Accepted) same
+    ∙ sym (group-passed (list .count) (single position) _ (pow-pos (position - 1)) (pow-lt (omega arith))))
+
+-- so taking out a position of the list is taking out the group of the part at it
+pub single-group : (list : PartList) (position : ℕ) → length (list .numbers) ≡ mostParts → 1 ≤ position → position ≤ list .count → apply (takeOut position) list ≡ apply (takeOutGroup (single position)) list
+unfolding takenOut groupTakenOut
+single-group list position all low high =
+    change-listed (brokenRefusal list) (takeOutRefusal list position) list (listWithout (single position) list) _
+    ∙ ap (λ (v : Verdict). listedOr list v (listWithout (single position) list))
+    (then-same (brokenRefusal list) (takeOutRefusal list position) (takeOutGroupRefusal list (single position)) (λ whole.
+    let rules = accepted-rules (list .count) (list .mark) (numbersOf list) whole in
+    same-refusal list position (numbers-counted list all (rules .few)) low high))

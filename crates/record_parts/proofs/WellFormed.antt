@@ -2,7 +2,7 @@
 -- accepted exactly if they keep the rules.
 -- Assumes nothing.
 use mathlib.Core.Path.{_≡_, refl, sym, ap, ap₂, _∙_}
-use mathlib.Core.List.{List}
+use mathlib.Core.List.{List, []}
 use mathlib.Core.Logic.{_↔_}
 use Prim.Native.Nat.{ℕ, _+_, _-_, _≤_}
 use native.Mathlib.Nat.{min-le-left, le-refl}
@@ -13,7 +13,7 @@ use Rattle.answer.specs.declared.Verdict.{Verdict}
 use Rattle.answer.specs.declared.Verdict.the-variants.{Accepted, Refused}
 use Rattle.record_parts.specs.declared.PartList.{PartList}
 use Rattle.record_numbers.specs.Numbering.{mostParts, topNumber, cellsOf, Rules, partListRefusal, highest}
-use Rattle.record_parts.specs.PartLists.{numbersOf, listOf, WellFormed, listing, made}
+use Rattle.record_parts.specs.PartLists.{numbersOf, listOf, WellFormed, listedOr, listing, made}
 use Rattle.record_parts.proofs.Numbers.{rising-wider}
 use Rattle.record_parts.proofs.Marks.{rising-highest, highest-below}
 use Rattle.record_numbers.proofs.Rules.{accepted-rules, rules-accepted}
@@ -44,16 +44,17 @@ well-formed-list list w =
     ap₂ (λ (count : ℕ) (cells : List ℕ). record { count = count; mark = list .mark; numbers = cells })
     (sym (well-formed-counted list w)) (w .spare)
 
-listing-verdict : (v : Verdict) (list : PartList) → listing v list .verdict ≡ v
-listing-verdict Accepted list = refl
-listing-verdict (Refused refusal) list = refl
+-- a list with a verdict has that verdict
+pub listed-verdict : (other : PartList) (v : Verdict) (list : PartList) → listedOr other v list .verdict ≡ v
+listed-verdict other Accepted list = refl
+listed-verdict other (Refused refusal) list = refl
 
 -- numbers and a mark are accepted exactly if they keep the rules
 pub made-exactly : (mark : ℕ) (numbers : List ℕ) → (made mark numbers .verdict ≡ Accepted) ↔ Rules (length numbers) mark numbers
 unfolding made
 made-exactly mark numbers = (
-  λ e. accepted-rules (length numbers) mark numbers (sym (listing-verdict (partListRefusal (length numbers) mark numbers) (listOf mark numbers)) ∙ e),
-  λ r. listing-verdict (partListRefusal (length numbers) mark numbers) (listOf mark numbers) ∙ rules-accepted r,
+  λ e. accepted-rules (length numbers) mark numbers (sym (listed-verdict (listOf 0 []) (partListRefusal (length numbers) mark numbers) (listOf mark numbers)) ∙ e),
+  λ r. listed-verdict (listOf 0 []) (partListRefusal (length numbers) mark numbers) (listOf mark numbers) ∙ rules-accepted r,
 )
 
 -- they are then the mark and the numbers of the list that is made

@@ -1,18 +1,20 @@
--- Changes of a part list (01, "Records on disk"): add part, and take out the part at a position.
+-- Changes of a part list (01, "Records on disk"; 02, §2): add part, take out the part at a position, take out the parts of a group.
 use mathlib.Core.List.{[], _∷_, _++_}
 use Prim.Native.Nat.{ℕ, _+_, _-_, _^_}
 use lib.Dec.{ltb, eqb}
-use lib.ListN.{getD}
+use lib.ListN.{length, getD}
 use Rattle.answer.specs.Refusals.{unknownPosition, inEverySet, fullMachine, numbersSpent}
-use Rattle.answer.specs.Outcome.{refuse}
+use Rattle.answer.specs.Outcome.{refuse, andThen}
+use Rattle.answer.specs.Checks.{groupRefusal}
 use Rattle.answer.specs.declared.Verdict.{Verdict}
 use Rattle.answer.specs.declared.Verdict.the-variants as verdict
 use Rattle.record_parts.specs.declared.PartList.{PartList}
 use Rattle.record_parts.specs.declared.Changed.{Changed}
+use Rattle.record_parts.specs.declared.Listed.{Listed}
 use Rattle.record_parts.specs.declared.Numbered.{Numbered}
 use Rattle.record_parts.specs.declared.Numbered.the-variants as numbered
 use Rattle.record_numbers.specs.Numbering.{mostParts, topNumber, partListRefusal, others}
-use Rattle.record_parts.specs.PartLists.{numbersOf, listOf}
+use Rattle.record_parts.specs.PartLists.{numbersOf, listOf, listedOr}
 
 -- what a change answers, by the verdict on it: the part number that it issued or took out; or the refusal, with 01's number and place
 abbrev pub numberedOf : Verdict → ℕ → Numbered
@@ -73,3 +75,12 @@ withoutPart list position =
 -- take out the part at a position, counted from 1
 unfoldable pub takenOut : PartList → ℕ → Changed
 takenOut list position = change list (takeOutRefusal list position) (withoutPart list position)
+
+-- 15 and 16, and then 18 for all parts of a machine, of which every set of it names some
+abbrev pub takeOutGroupRefusal : PartList → ℕ → Verdict
+takeOutGroupRefusal list group =
+    groupRefusal (list .count) group (refuse (eqb (length (others (numbersOf list) group)) 0) inEverySet 0 verdict.Accepted)
+
+-- take out the parts of a group, a mask of positions; a refused change leaves the list as it was
+unfoldable pub groupTakenOut : PartList → ℕ → Listed
+groupTakenOut list group = listedOr list (andThen (brokenRefusal list) (takeOutGroupRefusal list group)) (listWithout group list)

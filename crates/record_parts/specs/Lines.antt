@@ -1,38 +1,59 @@
--- Lines of changes of a part list (01, "Records on disk"): a line starts from one list, and each change is applied to what the last one gave.
+-- Lines of changes of a part list (01, "Records on disk"; 02, §2): a line starts from one list, and each change is applied to what the last one gave.
 use mathlib.Core.List.{List, [], _∷_, _++_, List·Memᴰ}
 use mathlib.Core.Logic.{_⊎_}
 use Prim.Native.Nat.{ℕ, _≤_}
+use Rattle.answer.specs.declared.Verdict.{Verdict}
+use Rattle.answer.specs.declared.Verdict.the-variants.{Accepted}
+use Rattle.answer.specs.declared.Verdict.the-variants as verdict
 use Rattle.record_parts.specs.declared.PartList.{PartList}
+use Rattle.record_parts.specs.declared.Listed.{Listed}
 use Rattle.record_parts.specs.declared.Changed.{Changed}
 use Rattle.record_parts.specs.declared.Numbered.{Numbered}
 use Rattle.record_parts.specs.declared.Numbered.the-variants.{Number, Refused}
-use Rattle.record_numbers.specs.Numbering.{RisingWithin}
+use Rattle.record_numbers.specs.Numbering.{RisingWithin, named}
 use Rattle.record_parts.specs.PartLists.{numbersOf, WellFormed}
-use Rattle.record_parts.specs.Changes.{partAdded, takenOut}
+use Rattle.record_parts.specs.Changes.{partAdded, takenOut, groupTakenOut}
 
--- a change of a part list: one part more, or the part at a position taken out
+-- a change of a part list: one part more, the part at a position taken out, or the parts of a group of positions
 pub data PartChange : Type 0 where
   addPart : PartChange
   takeOut : ℕ → PartChange
+  takeOutGroup : ℕ → PartChange
 
--- what a change hands back, by the definitions that `add` and `take_out` are held to
-abbrev pub apply : PartChange → PartList → Changed
-apply addPart list = partAdded list
-apply (takeOut position) list = takenOut list position
+-- the verdict in an answer, and the list after a change with the verdict on it
+abbrev pub verdictIn : Numbered → Verdict
+verdictIn (Number number) = Accepted
+verdictIn (Refused refusal) = verdict.Refused refusal
+
+abbrev pub listedAfter : Changed → Listed
+listedAfter change = record { list = change .list; verdict = verdictIn (change .answer) }
+
+-- what a change gives, by the definitions that `add`, `take_out` and `take_out_group` are held to
+abbrev pub apply : PartChange → PartList → Listed
+apply addPart list = listedAfter (partAdded list)
+apply (takeOut position) list = listedAfter (takenOut list position)
+apply (takeOutGroup group) list = groupTakenOut list group
 
 -- the number in an answer, where the change was made
 abbrev pub givenNumber : Numbered → List ℕ
 givenNumber (Number number) = number ∷ []
 givenNumber (Refused refusal) = []
 
--- the number issued in a change, and the number that left in it, if any
+-- some numbers, where the change was made
+abbrev pub ifMade : Verdict → List ℕ → List ℕ
+ifMade Accepted numbers = numbers
+ifMade (verdict.Refused refusal) numbers = []
+
+-- the number issued in a change, and the numbers that left in it, if any
 abbrev pub issuedIn : PartChange → PartList → List ℕ
 issuedIn addPart list = givenNumber (partAdded list .answer)
 issuedIn (takeOut position) list = []
+issuedIn (takeOutGroup group) list = []
 
 abbrev pub leftIn : PartChange → PartList → List ℕ
 leftIn addPart list = []
 leftIn (takeOut position) list = givenNumber (takenOut list position .answer)
+leftIn (takeOutGroup group) list = ifMade (groupTakenOut list group .verdict) (named (numbersOf list) group)
 
 -- the list at the end of a line; a refused change leaves it as it was, and the line goes on
 abbrev pub lastOf : List PartChange → PartList → PartList

@@ -23,10 +23,14 @@ pub record WellFormed (list : PartList) : Type 0 where
   pub rules : Rules (list .count) (list .mark) (numbersOf list)
   pub spare : list .numbers ≡ cellsOf (numbersOf list)
 
+-- A list with the verdict on it: where it is refused, another one in its place.
+abbrev pub listedOr : PartList → Verdict → PartList → Listed
+listedOr other (Refused refusal) list = record { list = other; verdict = Refused refusal }
+listedOr other Accepted list = record { list = list; verdict = Accepted }
+
 -- What is made of numbers and a mark: the list that has them; or the refusal, with a list of no parts.
 abbrev pub listing : Verdict → PartList → Listed
-listing (Refused refusal) list = record { list = listOf 0 []; verdict = Refused refusal }
-listing Accepted list = record { list = list; verdict = Accepted }
+listing verdict list = listedOr (listOf 0 []) verdict list
 
 unfoldable pub made : ℕ → List ℕ → Listed
 made mark numbers = listing (partListRefusal (length numbers) mark numbers) (listOf mark numbers)

@@ -1,10 +1,11 @@
-// The part list of a design record, with its mark (01, "Records on disk"): made from numbers, a part added, a part taken out.
+// The part list of a design record, with its mark (01, "Records on disk"; 02, §2): made from numbers, a part added, a part or a group of parts
+// taken out.
 ghost use mathlib.Core.Path.{_≡_};
-ghost use Prim.Native.Nat.{_+_, _≤_};
-ghost use Rattle.answer.specs.Outcome.{at};
-ghost use Rattle.record_numbers.specs.Numbering.{topNumber, highest};
+ghost use Prim.Native.Nat.{_+_, _^_, _≤_, _<_};
+ghost use Rattle.answer.specs.Outcome.{at, andThen};
+ghost use Rattle.record_numbers.specs.Numbering.{mostParts, topNumber, highest};
 ghost use Rattle.record_parts.specs.PartLists.{made};
-ghost use Rattle.record_parts.specs.Changes.{changed, brokenRefusal, partAdded, takenOut};
+ghost use Rattle.record_parts.specs.Changes.{changed, brokenRefusal, partAdded, listWithout, takenOut, takeOutGroupRefusal, groupTakenOut};
 use answer::Refusal;
 use answer::Verdict;
 
@@ -15,7 +16,7 @@ pub struct PartList {
     pub numbers: [u64; PartList::MOST_PARTS],
 }
 
-// What making a part list answers: the list, or why there is none, and then a list of no parts.
+// A part list with the verdict on it. Refused: the list as it was where one was to be changed, and a list of no parts where one was to be made.
 pub struct Listed {
     pub list: PartList,
     pub verdict: Verdict,
@@ -125,14 +126,63 @@ impl PartList {
         let numbers = self.numbers;
         let taken = numbers[position - 1];
         let group = numbers::power_of_two(position - 1);
-        let cells = record_numbers::cells(&numbers[..count], group);
         Changed {
-            list: PartList {
-                count: count - 1,
-                mark: self.mark,
-                numbers: cells,
-            },
+            list: self.without(group),
             answer: Numbered::Number(taken),
+        }
+    }
+
+    // Takes out the parts of a group, a mask of positions, so that the others move down past them, or hands the list back as it was.
+    pub fn take_out_group(self, group: usize) -> Listed
+        ensures { λ r. ⌜ r ≡ groupTakenOut self group ⌝ }
+    {
+        let verdict = self.group_verdict(group);
+        if let Verdict::Refused(refusal) = verdict {
+            return Listed {
+                list: self,
+                verdict: Verdict::Refused(refusal),
+            };
+        }
+        Listed {
+            list: self.without(group),
+            verdict: Verdict::Accepted,
+        }
+    }
+
+    // The verdict on a list and a group of its parts that is to leave.
+    fn group_verdict(self, group: usize) -> Verdict
+        ensures { λ r. ⌜ r ≡ andThen (brokenRefusal self) (takeOutGroupRefusal self group) ⌝ }
+    {
+        let verdict = self.judged();
+        if let Verdict::Refused(refusal) = verdict {
+            return Verdict::Refused(refusal);
+        }
+        let count = self.count;
+        if group == 0 {
+            return answer::refused(answer::EMPTY_GROUP, 0);
+        }
+        if numbers::power_of_two(count) <= group {
+            return answer::refused(answer::UNKNOWN_GROUP_PART, 0);
+        }
+        if masks::size(group) == count {
+            return answer::refused(answer::IN_EVERY_SET, 0);
+        }
+        Verdict::Accepted
+    }
+
+    // The list without the parts of a group of it: the others move together, and the mark stays.
+    fn without(self, group: usize) -> PartList
+        requires { ⌜ self .count ≤ mostParts ⌝ }
+        requires { ⌜ group < 2 ^ (self .count) ⌝ }
+        ensures { λ r. ⌜ r ≡ listWithout group self ⌝ }
+    {
+        let count = self.count;
+        let numbers = self.numbers;
+        let cells = record_numbers::cells(&numbers[..count], group);
+        PartList {
+            count: count - masks::size(group),
+            mark: self.mark,
+            numbers: cells,
         }
     }
 

@@ -10,7 +10,7 @@ use Rattle.theory_sums.specs.Sums.{indicator, sum, howMany}
 abbrev pub isPosition : ℕ → ℕ → Bool
 isPosition n i = leb 1 i && leb i n
 
--- how often a position occurs in a list
+-- how often a number occurs in a list
 abbrev pub times : ℕ → List ℕ → ℕ
 times i list = howMany (λ j. eqb i j) list
 

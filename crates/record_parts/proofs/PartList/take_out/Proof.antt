@@ -1,22 +1,19 @@
 -- `record_parts::PartList::take_out` meets its contract: at each `return` the tests that led there say which check refuses, if any. The position
--- is one of a list that keeps the rules, so one number fewer is in use, and the cells hold the others.
+-- is one of a list that keeps the rules, and the list is without the group of the part at it.
 -- Assumes nothing.
-use mathlib.Core.Path.{_≡_, sym, ap, ap₂, _∙_}
-use mathlib.Core.List.{List}
-use Prim.Native.Nat.{ℕ, _-_, _<_}
+use mathlib.Core.Path.{_≡_, sym, ap, ap₂, _∙_, subst}
+use Prim.Native.Nat.{ℕ, _-_, _^_, _<_}
 use native.Mathlib.Omega.{arith}
 use borrow.Author.Needs.{needs}
 use borrow.Author.Tests.{eq-eqb, ne-eqb, lt-ltb, le-ltb}
-use lib.ListN.{length, getD}
+use lib.ListN.{getD}
+use lib.Pow.{pow-lt}
 use lib.Seq.{getD-take}
 use Rattle.record_parts.specs.declared.PartList.{PartList}
 use Rattle.record_parts.specs.declared.Numbered.the-variants.{Number}
 use Rattle.record_parts.specs.PartLists.{numbersOf}
 use Rattle.numbers.proofs.Counts.{upTo16-given}
-use Rattle.record_numbers.specs.Numbering.{cellsOf, others}
-use Rattle.record_parts.specs.Changes.{changed, single, takeOutRefusal, withoutPart, takenOut}
-use Rattle.record_parts.proofs.LeftOut.{others-single}
-use Rattle.record_parts.proofs.InCells.{cells-few}
+use Rattle.record_parts.specs.Changes.{changed, single, takeOutRefusal, listWithout, withoutPart, takenOut}
 use Rattle.record_parts.proofs.Changing.{change-broken, change-refused, change-made, Usable, usable}
 use Rattle.record_parts.proofs.PartList.take_out.Statement.{statement}
 use Rattle.record_parts.proofs.PartList.take_out.Tie as tie
@@ -118,39 +115,28 @@ sub-power-of-two c = search needs
 power-of-two-requires : tie.Need-power-of-two-requires
 power-of-two-requires c κs = search needs
 
-array-share-prefix-numbers : tie.Need-array-share-prefix-numbers
-array-share-prefix-numbers c = let e = c .before .before in omega (arith, whole e .rules .few, whole e .all)
+-- the group of the part at the position
+group-given : (c : tie.After-power-of-two) → c .power-of-two .result ≡ single (position (c .before .before))
+group-given c =
+    let e = c .before .before in
+    c .power-of-two .ensures ∙ upTo16-given (position e - 1) (single (position e)) (omega (arith, within e, whole e .rules .few))
 
-slice-aggregate-cells : tie.Need-slice-aggregate-cells
-slice-aggregate-cells c = omega (arith, whole (c .before .before .before) .counted)
-
-cells-requires : tie.Need-cells-requires
-cells-requires c κs = search needs
-
-sub-t12 : tie.Need-sub-t12
-sub-t12 c = search needs
+without-requires : tie.Need-without-requires
+without-requires c κs =
+    let e = c .before .before in
+    (whole e .rules .few, subst (λ (g : ℕ). g < 2 ^ (self e .count)) (sym (group-given c)) (pow-lt (within e)))
 
 returns-5 : tie.Need-returns-5
 unfolding takenOut
 returns-5 c =
-    let p = c .before .before in
+    let p = c .before in
     let e = p .before .before in
     let t = e .before .before .before in
     let j = t .before .before in
     let list = self e in
-    let index = position e - 1 in
-    let left = others (numbersOf list) (single (position e)) in
-    let counts : list .count - 1 ≡ length left =
-    omega (arith, others-single index (numbersOf list) (omega (arith, within e, whole e .counted)), whole e .counted) in
-    let number : getD (list .numbers) index 0 ≡ getD (numbersOf list) index 0 =
-    sym (getD-take (list .count) (list .numbers) index 0 (within e)) in
-    let group : p .power-of-two .result ≡ single (position e) =
-    p .power-of-two .ensures ∙ upTo16-given index (single (position e)) (omega (arith, within e, whole e .rules .few)) in
-    let cells : c .cells .result ≡ cellsOf left =
-    c .cells .ensures ∙ cells-few (numbersOf list) (p .power-of-two .result) (omega (arith, whole e .counted, whole e .rules .few))
-    ∙ ap (λ (g : ℕ). cellsOf (others (numbersOf list) g)) group in
-    ap₂ (λ (count : ℕ) (taken : ℕ). changed (record { count = count; mark = list .mark; numbers = c .cells .result }) (Number taken)) counts number
-    ∙ ap (λ (cells : List ℕ). changed (record { count = length left; mark = list .mark; numbers = cells }) (Number (getD (numbersOf list) index 0))) cells
+    let number : getD (list .numbers) (position e - 1) 0 ≡ getD (numbersOf list) (position e - 1) 0 =
+    sym (getD-take (list .count) (list .numbers) (position e - 1) 0 (within e)) in
+    ap₂ (λ (new : PartList) (taken : ℕ). changed new (Number taken)) (c .without .ensures ∙ ap (λ (g : ℕ). listWithout g list) (group-given p)) number
     ∙ sym (change-made list (takeOutRefusal list (position e)) (withoutPart list (position e)) (sym (j .judged .ensures) ∙ t .enum-told .given .1)
     (simp (ne-eqb _ _ (e .before .before .if1 .left), le-ltb _ _ (e .before .if2 .left), ne-eqb _ _ (e .if3 .left))))
 
@@ -174,8 +160,5 @@ take-out-spec =
     array-read-taken
     sub-power-of-two
     power-of-two-requires
-    array-share-prefix-numbers
-    slice-aggregate-cells
-    cells-requires
-    sub-t12
+    without-requires
     returns-5)

@@ -1,0 +1,7 @@
+pub mod Orders
+pub mod Kept
+pub mod ByNames
+pub mod Shorter
+pub mod Series
+pub mod Room
+pub mod Examples

@@ -52,7 +52,7 @@ extern "C" {
  *   15  the group is empty
  *   16  the group has bit n or above
  *   17  the position is not 1 to n
- *   18  every set names the part
+ *   18  every set names the part, or some part of the group
  *   19  the record has 16 parts
  *   20  the record's mark is 2^48 - 1
  *   21  the bytes end before a number does; the length of the input
@@ -246,10 +246,18 @@ nahokipe_answer nahokipe_first_record(size_t n, const uint16_t *list, size_t lis
 nahokipe_answer nahokipe_add_part(const uint8_t *bytes, size_t bytes_len, uint8_t *buffer, size_t buffer_len);
 
 /*
- * The part at a position is held failed: sets that name it go, higher positions move down by one, part numbers and mark stay.
- * Refused: 17, 18.
+ * The part at a position is held failed: sets that name it go, higher positions move down by one, part numbers and mark stay. A buffer as
+ * long as the record is enough. Refused: 17, 18.
  */
 nahokipe_answer nahokipe_take_out(const uint8_t *bytes, size_t bytes_len, size_t position, uint8_t *buffer, size_t buffer_len);
+
+/*
+ * The parts of a group, given as a mask of the positions in the record that is read, are all held failed: sets that name one of them go,
+ * the other parts move down past all that left, part numbers and mark stay. The outcome, 18 or the new record, is that of taking the same
+ * parts out singly in any order, each at the position where its part number then stands, up to the first refusal. A buffer as long as the
+ * record is enough. Refused: 15, 16, 18.
+ */
+nahokipe_answer nahokipe_take_out_group(const uint8_t *bytes, size_t bytes_len, size_t group, uint8_t *buffer, size_t buffer_len);
 
 /* One path set more: the minimal sets of the old ones and the new one. Refused: 4, 5, with the place 0. */
 nahokipe_answer nahokipe_add_set(const uint8_t *bytes, size_t bytes_len, uint16_t set, uint8_t *buffer, size_t buffer_len);

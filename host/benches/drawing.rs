@@ -5,6 +5,7 @@
 mod baseline {
     mod closing;
     pub mod drawing;
+    mod numbers;
     // Tables and walks are for other benchmarks.
     #[allow(dead_code)]
     mod records;

@@ -4,8 +4,9 @@
 
 mod baseline {
     mod closing;
+    // The listed sets that reading hands on and the check of a table are for other benchmarks.
+    #[allow(dead_code)]
     pub mod records;
-    // The check of a table is for other benchmarks.
     #[allow(dead_code)]
     mod table;
 }

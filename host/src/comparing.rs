@@ -1,9 +1,9 @@
-//! What a call leaves of a lent buffer, compared cell by cell, and what is handed out of a record.
+//! What a call leaves of a lent buffer, compared cell by cell, changes of records among them, and what is handed out of a record.
 
 use crate::naive;
-use crate::naive_records::Reading;
+use crate::naive_records::{self as by_words, Change, Reading};
 use crate::records::RecordAnswer;
-use crate::Refusal;
+use crate::{add_part, add_set, take_out, take_out_group, Refusal};
 use std::fmt::Debug;
 
 /// What a call left: its answer, and the lent buffer afterwards.
@@ -53,11 +53,48 @@ pub fn same_into_all(call: Call, bytes: &[u8], expected: &Result<Vec<u8>, Refusa
 }
 
 /// What a call gives with a buffer that is always enough.
-pub fn given(call: Call, bytes: &[u8], enough: usize) -> Result<Vec<u8>, Refusal> {
+pub fn given(
+    call: impl Fn(&[u8], &mut [u8]) -> Result<usize, Refusal>,
+    bytes: &[u8],
+    enough: usize,
+) -> Result<Vec<u8>, Refusal> {
     let mut buffer = vec![0xA5; enough];
     let length = call(bytes, &mut buffer)?;
     buffer.truncate(length);
     Ok(buffer)
+}
+
+/// A change of a record, by the calculator.
+pub fn make(change: Change, bytes: &[u8], buffer: &mut [u8]) -> Result<usize, Refusal> {
+    match change {
+        Change::AddPart => add_part(bytes, buffer),
+        Change::TakeOut(position) => take_out(bytes, position, buffer),
+        Change::TakeOutGroup(group) => take_out_group(bytes, group, buffer),
+        Change::AddSet(set) => add_set(bytes, set, buffer),
+    }
+}
+
+/// A change into one buffer: the answer, every cell afterwards, and the buffer's front if the change is given.
+pub fn same_change_into(
+    (bytes, change): (&[u8], Change),
+    expected: &Result<Vec<u8>, Refusal>,
+    before: Vec<u8>,
+) -> Result<Vec<u8>, Refusal> {
+    let mut after = before.clone();
+    let answer = make(change, bytes, &mut after);
+    let about = || format!("{change:?} of {} bytes: {:02X?}", bytes.len(), front(bytes));
+    let left = (answer, after.clone());
+    same(left, naive::delivered(expected, &before), about);
+    answer.map(|length| after[..length].to_vec())
+}
+
+/// A change into buffers of every length that matters: the new record.
+pub fn same_change(bytes: &[u8], change: Change) -> Result<Vec<u8>, Refusal> {
+    let expected = by_words::changed(bytes, change);
+    for before in buffers(&expected, 9, [0xA5, 0x5A]) {
+        same_change_into((bytes, change), &expected, before).ok();
+    }
+    expected
 }
 
 /// The first cells, for a message.

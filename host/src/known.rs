@@ -1,5 +1,5 @@
-//! Records, vectors and texts that are refused, with the number and the place that documents 01 and 02 give them, and texts with their
-//! records: worked out by hand, and asked of the calculator and of the second implementation alike.
+//! Records, vectors and texts that are refused, with the number and the place that documents 01 and 02 give them, groups with what taking
+//! them out comes to, and texts with their records: worked out by hand, and asked of the calculator and of the second implementation alike.
 
 /// Bytes, and their refusal's number and place.
 pub type RefusedRecord = (&'static [u8], u8, usize);
@@ -60,6 +60,54 @@ pub const REFUSED_RECORDS: [RefusedRecord; 51] = [
     (&[1, 1, 1, 1], 21, 4),
     (&[1, 1, 1, 1, 0], 5, 4),
     (&[1, 1, 2, 1, 0], 23, 2),
+];
+
+/// A record's bytes, a group, and the bytes of the record without its parts, or the refusal's number and place.
+pub type TakenOutGroup = (&'static [u8], usize, Result<&'static [u8], (u8, usize)>);
+
+/// The bridge, whose sets are {1,4}, {2,3,4}, {2,5} and {1,3,5}.
+const BRIDGE: &[u8] = &[5, 5, 1, 2, 3, 4, 5, 4, 0x09, 0x0E, 0x12, 0x15];
+
+/// A controller with two pumps: the sets {1,2} and {1,3}.
+const PUMPS: &[u8] = &[3, 3, 1, 2, 3, 2, 3, 5];
+
+/// 15, 16 and 18, alone and before a later one, groups of one part and of several, and part numbers with gaps below a mark.
+pub const TAKEN_OUT_GROUPS: [TakenOutGroup; 31] = [
+    (&[1, 1, 1, 1, 1], 0, Err((15, 0))),
+    (&[1, 1, 1, 1, 1], 1, Err((18, 0))),
+    (&[1, 1, 1, 1, 1], 2, Err((16, 0))),
+    (&[1, 1, 1, 1, 1], 3, Err((16, 0))),
+    (&[1, 1, 1, 1, 1, 0], 0, Err((25, 5))),
+    (&[1, 1, 1, 1, 1, 0], 1, Err((25, 5))),
+    (&[1, 1, 1, 1, 1, 0], 2, Err((25, 5))),
+    (BRIDGE, 0, Err((15, 0))),
+    (BRIDGE, 32, Err((16, 0))),
+    (BRIDGE, 32 + 20, Err((16, 0))),
+    (BRIDGE, 32 + 3, Err((16, 0))),
+    (BRIDGE, (1 << 16) + 20, Err((16, 0))),
+    (BRIDGE, (1 << 63) + 20, Err((16, 0))),
+    (BRIDGE, usize::MAX, Err((16, 0))),
+    (BRIDGE, 3, Err((18, 0))),
+    (BRIDGE, 24, Err((18, 0))),
+    (BRIDGE, 31, Err((18, 0))),
+    (BRIDGE, 20, Ok(&[3, 5, 1, 2, 4, 1, 5])),
+    (BRIDGE, 5, Ok(&[3, 5, 2, 4, 5, 1, 5])),
+    (BRIDGE, 13, Ok(&[2, 5, 2, 5, 1, 3])),
+    (BRIDGE, 22, Ok(&[2, 5, 1, 4, 1, 3])),
+    (BRIDGE, 4, Ok(&[4, 5, 1, 2, 4, 5, 2, 5, 10])),
+    (BRIDGE, 16, Ok(&[4, 5, 1, 2, 3, 4, 2, 9, 14])),
+    (PUMPS, 1, Err((18, 0))),
+    (PUMPS, 2, Ok(&[2, 3, 1, 3, 1, 3])),
+    (PUMPS, 3, Err((18, 0))),
+    (PUMPS, 6, Err((18, 0))),
+    (PUMPS, 7, Err((18, 0))),
+    (&[3, 9, 2, 5, 7, 1, 4], 3, Ok(&[1, 9, 7, 1, 1])),
+    (&[3, 9, 2, 5, 7, 2, 2, 4], 5, Ok(&[1, 9, 5, 1, 1])),
+    (
+        &[10, 10, 1, 2, 3, 4, 5, 6, 7, 8, 9, 10, 1, 0x81, 0x04],
+        30,
+        Ok(&[6, 10, 1, 6, 7, 8, 9, 10, 1, 0x21]),
+    ),
 ];
 
 /// Kind, n and entries, and their refusal's number and place.

@@ -25,7 +25,7 @@ pub mod vectors;
 
 pub use records::{
     add_part, add_set, drawing_of_record, first_record, next_set, record_at, record_of_drawing,
-    stretch, table_of_record, take_out, walk, whole_record,
+    stretch, table_of_record, take_out, take_out_group, walk, whole_record,
 };
 pub use report::{refused_line, report};
 pub use vectors::{convert, read_sheet, vector_verdict, write_sheet};

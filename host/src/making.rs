@@ -21,6 +21,14 @@ pub fn random_set(seeded: &mut Seeded, n: usize) -> u16 {
     set.max(1) as u16
 }
 
+/// A group of some of n parts, not empty: up to four of them, or any set.
+pub fn random_group(seeded: &mut Seeded, n: usize) -> usize {
+    match seeded.between(0, 4) {
+        0 => random_set(seeded, n) as usize,
+        parts => (0..parts).fold(0, |group, _| group | 1 << seeded.between(0, n - 1)),
+    }
+}
+
 /// A list of n parts, with repeats and nested sets, in any order.
 pub fn random_list(seeded: &mut Seeded, n: usize) -> Vec<u16> {
     let most = seeded.pick(&[1, 3, 12, 60, 300]);
@@ -43,6 +51,14 @@ pub fn random_list(seeded: &mut Seeded, n: usize) -> Vec<u16> {
 pub fn random_table(seeded: &mut Seeded, n: usize) -> Vec<u8> {
     let list = random_list(seeded, n);
     table_of_sets(n, &list)
+}
+
+/// The tables of all semicoherent structures of n parts, n up to 4.
+pub fn machines(n: usize) -> Vec<Vec<u8>> {
+    (0..1_u32 << (1 << n))
+        .map(|number| number.to_le_bytes()[..naive::table_length(n)].to_vec())
+        .filter(|table| naive::table_verdict(n, table).is_ok())
+        .collect()
 }
 
 /// The table of a list that is accepted.

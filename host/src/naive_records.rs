@@ -300,6 +300,24 @@ impl Design {
         Ok(self)
     }
 
+    /// All parts of the group are held failed: sets naming any of them go.
+    pub fn take_out_group(mut self, group: usize) -> Result<Design, Refusal> {
+        if group == 0 {
+            return refused(15, 0);
+        }
+        let n = self.numbers.len();
+        if (n..usize::BITS as usize).any(|i| has(group, i)) {
+            return refused(16, 0);
+        }
+        let gone = named(&self.numbers, group as u16);
+        if self.sets.iter().all(|set| !set.is_disjoint(&gone)) {
+            return refused(18, 0);
+        }
+        self.sets.retain(|set| set.is_disjoint(&gone));
+        self.numbers.retain(|number| !gone.contains(number));
+        Ok(self)
+    }
+
     /// The minimal sets of the old ones and the new one. No old one holds another, so the new one alone is compared.
     pub fn add_set(mut self, set: u16) -> Result<Design, Refusal> {
         if (self.numbers.len()..16).any(|i| has(set as usize, i)) {
@@ -328,6 +346,7 @@ pub fn named(numbers: &[u64], set: u16) -> BTreeSet<u64> {
 pub enum Change {
     AddPart,
     TakeOut(usize),
+    TakeOutGroup(usize),
     AddSet(u16),
 }
 
@@ -337,6 +356,7 @@ pub fn changed(bytes: &[u8], change: Change) -> Result<Vec<u8>, Refusal> {
     let design = match change {
         Change::AddPart => design.add_part(),
         Change::TakeOut(position) => design.take_out(position),
+        Change::TakeOutGroup(group) => design.take_out_group(group),
         Change::AddSet(set) => design.add_set(set),
     };
     Ok(record_bytes(&design?.plain()))

@@ -129,6 +129,20 @@ pub fn take_out(bytes: &[u8], position: usize, buffer: &mut [u8]) -> Result<usiz
     answer.given()
 }
 
+/// The record without the parts of a group, a mask of its positions, which are all held failed, into `buffer`: the number of bytes written.
+pub fn take_out_group(bytes: &[u8], group: usize, buffer: &mut [u8]) -> Result<usize, Refusal> {
+    let answer = unsafe {
+        nahokipe_take_out_group(
+            bytes.as_ptr(),
+            bytes.len(),
+            group,
+            buffer.as_mut_ptr(),
+            buffer.len(),
+        )
+    };
+    answer.given()
+}
+
 /// The record with one path set more, into `buffer`: the number of bytes written.
 pub fn add_set(bytes: &[u8], set: u16, buffer: &mut [u8]) -> Result<usize, Refusal> {
     let answer = unsafe {
@@ -255,6 +269,14 @@ extern "C" {
         bytes: *const u8,
         bytes_len: usize,
         position: usize,
+        buffer: *mut u8,
+        buffer_len: usize,
+    ) -> Answer;
+
+    fn nahokipe_take_out_group(
+        bytes: *const u8,
+        bytes_len: usize,
+        group: usize,
         buffer: *mut u8,
         buffer_len: usize,
     ) -> Answer;

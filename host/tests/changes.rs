@@ -1,53 +1,20 @@
 //! Changes of records: the calculator against designs whose sets are named by part numbers, answers, places and every cell of the lent
 //! buffers, along lines of changes with refused ones among them.
 
-use nahokipe_host::comparing::{buffers, front, same};
-use nahokipe_host::making::{largest_record, random_plain, random_set};
+use nahokipe_host::comparing::{make, same_change as compare, same_change_into as compare_into};
+use nahokipe_host::making::{largest_record, random_group, random_plain, random_set};
 use nahokipe_host::making::{random_record, sets_of_size, spoilt_record};
-use nahokipe_host::naive::{self, in_table, refused, table_length, MOST_SETS};
+use nahokipe_host::naive::{in_table, refused, table_length, MOST_SETS};
 use nahokipe_host::naive_records::{self as by_words, named, record_bytes, Change, Design};
 use nahokipe_host::naive_records::{Plain, TOP_NUMBER};
 use nahokipe_host::seeded::Seeded;
-use nahokipe_host::{add_part, add_set, table_of_record, take_out, whole_record, Refusal};
+use nahokipe_host::{add_part, table_of_record, take_out, whole_record, Refusal};
 use std::collections::BTreeSet;
 
 const BRIDGE: [u8; 12] = [5, 5, 1, 2, 3, 4, 5, 4, 0x09, 0x0E, 0x12, 0x15];
 
 /// Up to so many parts all path sets are named and compared.
 const FEW_PARTS: usize = 8;
-
-// ---- comparing
-
-fn call(bytes: &[u8], change: Change, buffer: &mut [u8]) -> Result<usize, Refusal> {
-    match change {
-        Change::AddPart => add_part(bytes, buffer),
-        Change::TakeOut(position) => take_out(bytes, position, buffer),
-        Change::AddSet(set) => add_set(bytes, set, buffer),
-    }
-}
-
-/// A change into one buffer: the answer, and the buffer's front if the change is given.
-fn compare_into(
-    (bytes, change): (&[u8], Change),
-    expected: &Result<Vec<u8>, Refusal>,
-    before: Vec<u8>,
-) -> Result<Vec<u8>, Refusal> {
-    let mut after = before.clone();
-    let answer = call(bytes, change, &mut after);
-    let about = || format!("{change:?} of {} bytes: {:02X?}", bytes.len(), front(bytes));
-    let left = (answer, after.clone());
-    same(left, naive::delivered(expected, &before), about);
-    answer.map(|length| after[..length].to_vec())
-}
-
-/// A change into buffers of every length that matters: the new record.
-fn compare(bytes: &[u8], change: Change) -> Result<Vec<u8>, Refusal> {
-    let expected = by_words::changed(bytes, change);
-    for before in buffers(&expected, 9, [0xA5, 0x5A]) {
-        compare_into((bytes, change), &expected, before).ok();
-    }
-    expected
-}
 
 // ---- what a line of changes does to path sets
 
@@ -75,11 +42,8 @@ fn path_sets_after(before: &PathSets, old: &Plain, change: Change) -> PathSets {
             let more: PathSets = before.iter().map(with).collect();
             before.union(&more).cloned().collect()
         }
-        Change::TakeOut(position) => {
-            let gone = old.numbers[position - 1];
-            let stays = |set: &&Vec<u64>| !set.contains(&gone);
-            before.iter().filter(stays).cloned().collect()
-        }
+        Change::TakeOut(position) => without(before, &[old.numbers[position - 1]].into()),
+        Change::TakeOutGroup(group) => without(before, &named(&old.numbers, group as u16)),
         Change::AddSet(set) => {
             let new = named(&old.numbers, set);
             let all = (0..1_u32 << old.numbers.len()).map(|set| named(&old.numbers, set as u16));
@@ -90,13 +54,21 @@ fn path_sets_after(before: &PathSets, old: &Plain, change: Change) -> PathSets {
     }
 }
 
+/// The path sets that have none of these parts.
+fn without(before: &PathSets, gone: &BTreeSet<u64>) -> PathSets {
+    let stays = |set: &&Vec<u64>| !set.iter().any(|number| gone.contains(number));
+    before.iter().filter(stays).cloned().collect()
+}
+
 // ---- lines of changes
 
-/// A line: the record that it has come to, and the part numbers that are or were in use.
+/// A line: the record that it has come to, the part numbers that are or were in use, which refusals were seen, and how often several
+/// parts left together.
 struct Line {
     bytes: Vec<u8>,
     issued: BTreeSet<u64>,
     refusals: BTreeSet<u8>,
+    left_together: usize,
 }
 
 impl Line {
@@ -106,6 +78,7 @@ impl Line {
             bytes,
             issued: numbers.into_iter().collect(),
             refusals: BTreeSet::new(),
+            left_together: 0,
         }
     }
 
@@ -125,6 +98,7 @@ impl Line {
         self.bytes = new;
         let new = self.plain();
         self.numbers_are_new(&old, &new, change);
+        self.left_together += (new.numbers.len() + 1 < old.numbers.len()) as usize;
         if let Some(before) = sets_before {
             let expected = path_sets_after(&before, &old, change);
             assert_eq!(path_sets(&self.bytes), expected, "{change:?}, {old:?}");
@@ -151,10 +125,12 @@ impl Line {
 
 /// A change of a record of n parts; some are refused.
 fn random_change(seeded: &mut Seeded, n: usize, growth: usize) -> Change {
-    match seeded.between(0, 7 + growth) {
-        0..=2 => Change::TakeOut(seeded.between(0, n + 1)),
-        3..=5 => Change::AddSet(random_set(seeded, n)),
-        6 => Change::AddSet(seeded.pick(&[0, 1 << n.min(15), u16::MAX, 1])),
+    match seeded.between(0, 11 + growth) {
+        0..=1 => Change::TakeOut(seeded.between(0, n + 1)),
+        2..=3 => Change::TakeOutGroup(random_group(seeded, n)),
+        4 => Change::TakeOutGroup(seeded.pick(&[0, 1 << n, usize::MAX, 1])),
+        5..=7 => Change::AddSet(random_set(seeded, n)),
+        8 => Change::AddSet(seeded.pick(&[0, 1 << n.min(15), u16::MAX, 1])),
         _ => Change::AddPart,
     }
 }
@@ -166,11 +142,12 @@ fn random_room(seeded: &mut Seeded, bytes: &[u8]) -> usize {
     seeded.pick(&[enough, enough, enough, enough, enough, little])
 }
 
-/// Lines of 200 changes each, from first records and from any others; those that grow reach 16 parts. Every refusal of a change is seen.
+/// Lines of 200 changes each, from first records and from any others; those that grow reach 16 parts. Every refusal of a change is seen,
+/// and several parts leave together.
 #[test]
 fn lines_of_changes() {
     let mut seeded = Seeded::new(160);
-    let mut seen = BTreeSet::new();
+    let (mut seen, mut left_together) = (BTreeSet::new(), 0);
     for number in 0..48 {
         let parts = seeded.between(1, 6);
         let mut line = Line::from(first_of_a_line(&mut seeded, parts, number));
@@ -182,8 +159,11 @@ fn lines_of_changes() {
             line.go_on(change, room);
         }
         seen.append(&mut line.refusals);
+        left_together += line.left_together;
     }
-    assert_eq!(seen, BTreeSet::from([4, 5, 11, 17, 18, 19, 20]));
+    let expected = BTreeSet::from([4, 5, 11, 15, 16, 17, 18, 19, 20]);
+    assert_eq!(seen, expected);
+    assert!(left_together > 200, "{left_together}");
 }
 
 /// A record for a line to begin with; of every six one has a mark near the top, and one near 2^32.
@@ -212,6 +192,21 @@ fn two_lines_from_one_record() {
     second.go_on(Change::TakeOut(5), 99);
     second.go_on(Change::AddPart, 99);
     assert_eq!(second.plain().numbers, [1, 2, 3, 4, 7]);
+}
+
+/// Numbers that left together do not come back, though the highest one is among them.
+#[test]
+fn numbers_that_left_together() {
+    let mut line = Line::from(BRIDGE.to_vec());
+    line.go_on(Change::TakeOutGroup(0b10100), 12);
+    assert_eq!(line.plain().numbers, [1, 2, 4]);
+    line.go_on(Change::AddPart, 99);
+    line.go_on(Change::AddPart, 99);
+    assert_eq!(line.plain().numbers, [1, 2, 4, 6, 7]);
+    line.go_on(Change::TakeOutGroup(0b11010), 99);
+    line.go_on(Change::AddPart, 99);
+    assert_eq!(line.plain().numbers, [1, 4, 8]);
+    assert_eq!(line.left_together, 2);
 }
 
 // ---- single changes
@@ -260,9 +255,11 @@ fn changes_of_damaged_records() {
             seen.extend(wrong.map(|refusal| refusal.number));
             let set = seeded.pick(&[0, 1, u16::MAX]);
             let position = seeded.pick(&[0, 1, n, n + 1]);
+            let group = seeded.pick(&[0, 1, 1 << n, usize::MAX]);
             let changes = [
                 Change::AddPart,
                 Change::TakeOut(position),
+                Change::TakeOutGroup(group),
                 Change::AddSet(set),
             ];
             for change in changes {
@@ -284,6 +281,8 @@ fn changes_of_truncated_records() {
         Change::AddPart,
         Change::TakeOut(0),
         Change::TakeOut(1),
+        Change::TakeOutGroup(0),
+        Change::TakeOutGroup(1),
         Change::AddSet(0),
         Change::AddSet(1),
     ];
@@ -444,7 +443,7 @@ fn examples() {
     ];
     for (bytes, change, expected) in cases {
         let mut buffer = [0xA5; 14];
-        let answer = call(bytes, change, &mut buffer);
+        let answer = make(change, bytes, &mut buffer);
         let after = answer.map(|length| &buffer[..length]);
         let expected = expected.map_err(|number| Refusal { number, place: 0 });
         assert_eq!(after, expected, "{bytes:02X?}, {change:?}");

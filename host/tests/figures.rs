@@ -2,8 +2,8 @@
 //! and every cell of the lent buffers.
 
 use nahokipe_host::comparing::{buffers, front, same};
-use nahokipe_host::making::{flipped, random_table, sets_of_size, table_of_sets};
-use nahokipe_host::naive::{self, refused, structure_of, table_length};
+use nahokipe_host::making::{flipped, machines, random_table, sets_of_size, table_of_sets};
+use nahokipe_host::naive::{self, refused, structure_of};
 use nahokipe_host::naive_figures::{self as by_formulas, all_delivered, binomial, factorial};
 use nahokipe_host::naive_figures::{failure_orders, listed, Buffers, Figures, Listed};
 use nahokipe_host::seeded::Seeded;
@@ -168,14 +168,6 @@ fn orders_of_every_machine_of_up_to_four_parts() {
             compare_with_orders(n, &table, &orders);
         }
     }
-}
-
-/// The tables of all semicoherent structures of n parts, n up to 4.
-fn machines(n: usize) -> Vec<Vec<u8>> {
-    (0..1_u32 << (1 << n))
-        .map(|number| number.to_le_bytes()[..table_length(n)].to_vec())
-        .filter(|table| naive::table_verdict(n, table).is_ok())
-        .collect()
 }
 
 #[test]

@@ -266,6 +266,27 @@ static void test_changes(void)
     expect_bytes("add_set, part 6", buffer, wider, sizeof wider);
 }
 
+/* Positions 3 and 5 taken out together, and groups that are refused and leave the buffer as it was, before and behind that. */
+static void test_groups(void)
+{
+    static const uint8_t untouched[8] = {0xA5, 0xA5, 0xA5, 0xA5, 0xA5, 0xA5, 0xA5, 0xA5};
+    static const uint8_t taken[8] = {3, 5, 1, 2, 4, 1, 0x05, 0xA5};
+    uint8_t buffer[8];
+
+    memset(buffer, 0xA5, sizeof buffer);
+    expect("take_out_group, no group", nahokipe_take_out_group(record, 12, 0, buffer, 8), 15, 0);
+    expect("take_out_group, part 6", nahokipe_take_out_group(record, 12, 0x23, buffer, 8), 16, 0);
+    expect("take_out_group, bit 63", nahokipe_take_out_group(record, 12, ((size_t)1 << 63) + 0x14, buffer, 8), 16, 0);
+    expect("take_out_group, every set names a part", nahokipe_take_out_group(record, 12, 0x03, buffer, 0), 18, 0);
+    expect("take_out_group, short buffer", nahokipe_take_out_group(record, 12, 0x14, buffer, 6), 11, 7);
+    expect_bytes("take_out_group, refused", buffer, untouched, sizeof buffer);
+    expect("take_out_group", nahokipe_take_out_group(record, 12, 0x14, buffer, 8), 0, 7);
+    expect_bytes("take_out_group", buffer, taken, sizeof buffer);
+    expect("take_out_group, all parts", nahokipe_take_out_group(record, 12, 0x1F, buffer, 8), 18, 0);
+    expect("take_out_group, cut off", nahokipe_take_out_group(record, 11, 0, buffer, 8), 21, 11);
+    expect_bytes("take_out_group, refused behind that", buffer, taken, sizeof buffer);
+}
+
 /* Part numbers as C takes them: at a mark of 2^32 - 1 they go on, and at 2^48 - 1 they end. */
 static void test_part_numbers(void)
 {
@@ -358,6 +379,7 @@ int main(void)
     test_sheets();
     test_records();
     test_changes();
+    test_groups();
     test_part_numbers();
     test_drawings();
     test_report();

@@ -1,9 +1,9 @@
 //! The naive records, changes and reports against document 01's examples and against each other: what the other tests compare with must
 //! be right.
 
-use nahokipe_host::known::REFUSED_RECORDS;
-use nahokipe_host::making::{largest_record, random_record, sets_of_size};
-use nahokipe_host::naive::{holds, refused};
+use nahokipe_host::known::{REFUSED_RECORDS, TAKEN_OUT_GROUPS};
+use nahokipe_host::making::{largest_record, random_group, random_record, sets_of_size};
+use nahokipe_host::naive::{has, holds, refused};
 use nahokipe_host::naive_records::*;
 use nahokipe_host::naive_report::{printed, refused_line};
 use nahokipe_host::seeded::Seeded;
@@ -95,10 +95,37 @@ fn examples_of_changes() {
         (&[1, 1, 1, 1, 1, 0], Change::AddPart, Err((25, 5))),
     ];
     for (bytes, change, expected) in cases {
-        let expected = expected
-            .map(<[u8]>::to_vec)
-            .map_err(|(number, place)| Refusal { number, place });
-        assert_eq!(changed(bytes, change), expected, "{bytes:02X?}, {change:?}");
+        changes_to(bytes, change, expected);
+    }
+}
+
+#[test]
+fn examples_of_groups() {
+    for (bytes, group, expected) in TAKEN_OUT_GROUPS {
+        changes_to(bytes, Change::TakeOutGroup(group), expected);
+    }
+}
+
+fn changes_to(bytes: &[u8], change: Change, expected: Result<&[u8], (u8, usize)>) {
+    let expected = expected
+        .map(<[u8]>::to_vec)
+        .map_err(|(number, place)| Refusal { number, place });
+    assert_eq!(changed(bytes, change), expected, "{bytes:02X?}, {change:?}");
+}
+
+/// A group is its parts singly, from the last position to the first so that none of them moves.
+#[test]
+fn groups_are_their_parts_singly() {
+    let mut seeded = Seeded::new(112);
+    for n in 1..=16 {
+        for _ in 0..12 {
+            let bytes = random_record(&mut seeded, n);
+            let design = Design::of(&whole_record(&bytes).expect("an accepted record").plain);
+            let group = random_group(&mut seeded, n);
+            let mut positions = (1..=n).rev().filter(|&i| has(group, i - 1));
+            let singly = positions.try_fold(design.clone(), Design::take_out);
+            assert!(design.take_out_group(group) == singly, "{group:#b} of {n}");
+        }
     }
 }
 

@@ -1,14 +1,14 @@
 //! Part numbers up to 2^48-1 (document 02, §7): records whose numbers take four to seven groups, records that were accepted while part
 //! numbers reached 2^32-1, and lines of changes that cross 2^32 and that end at the top number.
 
-use nahokipe_host::comparing::handed_out;
+use nahokipe_host::comparing::{given, handed_out, make};
 use nahokipe_host::making::{damaged_record, random_record, random_set};
 use nahokipe_host::naive::{self, refused, table_length};
 use nahokipe_host::naive_records::{self as by_words, former_record, record_bytes, Change, Plain};
 use nahokipe_host::naive_records::{Design, TOP_NUMBER};
 use nahokipe_host::records::whole_record_answer;
 use nahokipe_host::seeded::Seeded;
-use nahokipe_host::{add_part, add_set, table_of_record, take_out, whole_record, Refusal};
+use nahokipe_host::{table_of_record, whole_record, Refusal};
 use std::collections::BTreeSet;
 
 /// Where part numbers ended until then.
@@ -168,14 +168,8 @@ fn changes_as_before(bytes: &[u8], position: usize, set: u16) {
 
 /// The record that a change writes.
 fn changed(bytes: &[u8], change: Change) -> Result<Vec<u8>, Refusal> {
-    let mut buffer = vec![0xA5; bytes.len() + 20];
-    let length = match change {
-        Change::AddPart => add_part(bytes, &mut buffer)?,
-        Change::TakeOut(position) => take_out(bytes, position, &mut buffer)?,
-        Change::AddSet(set) => add_set(bytes, set, &mut buffer)?,
-    };
-    buffer.truncate(length);
-    Ok(buffer)
+    let call = |bytes: &[u8], buffer: &mut [u8]| make(change, bytes, buffer);
+    given(call, bytes, bytes.len() + 20)
 }
 
 /// A line from a mark: a part is added and the one before it taken out, until no number is left or so many are issued.
@@ -209,6 +203,29 @@ fn lines_across_the_edges() {
         let (issued, refusal) = issued_from(edge - 6, 12);
         assert_eq!(issued, (edge - 5..edge + 7).collect::<Vec<u64>>());
         assert_eq!(refusal, None);
+    }
+}
+
+/// The two highest numbers leave together, at each edge: the mark stays and the next number is above both; at 2^48-1 there is none.
+#[test]
+fn the_highest_numbers_leave_together() {
+    let plain = |numbers: &[u64], mark| Plain {
+        mark,
+        numbers: numbers.to_vec(),
+        sets: vec![1],
+    };
+    let edges = [1 << 7, 1 << 28, 1 << 32, 1 << 35, TOP_NUMBER + 1];
+    for top in edges.map(|edge| edge - 1) {
+        let bytes = record_bytes(&plain(&[1, top - 1, top], top));
+        let left = record_bytes(&plain(&[1], top));
+        let answer = changed(&bytes, Change::TakeOutGroup(0b110));
+        assert_eq!(answer.as_ref(), Ok(&left));
+        let next = changed(&left, Change::AddPart);
+        let expected = match top {
+            TOP_NUMBER => refused(20, 0),
+            _ => Ok(record_bytes(&plain(&[1, top + 1], top + 1))),
+        };
+        assert_eq!(next, expected);
     }
 }
 

@@ -2,7 +2,7 @@
 //! definition; answers, places and every cell of the lent buffers.
 
 use nahokipe_host::comparing::{buffers, front, same};
-use nahokipe_host::making::{flipped, random_table, sets_of_size, table_of_sets};
+use nahokipe_host::making::{flipped, machines, random_table, sets_of_size, table_of_sets};
 use nahokipe_host::naive::{self, structure_of};
 use nahokipe_host::naive_figures::{factorial, failure_orders, figures_of};
 use nahokipe_host::naive_shares as by_formulas;
@@ -88,17 +88,12 @@ fn compare_listed(n: usize, table: &[u8], orders: &[Vec<usize>]) {
 fn every_group_of_every_structure_of_up_to_four_parts() {
     for n in 1..=4 {
         let orders = failure_orders(n);
-        let mut structures = 0;
-        for bits in 0..1_u64 << (1 << n) {
-            let length = naive::table_length(n);
-            let table = bits.to_le_bytes()[..length].to_vec();
-            if naive::table_verdict(n, &table).is_ok() {
-                compare_listed(n, &table, &orders);
-                structures += 1;
-            }
-        }
+        let machines = machines(n);
         // The monotone set functions less the two constant ones.
-        assert_eq!(structures, [1, 4, 18, 166][n - 1]);
+        assert_eq!(machines.len(), [1, 4, 18, 166][n - 1]);
+        for table in machines {
+            compare_listed(n, &table, &orders);
+        }
     }
 }
 

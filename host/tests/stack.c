@@ -35,6 +35,7 @@ static void table_of_record(void) { nahokipe_table_of_record(record, length, oth
 static void drawing_of_record(void) { drawing_length = nahokipe_drawing_of_record(record, length, drawing, DRAWN).value; }
 static void record_of_drawing(void) { read_length = nahokipe_record_of_drawing(drawing, drawing_length, written, BYTES).value; }
 static void take_out(void) { nahokipe_take_out(record, length, 3, written, BYTES); }
+static void take_out_group(void) { nahokipe_take_out_group(record, length, 0x0C, written, BYTES); }
 static void add_set(void) { nahokipe_add_set(record, length, 0x7F, written, BYTES); }
 static void add_part(void) { nahokipe_add_part(written, nahokipe_take_out(record, length, 3, written, BYTES).value, record, BYTES); }
 static void report(void) { nahokipe_report(record, length, other, sizeof other, text, sizeof text); }
@@ -68,7 +69,7 @@ int main(void) {
         {"shares_by_both_routes", both_routes}, {"reliability", reliability}, {"convert", convert}, {"write_sheet", write_sheet},
         {"read_sheet", read_sheet}, {"first_record", first_record}, {"whole_record", whole_record},
         {"table_of_record", table_of_record}, {"drawing_of_record", drawing_of_record}, {"record_of_drawing", record_of_drawing},
-        {"take_out", take_out}, {"add_set", add_set}, {"report", report}, {"add_part", add_part},
+        {"take_out", take_out}, {"take_out_group", take_out_group}, {"add_set", add_set}, {"report", report}, {"add_part", add_part},
     };
     const char *largest = "";
     size_t most = 0, count = 0, bare;

@@ -2,6 +2,7 @@
 //! with 64 sets to a word, and lines are written where they go.
 
 use super::closing::{carry, trimmed};
+use super::numbers::{number_length, write_number};
 use super::records::read;
 use super::table::{refused, word_count, Words};
 use nahokipe_host::Refusal;
@@ -14,7 +15,7 @@ pub fn record_of_drawing(text: &[u8], buffer: &mut [u8]) -> Result<usize, Refusa
     let minimal = trimmed(n, &works);
     let used = &minimal[..word_count(n)];
     let count = used.iter().map(|word| word.count_ones() as usize).sum();
-    let needed = 2 + n + number_length(count) + sets_length(used);
+    let needed = 2 + n + number_length(count as u64) + sets_length(used);
     if buffer.len() < needed {
         return refused(11, needed);
     }
@@ -117,15 +118,11 @@ fn number_before(bytes: &[u8]) -> Option<(usize, &[u8])> {
 
 // ---- writing a record
 
-/// The bytes of a number below 2^21 in groups of seven bits.
-fn number_length(number: usize) -> usize {
-    1 + (number >= 1 << 7) as usize + (number >= 1 << 14) as usize
-}
-
 /// The bytes of all sets: 64 to a word, of which all have the same length.
 fn sets_length(words: &[u64]) -> usize {
-    let length =
-        |(index, word): (usize, &u64)| word.count_ones() as usize * number_length(64 * index);
+    let length = |(index, word): (usize, &u64)| {
+        word.count_ones() as usize * number_length(64 * index as u64)
+    };
     words.iter().enumerate().map(length).sum()
 }
 
@@ -137,26 +134,15 @@ fn write_record(n: usize, count: usize, minimal: &[u64], buffer: &mut [u8]) {
         *cell = number;
     }
     let mut at = 2 + n;
-    at += write_number(count, &mut buffer[at..]);
+    at += write_number(count as u64, &mut buffer[at..]);
     for (index, &word) in minimal.iter().enumerate() {
         let mut left = word;
         while left != 0 {
-            let set = 64 * index + left.trailing_zeros() as usize;
+            let set = 64 * index as u64 + left.trailing_zeros() as u64;
             at += write_number(set, &mut buffer[at..]);
             left &= left - 1;
         }
     }
-}
-
-/// A number below 2^21 in groups of seven bits: how many bytes it takes.
-#[inline(always)]
-fn write_number(number: usize, buffer: &mut [u8]) -> usize {
-    let length = number_length(number);
-    for (group, cell) in buffer[..length].iter_mut().enumerate() {
-        let more = if group + 1 < length { 0x80 } else { 0 };
-        *cell = (number >> (7 * group)) as u8 & 0x7F | more;
-    }
-    length
 }
 
 // ---- writing a text

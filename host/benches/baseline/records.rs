@@ -10,9 +10,10 @@ use nahokipe_host::Refusal;
 const SHORT: u64 = (1 << 32) - 1;
 const LONG: u64 = (1 << 48) - 1;
 
-/// A record that is accepted, and its path sets.
+/// A record that is accepted, the sets that it lists, and its path sets.
 pub struct Read {
     pub record: Record,
+    pub listed: Box<Words>,
     pub works: Box<Words>,
 }
 
@@ -23,7 +24,7 @@ pub fn whole_record(bytes: &[u8]) -> Result<Record, Refusal> {
 
 /// The table of a record.
 pub fn table_of_record(bytes: &[u8], table: &mut [u8]) -> Result<usize, Refusal> {
-    let Read { record, works } = read(bytes)?;
+    let Read { record, works, .. } = read(bytes)?;
     let needed = table_length(record.numbers.len());
     if table.len() < needed {
         return refused(11, needed);
@@ -60,7 +61,11 @@ pub fn read(bytes: &[u8]) -> Result<Read, Refusal> {
         return refused(25, end);
     }
     record.length = end - record.offset;
-    Ok(Read { record, works })
+    Ok(Read {
+        record,
+        listed,
+        works,
+    })
 }
 
 /// n, the mark, the part numbers and the count of sets.

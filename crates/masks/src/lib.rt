@@ -1,5 +1,7 @@
-// One set of parts as a mask: its size, whether it has a part of a group, and what is left of it without a group.
+// One set of parts as a mask: its size, whether it has a part of a group, what is left of it without a group, and the checks of a group.
+use answer::Verdict;
 ghost use mathlib.Core.Path.{_≡_};
+ghost use Rattle.answer.specs.Checks.{groupRefusal};
 ghost use Rattle.theory_sets.specs.Masks.{size as sizeOf};
 ghost use Rattle.masks.specs.Groups.{meets, squeezed};
 
@@ -34,4 +36,19 @@ pub fn squeezed(set: u16, group: usize) -> u16
         skipped /= 2;
     }
     (kept + rest * unit) as u16
+}
+
+// The verdict on a group of n parts.
+pub fn group_verdict(n: usize, group: usize) -> Verdict
+    ensures { λ r. ⌜ r ≡ groupRefusal n group Verdict.Accepted ⌝ }
+{
+    if group == 0 {
+        return answer::refused(answer::EMPTY_GROUP, 0);
+    }
+    if n < 64 {
+        if 0 < group >> n {
+            return answer::refused(answer::UNKNOWN_GROUP_PART, 0);
+        }
+    }
+    Verdict::Accepted
 }

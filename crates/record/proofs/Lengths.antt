@@ -2,8 +2,8 @@
 -- 12,870 sets.
 -- Assumes nothing.
 use mathlib.Core.Path.{_≡_, refl, subst}
-use mathlib.Core.List.{List, [], _∷_, _++_, List·Memᴰ, List·Memᴰ·head, List·Memᴰ·tail}
-use Prim.Native.Nat.{ℕ, zero, suc, _^_, _≤_, _<_}
+use mathlib.Core.List.{List, [], _∷_, List·Memᴰ, List·Memᴰ·head, List·Memᴰ·tail}
+use Prim.Native.Nat.{ℕ, zero, suc, _+_, _^_, _≤_, _<_}
 use native.Mathlib.Omega.{arith}
 use lib.ListN.{length, getD, length-append}
 use lib.Pow.{pow-mono}
@@ -27,15 +27,17 @@ set-small [] small i = omega arith
 set-small (x ∷ sets) small zero = small x (List·Memᴰ·head refl)
 set-small (x ∷ sets) small (suc i) = set-small sets (λ a m. small a (List·Memᴰ·tail m)) i
 
+-- a record's bytes, piece by piece: n, the mark, the part numbers, the count of sets and the sets
+pub record-sum : (d : Design) → length (recordBytes d)
+    ≡ length (bytesOf (d .parts .count)) + length (bytesOf (d .parts .mark)) + length (formsOf (numbersOf (d .parts))) + length (bytesOf (length (d .sets))) + length (formsOf (d .sets))
+unfolding recordBytes headBytes partsBytes
+record-sum d = simp length-append (omega arith)
+
 -- what is written
 pub record-longest : (d : Design) → DesignRules d → length (recordBytes d) ≤ 38732
-unfolding recordBytes headBytes partsBytes
 record-longest d r =
     let parts = r .parts .rules in
     let numbers : List ℕ = numbersOf (d .parts) in
-    let n : List ℕ = bytesOf (d .parts .count) in
-    let mark : List ℕ = bytesOf (d .parts .mark) in
-    let count : List ℕ = bytesOf (length (d .sets)) in
     let inside : 2 ^ d .parts .count ≤ 2 ^ 16 = pow-mono (parts .few) in
     let one = bytes-at-most 1 (d .parts .count) (omega arith) (omega (arith, parts .few)) in
     let seven = bytes-at-most 7 (d .parts .mark) (omega arith) (omega (arith, parts .top)) in
@@ -43,16 +45,7 @@ record-longest d r =
     let two = bytes-at-most 2 (length (d .sets)) (omega arith) (omega (arith, r .sets .most)) in
     let small = set-small (d .sets) (λ a m. omega (arith, r .sets .within a m .0)) in
     let sets = forms-most 3 (d .sets) (λ i. bytes-at-most 3 (getD (d .sets) i 0) (omega arith) (omega (arith, small i))) in
-    omega (
-      arith,
-      well-formed-counted (d .parts) (r .parts),
-      parts .few,
-      r .sets .most,
-      length-append mark (formsOf numbers),
-      length-append n (mark ++ formsOf numbers),
-      length-append (n ++ (mark ++ formsOf numbers)) count,
-      length-append ((n ++ (mark ++ formsOf numbers)) ++ count) (formsOf (d .sets)),
-    )
+    omega (arith, record-sum d, well-formed-counted (d .parts) (r .parts), parts .few, r .sets .most)
 
 -- and what is accepted
 pub accepted-longest : (bytes : List ℕ) → Bytes bytes → (d : Design) (next : ℕ) → wholeRecord bytes ≡ found d next → length bytes ≤ 38732

@@ -17,6 +17,7 @@ use Rattle.record_parts.proofs.WellFormed.{numbers-of-list}
 use Rattle.record.specs.Records.{design}
 use Rattle.record_head.specs.HeadingBytes.{partsBytes, headBytes}
 use Rattle.record.specs.RecordBytes.{recordBytes}
+use Rattle.record.proofs.Lengths.{record-sum}
 
 pub forms-append : (front behind : List ℕ) → formsOf (front ++ behind) ≡ formsOf front ++ formsOf behind
 unfolding formsOf
@@ -74,4 +75,5 @@ record-pieces mark numbers sets =
 
 pub record-length : (mark : ℕ) (numbers sets : List ℕ) → length (recordBytes (design (listOf mark numbers) sets))
     ≡ length (bytesOf (length numbers)) + length (bytesOf mark) + length (formsOf numbers) + length (bytesOf (length sets)) + length (formsOf sets)
-record-length mark numbers sets = ap length (record-pieces mark numbers sets) ∙ simp length-append
+record-length mark numbers sets =
+    omega (arith, record-sum (design (listOf mark numbers) sets), ap (λ (l : List ℕ). length (formsOf l)) (numbers-of-list mark numbers))

@@ -19,11 +19,10 @@ use Rattle.record.specs.Records.{Design, design}
 use Rattle.record.specs.RecordBytes.{DesignRules}
 use Rattle.record_lines.specs.Changes.{keep, every, designWithout}
 use Rattle.record_lines.specs.Names.{namedSets, names, namesSome}
-use Rattle.record_lines.proofs.Keeping.{keep-same, some-intro, some-elim}
-use Rattle.record_lines.proofs.Names.{named-once, names-intro, names-elim, names-meet}
+use Rattle.record_lines.proofs.Keeping.{keep-same, some-intro, some-elim, keep-keep, keep-all, every-same, every-map}
+use Rattle.record_lines.proofs.Names.{named-once, names-intro, names-elim, names-meet, none-of-numbers, names-none}
 use Rattle.record_lines.proofs.NamedChanges.{without-numbers, without-named}
 use Rattle.record_lines.proofs.Rules.{without-rules}
-use Rattle.record_groups.proofs.Kept.{keep-keep, keep-all, every-same, every-map, none-of-numbers, names-none}
 
 -- one design is another without the parts of these numbers
 pub record Without (gone : List ℕ) (old new : Design) : Type 0 where

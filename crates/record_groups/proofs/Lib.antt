@@ -1,5 +1,4 @@
 pub mod Orders
-pub mod Kept
 pub mod ByNames
 pub mod Shorter
 pub mod Series

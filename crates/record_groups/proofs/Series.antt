@@ -40,12 +40,11 @@ use Rattle.record_lines.specs.Changes.{takeOut, takeOutGroup, every, designWith
 use Rattle.record_lines.specs.Names.{namedSets, names, namesSome}
 use Rattle.record_lines.specs.Records.{changedRead, changedRecord}
 use Rattle.record_lines.specs.Lines.{Call, outcomeOf, recordAfter, after}
-use Rattle.record_lines.proofs.Keeping.{every-intro, every-elim}
-use Rattle.record_lines.proofs.Names.{names-elim}
+use Rattle.record_lines.proofs.Keeping.{every-intro, every-elim, keep-intro, every-kept, every-same}
+use Rattle.record_lines.proofs.Names.{names-elim, names-either}
 use Rattle.record_lines.proofs.Refusals.{position-passed}
 use Rattle.record_groups.specs.Series.{Result, verdictOf, resultOf, NotShort, positionFrom, positionIn, Leaving, leaving, callFor, ending, seriesFrom, series, Reordered}
 use Rattle.record_groups.proofs.Orders.{Apart, order-apart, order-same}
-use Rattle.record_groups.proofs.Kept.{keep-intro, every-kept, every-same, names-either}
 use Rattle.record_groups.proofs.ByNames.{Without, without-none, without-group, without-then, without-order, without-once, same-namesSome, every-named}
 
 -- ---- where a number stands

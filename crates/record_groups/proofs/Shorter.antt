@@ -16,9 +16,9 @@ use Rattle.record_numbers.specs.Numbering.{mostParts, others}
 use Rattle.record_numbers.proofs.Others.{named-or-others}
 use Rattle.record_parts.specs.PartLists.{numbersOf}
 use Rattle.record_parts.proofs.WellFormed.{numbers-of-list, well-formed-counted}
-use Rattle.record_head.specs.HeadingBytes.{partsBytes, headBytes}
 use Rattle.record.specs.Records.{Design}
 use Rattle.record.specs.RecordBytes.{recordBytes, DesignRules}
+use Rattle.record.proofs.Lengths.{record-sum}
 use Rattle.record_lines.specs.Changes.{keep, setsWithout, designWithout}
 use Rattle.record_lines.proofs.TakenOut.{without-fewer}
 
@@ -57,12 +57,6 @@ sets-shorter group (x ∷ xs) = cases (meets group x) (sets-shorter group xs)
     cases false rest =
         omega (arith, forms-first x xs, forms-first (squeezed mostParts group x) (moved kept), bytes-rise (squeezed mostParts group x) x (squeezed-le mostParts group x))
 
--- a record, piece by piece
-pieces : (d : Design) → length (recordBytes d)
-    ≡ length (bytesOf (d .parts .count)) + length (bytesOf (d .parts .mark)) + length (formsOf (numbersOf (d .parts))) + length (bytesOf (length (d .sets))) + length (formsOf (d .sets))
-unfolding recordBytes headBytes partsBytes
-pieces d = simp length-append (omega arith)
-
 pub without-shorter : (group : ℕ) (d : Design) → DesignRules d → length (recordBytes (designWithout group d)) ≤ length (recordBytes d)
 without-shorter group d r =
     let numbers : List ℕ = numbersOf (d .parts) in
@@ -71,8 +65,8 @@ without-shorter group d r =
     let counted = well-formed-counted (d .parts) (r .parts) in
     omega (
       arith,
-      pieces d,
-      pieces (designWithout group d),
+      record-sum d,
+      record-sum (designWithout group d),
       bytes-rise (length left) (d .parts .count) (omega arith),
       ap (λ (l : List ℕ). length (formsOf l)) (numbers-of-list (d .parts .mark) left),
       others-shorter numbers group,

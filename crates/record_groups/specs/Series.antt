@@ -32,7 +32,7 @@ verdictOf (written.Refused refusal) = Refused refusal
 abbrev pub resultOf : Call → List ℕ → Result
 resultOf call bytes = record { verdict = verdictOf (outcomeOf call bytes .answer); bytes = after call bytes }
 
--- no buffer was too short
+-- not refused by 11, for a buffer that is too short
 abbrev pub NotShort : Result → Type 0
 NotShort result = (needed : ℕ) → result .verdict ≡ Refused (at shortBuffer needed) → ⊥
 

@@ -2,7 +2,7 @@
 -- other names.
 -- Assumes nothing.
 use mathlib.Core.Path.{_≡_, refl, sym, ap, _∙_, subst}
-use mathlib.Core.Bool.{Bool, true, false, not, cond, _||_}
+use mathlib.Core.Bool.{Bool, true, false, not, cond, _&&_, _||_}
 use mathlib.Core.List.{List, [], _∷_, _++_, List·Memᴰ·head, List·Memᴰ·tail, List·Memᴰ·not-nil, List·Memᴰ·cases-cons}
 use mathlib.Core.Logic.{_⊎_, inl, inr}
 use Prim.Native.Nat.{ℕ, zero, suc, _/_, _^_, _≤_, _<_}
@@ -168,3 +168,29 @@ others-kept low high (p ∷ ps) rising group = cases (has group 0) (others-kept 
         rest ∙ keep-same (λ number. not (names number gone)) more ps (λ number i. ap (λ (q : Bool). not (q || names number gone)) (sym (apart number i)))
         ∙ ap (λ (q : Bool). picked (not (q || names p gone)) p (keep more ps)) (sym (eq-eqb p p refl))
     cases false rest = ap (λ (l : List ℕ). p ∷ l) rest ∙ ap (λ (q : Bool). picked (not q) p (keep (λ number. not (names number gone)) ps)) (sym absent)
+
+-- ---- one number, and then the others
+
+neither : (p q : Bool) → not (p || false) && not q ≡ not (p || q)
+neither true q = refl
+neither false q = refl
+
+either : (p q : Bool) → (p || false) || q ≡ p || q
+either true q = refl
+either false q = refl
+
+module _ (number : ℕ) (rest : List ℕ) where
+  -- a number is neither the one nor among the others
+  pub none-of-numbers : (other : ℕ) → not (names other (number ∷ [])) && not (names other rest) ≡ not (names other (number ∷ rest))
+  unfolding some
+  none-of-numbers other = neither (eqb other number) (names other rest)
+
+  -- a set names neither the one nor any of the others
+  pub names-none : (set : List ℕ) → not (namesSome (number ∷ []) set) && not (namesSome rest set) ≡ not (namesSome (number ∷ rest) set)
+  unfolding some
+  names-none set = neither (names number set) (namesSome rest set)
+
+  -- or one of them
+  pub names-either : (set : List ℕ) → namesSome (number ∷ []) set || namesSome rest set ≡ namesSome (number ∷ rest) set
+  unfolding some
+  names-either set = either (names number set) (namesSome rest set)

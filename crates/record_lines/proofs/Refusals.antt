@@ -42,9 +42,9 @@ add-part-exactly d r = (
 )
 
 -- a part is taken out at a position of the machine, while some set does not name it
-pub take-out-exactly : (position : ℕ) (d : Design) → DesignRules d → (changeRefusal (takeOut position) d ≡ Accepted)
+pub take-out-exactly : (position : ℕ) (d : Design) → (changeRefusal (takeOut position) d ≡ Accepted)
     ↔ ((1 ≤ position) × (position ≤ d .parts .count) × ((set : ℕ) × List·Memᴰ set (d .sets) × (has set (position - 1) ≡ false)))
-take-out-exactly position d r = (
+take-out-exactly position d = (
   λ accepted.
       let a = take-out-accepted position d accepted in
       let found = every-fails (meets (single position)) (d .sets) (a .left) in

@@ -158,11 +158,9 @@ impl PartList {
             return Verdict::Refused(refusal);
         }
         let count = self.count;
-        if group == 0 {
-            return answer::refused(answer::EMPTY_GROUP, 0);
-        }
-        if numbers::power_of_two(count) <= group {
-            return answer::refused(answer::UNKNOWN_GROUP_PART, 0);
+        let known = masks::group_verdict(count, group);
+        if let Verdict::Refused(refusal) = known {
+            return Verdict::Refused(refusal);
         }
         if masks::size(group) == count {
             return answer::refused(answer::IN_EVERY_SET, 0);

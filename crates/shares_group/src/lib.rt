@@ -24,15 +24,7 @@ fn group_verdict(n: usize, table: &[u8], group: usize) -> Verdict
     let checked = structure::table_verdict(n, table);
     match checked {
         Verdict::Refused(refusal) => Verdict::Refused(refusal),
-        Verdict::Accepted => {
-            if group == 0 {
-                return answer::refused(answer::EMPTY_GROUP, 0);
-            }
-            if numbers::power_of_two(n) <= group {
-                return answer::refused(answer::UNKNOWN_GROUP_PART, 0);
-            }
-            Verdict::Accepted
-        }
+        Verdict::Accepted => masks::group_verdict(n, group),
     }
 }
 

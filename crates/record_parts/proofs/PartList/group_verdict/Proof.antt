@@ -1,9 +1,8 @@
--- `record_parts::PartList::group_verdict` meets its contract: the list is judged first, and then the group, of which 18 asks whether it has as
--- many parts as the list.
+-- `record_parts::PartList::group_verdict` meets its contract: the list is judged first, then the group by 15 and 16, and 18 asks whether it has
+-- as many parts as the list.
 -- Assumes nothing.
 use mathlib.Core.Path.{_≡_, sym, _∙_, subst}
-use Prim.Native.Nat.{ℕ, _+_, _^_, _≤_, _<_}
-use native.Mathlib.Nat.{pos-of-ne-zero}
+use Prim.Native.Nat.{ℕ, _+_, _^_, _<_}
 use native.Mathlib.Omega.{arith}
 use borrow.Author.Needs.{needs}
 use borrow.Author.Tests.{eq-eqb, ne-eqb}
@@ -11,10 +10,10 @@ use lib.Dec.{eqb}
 use lib.ListN.{length}
 use Rattle.answer.specs.Refusals.{inEverySet}
 use Rattle.answer.specs.Outcome.{refuse, andThen}
+use Rattle.answer.specs.declared.Verdict.{Verdict}
 use Rattle.answer.specs.declared.Verdict.the-variants.{Accepted}
 use Rattle.answer.proofs.Outcomes.{then-refused, then-passed, refuse-held, refuse-passed}
-use Rattle.answer.proofs.Checks.{group-empty, group-unknown, group-passed}
-use Rattle.numbers.proofs.Counts.{upTo16-given}
+use Rattle.answer.proofs.Checks.{group-passed, group-right, group-refused}
 use Rattle.theory_sets.specs.Masks.{size}
 use Rattle.record_numbers.specs.Numbering.{others}
 use Rattle.record_parts.specs.declared.PartList.{PartList}
@@ -37,14 +36,7 @@ judged-group : (told : tie.After-enum-told) → let a = told .before .before .be
     andThen (brokenRefusal (a .self)) (takeOutGroupRefusal (a .self) (a .group)) ≡ takeOutGroupRefusal (a .self) (a .group)
 judged-group told = let a = told .before .before .before .args in then-passed (takeOutGroupRefusal (a .self) (a .group)) (whole told)
 
--- 2^n, as the call gives it
-powered : (c : tie.After-power-of-two) → c .power-of-two .result ≡ 2 ^ (c .before .before .before .before .before .args .self .count)
-powered c =
-    let told = c .before .before in
-    let list = told .before .before .before .args .self in
-    c .power-of-two .ensures ∙ upTo16-given (list .count) (2 ^ (list .count)) (kept told .rules .few)
-
--- what is asked last: whether no part is left
+-- where 15 and 16 let the group through: what is asked last is whether no part is left
 module _ (c : tie.After-size) where
   abbrev told : tie.After-enum-told
   told = c .before .before .before .before
@@ -58,17 +50,16 @@ module _ (c : tie.After-size) where
   abbrev left : ℕ
   left = length (others (numbersOf list) group)
 
-  within : group < 2 ^ (list .count)
-  within = subst (λ (x : ℕ). group < x) (powered (c .before .before)) (c .before .if2 .left)
+  known : (0 < group) × (group < 2 ^ (list .count)) × (_≡_ {A = Verdict} Accepted Accepted)
+  known = group-right (list .count) group Accepted (sym (c .before .before .before .group-verdict .ensures) ∙ c .before .enum-told2 .given .1)
 
   passed : andThen (brokenRefusal list) (takeOutGroupRefusal list group) ≡ refuse (eqb left 0) inEverySet 0 Accepted
-  passed =
-      judged-group told ∙ group-passed (list .count) group (refuse (eqb left 0) inEverySet 0 Accepted) (pos-of-ne-zero (c .before .before .before .if1 .left)) within
+  passed = judged-group told ∙ group-passed (list .count) group (refuse (eqb left 0) inEverySet 0 Accepted) (known .0) (known .1)
 
   counted : left + c .size .result ≡ list .count
   counted =
       let n = kept told .counted in
-      omega (arith, others-counted (numbersOf list) group (subst (λ (x : ℕ). group < 2 ^ x) (sym n) within), c .size .ensures)
+      omega (arith, others-counted (numbersOf list) group (subst (λ (x : ℕ). group < 2 ^ x) (sym n) (known .1)), c .size .ensures)
 
 judged-requires : tie.Need-judged-requires
 judged-requires c κs = search needs
@@ -86,47 +77,40 @@ returns c =
 enum-told : tie.Need-enum-told
 enum-told c = search needs
 
-refused-requires : tie.Need-refused-requires
-refused-requires c κs = search needs
+group-verdict-requires : tie.Need-group-verdict-requires
+group-verdict-requires c κs = search needs
+
+enum-known-known : tie.Need-enum-known-known
+enum-known-known c = search needs
 
 returns-2 : tie.Need-returns-2
 returns-2 c =
-    let told = c .before .before in
+    let asked = c .before .before .before in
+    let told = asked .before in
     let a = told .before .before .before .args in
-    c .refused .ensures ∙ sym (judged-group told ∙ group-empty (a .self .count) (a .group) _ (c .before .if1 .taken))
+    sym (judged-group told
+    ∙ group-refused (a .self .count) (a .group) Accepted _ _ (sym (asked .group-verdict .ensures) ∙ c .before .known .given .1)
+    (λ e. let z : _≡_ {A = ℕ} 0 1 = cc e in absurd (omega arith)))
 
-power-of-two-requires : tie.Need-power-of-two-requires
-power-of-two-requires c κs = search needs
-
-refused-requires-2 : tie.Need-refused-requires-2
-refused-requires-2 c κs = search needs
-
-returns-3 : tie.Need-returns-3
-returns-3 c =
-    let power = c .before .before in
-    let some = power .before in
-    let told = some .before in
-    let a = told .before .before .before .args in
-    c .refused2 .ensures
-    ∙ sym (judged-group told
-    ∙ group-unknown (a .self .count) (a .group) _ (some .if1 .left) (subst (λ (x : ℕ). x ≤ a .group) (powered power) (c .before .if2 .taken)))
+enum-told-2 : tie.Need-enum-told-2
+enum-told-2 c = search needs
 
 size-requires : tie.Need-size-requires
 size-requires c κs = search needs
 
-refused-requires-3 : tie.Need-refused-requires-3
-refused-requires-3 c κs = search needs
+refused-requires : tie.Need-refused-requires
+refused-requires c κs = search needs
+
+returns-3 : tie.Need-returns-3
+returns-3 c =
+    let sized = c .before .before in
+    c .refused .ensures
+    ∙ sym (passed sized ∙ refuse-held (eqb (left sized) 0) inEverySet 0 Accepted (eq-eqb (left sized) 0 (omega (arith, counted sized, c .before .if1 .taken))))
 
 returns-4 : tie.Need-returns-4
 returns-4 c =
-    let sized = c .before .before in
-    c .refused3 .ensures
-    ∙ sym (passed sized ∙ refuse-held (eqb (left sized) 0) inEverySet 0 Accepted (eq-eqb (left sized) 0 (omega (arith, counted sized, c .before .if3 .taken))))
-
-returns-5 : tie.Need-returns-5
-returns-5 c =
     let sized = c .before in
-    sym (passed sized ∙ refuse-passed (eqb (left sized) 0) inEverySet 0 Accepted (ne-eqb (left sized) 0 (λ e. c .if3 .left (omega (arith, counted sized)))))
+    sym (passed sized ∙ refuse-passed (eqb (left sized) 0) inEverySet 0 Accepted (ne-eqb (left sized) 0 (λ e. c .if1 .left (omega (arith, counted sized)))))
 
 pub group-verdict-spec : {M : Type 1} → statement M
 group-verdict-spec =
@@ -136,12 +120,11 @@ group-verdict-spec =
     enum-known-verdict
     returns
     enum-told
-    refused-requires
+    group-verdict-requires
+    enum-known-known
     returns-2
-    power-of-two-requires
-    refused-requires-2
-    returns-3
+    enum-told-2
     size-requires
-    refused-requires-3
-    returns-4
-    returns-5)
+    refused-requires
+    returns-3
+    returns-4)

@@ -1,4 +1,5 @@
--- Laws of outcomes: one check of a chain, the cases of `delivered`, and a result that is written into a lent buffer from its front.
+-- Laws of outcomes: one check of a chain, the cases of `delivered` and of `valued`, and a result that is written into a lent buffer from its
+-- front.
 -- Assumes nothing.
 use mathlib.Core.Path.{_≡_, refl, sym, ap, ap₂, _∙_}
 use mathlib.Core.Bool.{Bool, true, false}
@@ -12,12 +13,13 @@ use lib.Dec.{ltb}
 use lib.ListN.{length, getD, drop, set, length-append, length-drop}
 use lib.Seq.{drop-cons, set-append-seam, append-snoc}
 use Rattle.answer.specs.Refusals.{shortBuffer}
-use Rattle.answer.specs.Outcome.{at, refuse, andThen, room, Outcome, outcome, settled, delivered}
+use Rattle.answer.specs.Outcome.{at, refuse, andThen, room, Outcome, outcome, settled, delivered, valued}
 use Rattle.answer.specs.declared.Refusal.{Refusal}
 use Rattle.answer.specs.declared.Verdict.{Verdict}
 use Rattle.answer.specs.declared.Verdict.the-variants.{Accepted}
 use Rattle.answer.specs.declared.Verdict.the-variants as verdict
 use Rattle.answer.specs.declared.Written.the-variants.{Length, Refused}
+use Rattle.answer.specs.declared.Value.the-variants as value
 
 -- a check that accepts: its condition does not hold, and what comes later accepts
 pub refuse-accepted : (test : Bool) (number place : ℕ) (later : Verdict) → refuse test number place later ≡ Accepted → (test ≡ false) × (later ≡ Accepted)
@@ -65,6 +67,20 @@ module _ {A B : Type 0} (judged : Verdict) (refusing : Refusal → A) (buffer : 
 
   pub settled-given : judged ≡ Accepted → given ≡ settled judged refusing buffer given
   settled-given h = ap (λ (v : Verdict). settled v refusing buffer given) (sym h)
+
+-- ---- a number that is given
+
+module _ (v : Verdict) (number : ℕ) where
+  pub valued-refused : (why : Refusal) → v ≡ verdict.Refused why → value.Refused why ≡ valued v number
+  valued-refused why e = ap (λ (x : Verdict). valued x number) (sym e)
+
+  pub valued-given : v ≡ Accepted → value.Given number ≡ valued v number
+  valued-given e = ap (λ (x : Verdict). valued x number) (sym e)
+
+-- what was given was not refused
+pub given-valued : (v : Verdict) (number given : ℕ) → valued v number ≡ value.Given given → (v ≡ Accepted) × (number ≡ given)
+given-valued (verdict.Refused why) number given e = let z : _≡_ {A = ℕ} 0 1 = cc in absurd (omega arith)
+given-valued Accepted number given e = (refl, cc e)
 
 -- ---- a result in front of a buffer
 

@@ -10,6 +10,8 @@ use Rattle.answer.specs.declared.Verdict.{Verdict}
 use Rattle.answer.specs.declared.Verdict.the-variants as verdict
 use Rattle.answer.specs.declared.Written.{Written}
 use Rattle.answer.specs.declared.Written.the-variants as written
+use Rattle.answer.specs.declared.Value.{Value}
+use Rattle.answer.specs.declared.Value.the-variants as value
 
 -- a refusal by its number and place
 abbrev pub at : ℕ → ℕ → Refusal
@@ -55,3 +57,8 @@ settled verdict.Accepted refusing buffer given = given
 abbrev pub delivered : {A : Type 0} → Verdict → List A → List A → Outcome Written (List A)
 delivered refusal result buffer =
     settled (andThen refusal (room (length result) (length buffer))) written.Refused buffer (outcome (written.Length (length result)) (front result buffer))
+
+-- The answer of a call that gives a number and lends no buffer: the refusal, or the number.
+abbrev pub valued : Verdict → ℕ → Value
+valued (verdict.Refused r) number = value.Refused r
+valued verdict.Accepted number = value.Given number

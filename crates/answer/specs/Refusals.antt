@@ -65,7 +65,7 @@ emptyGroup = 15
 abbrev pub unknownGroupPart : ℕ
 unknownGroupPart = 16
 
--- a position is not 1 to n
+-- a position is not 1 to n, or a part number is no part's
 abbrev pub unknownPosition : ℕ
 unknownPosition = 17
 
@@ -109,6 +109,6 @@ wrongKind = 26
 abbrev pub wrongLine : ℕ
 wrongLine = 27
 
--- a position stands twice on a line of a drawing's text
+-- a position stands twice on a line of a drawing's text, or a part number twice among those that are wanted
 abbrev pub repeatedPosition : ℕ
 repeatedPosition = 28

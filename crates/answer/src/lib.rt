@@ -21,6 +21,12 @@ pub enum Written {
     Refused(Refusal),
 }
 
+// The answer of a call that gives a number and writes nothing: the number, or why there is none.
+pub enum Value {
+    Given(usize),
+    Refused(Refusal),
+}
+
 // The refusal numbers of 01 and 02 by name; specs/Refusals.antt has the same names with their conditions.
 pub const WRONG_PART_COUNT: u8 = 1;
 

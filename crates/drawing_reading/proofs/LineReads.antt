@@ -11,7 +11,8 @@ use Rattle.text.specs.Texts.{decimal}
 use Rattle.record_lines.specs.Changes.{every}
 use Rattle.drawing_text.specs.Lines.{lineFeed, firstLine}
 use Rattle.drawing_text.specs.Forms.{space, partsWord, setWord, sameBytes, spaced, lineOf, numbersIn, isPartsLine, isSetLine}
-use Rattle.drawing_text.specs.Sets.{setOf, within, repeated}
+use Rattle.record_lines.specs.Names.{repeated}
+use Rattle.drawing_text.specs.Sets.{setOf, within}
 use Rattle.drawing_text.specs.Drawings.{numberOn}
 use Rattle.drawing_text.proofs.Forms.{parts-line-numbers, set-line-numbers, parts-line-exactly, set-line-exactly, spaced-no-digit, Behind, the-end, another}
 use Rattle.drawing_text.proofs.Lines.{line-shown, parts-line-first, set-line-first, no-parts-line, no-set-line}

@@ -18,7 +18,8 @@ use Rattle.answer.proofs.Outcomes.{InFront, in-front-none, in-front-one, refuse
 use Rattle.record_lines.specs.Changes.{every}
 use Rattle.drawing_text.specs.Lines.{linesOf, firstLine}
 use Rattle.drawing_text.specs.Forms.{setWord, spaced, lineOf, numbersIn, isSetLine}
-use Rattle.drawing_text.specs.Sets.{setOf, within, repeated}
+use Rattle.record_lines.specs.Names.{repeated}
+use Rattle.drawing_text.specs.Sets.{setOf, within}
 use Rattle.drawing_text.specs.Drawings.{setOn, setLinesRefusal}
 use Rattle.drawing_text.proofs.Forms.{set-line-exactly}
 use Rattle.drawing_text.proofs.Drawings.{line-over}

@@ -12,7 +12,8 @@ use Rattle.record_opening.specs.Opening.{setCells}
 use Rattle.text.specs.Texts.{decimal}
 use Rattle.drawing_text.specs.Lines.{firstLine}
 use Rattle.drawing_text.specs.Forms.{digit, valueFrom, numbersIn, sameBytes, isPartsLine, isSetLine}
-use Rattle.drawing_text.specs.Sets.{setOf, within, repeated}
+use Rattle.record_lines.specs.Names.{repeated}
+use Rattle.drawing_text.specs.Sets.{setOf, within}
 use Rattle.drawing_text.specs.Drawings.{numberOn}
 use Rattle.drawing_reading.specs.declared.Drawn.{Drawn}
 use Rattle.drawing_reading.specs.declared.Gathered.{Gathered}

@@ -23,7 +23,8 @@ use Rattle.record.specs.RecordBytes.{DesignRules}
 use Rattle.record_lines.specs.Changes.{every}
 use Rattle.drawing_text.specs.Lines.{lineFeed, begun, linesOf}
 use Rattle.drawing_text.specs.Forms.{partsWord, setWord, lineOf, numbersIn, isPartsLine, isSetLine, setLines}
-use Rattle.drawing_text.specs.Sets.{setOf, positionsOf, within, repeated}
+use Rattle.record_lines.specs.Names.{repeated}
+use Rattle.drawing_text.specs.Sets.{setOf, positionsOf, within}
 use Rattle.drawing_text.specs.Whole.{RightPositions, WellDrawn}
 use Rattle.drawing_text.specs.Drawings.{setOn, setLinesRefusal, numberOn, linesRefusal, drawingRefusal, drawnParts, drawnSets}
 use Rattle.drawing_text.specs.Writing.{drawingOf}

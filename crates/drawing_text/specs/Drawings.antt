@@ -15,7 +15,8 @@ use Rattle.record.specs.RecordBytes.{recordBytes}
 use Rattle.record_lines.specs.Changes.{every, firstDesign}
 use Rattle.drawing_text.specs.Lines.{linesOf, firstLine}
 use Rattle.drawing_text.specs.Forms.{numbersIn, isPartsLine, isSetLine}
-use Rattle.drawing_text.specs.Sets.{setOf, within, repeated}
+use Rattle.record_lines.specs.Names.{repeated}
+use Rattle.drawing_text.specs.Sets.{setOf, within}
 
 -- ---- the first refusal; the place is the line's number, from 1
 

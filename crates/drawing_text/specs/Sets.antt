@@ -1,6 +1,6 @@
 -- A set of parts by its positions, and the positions of a set (01, "Structures": the part at position i is bit i - 1).
-use mathlib.Core.Bool.{Bool, false, _&&_, _||_}
-use mathlib.Core.List.{List, [], _∷_}
+use mathlib.Core.Bool.{Bool, _&&_}
+use mathlib.Core.List.{List}
 use Prim.Native.Nat.{ℕ, suc, _+_, _-_}
 use lib.Dec.{leb}
 use Rattle.theory_sets.specs.Masks.{has, those}
@@ -23,8 +23,3 @@ positionsOf set = those (stands set) (mostParts + 1)
 -- a position of a machine of n parts
 abbrev pub within : ℕ → ℕ → Bool
 within n position = leb 1 position && leb position n
-
--- some position stands twice
-abbrev pub repeated : List ℕ → Bool
-repeated [] = false
-repeated (position ∷ positions) = names position positions || repeated positions

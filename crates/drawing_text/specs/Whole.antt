@@ -6,10 +6,10 @@ use Prim.Native.Nat.{ℕ, _≤_}
 use lib.ListN.{drop, length}
 use Rattle.theory_orders.specs.Antichains.{mostSets}
 use Rattle.record_lines.specs.Changes.{every}
-use Rattle.record_lines.specs.Names.{names}
+use Rattle.record_lines.specs.Names.{names, repeated}
 use Rattle.drawing_text.specs.Lines.{linesOf}
 use Rattle.drawing_text.specs.Forms.{partsWord, lineOf, setLines, numbersIn}
-use Rattle.drawing_text.specs.Sets.{within, repeated}
+use Rattle.drawing_text.specs.Sets.{within}
 
 -- what is right on a set line of n parts: at least one position, each of them 1 to n, and none twice
 abbrev pub RightPositions : ℕ → List ℕ → Type 0

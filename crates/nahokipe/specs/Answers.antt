@@ -1,9 +1,12 @@
--- What a host is handed. A call leaves what the function behind it leaves, with its answer told in this form: number 0 where the call is given, with the length written; else the refusal's number, with its place.
+-- What a host is handed. A call leaves what the function behind it leaves, with its answer told in this form: number 0 where the call is given,
+-- with the length written or the number asked for; else the refusal's number, with its place.
 use Prim.Native.Nat.{ℕ, _-_}
 use Rattle.answer.specs.declared.Verdict.{Verdict}
 use Rattle.answer.specs.declared.Verdict.the-variants as verdict
 use Rattle.answer.specs.declared.Written.{Written}
 use Rattle.answer.specs.declared.Written.the-variants as written
+use Rattle.answer.specs.declared.Value.{Value}
+use Rattle.answer.specs.declared.Value.the-variants as value
 use Rattle.record.specs.declared.Contents.{Contents}
 use Rattle.record.specs.declared.Step.{Step}
 use Rattle.record.specs.declared.Step.the-variants as step
@@ -24,6 +27,11 @@ ofVerdict (verdict.Refused r) = answer (r .number) (r .place)
 abbrev pub ofWritten : Written → Answer
 ofWritten (written.Length n) = answer 0 n
 ofWritten (written.Refused r) = answer (r .number) (r .place)
+
+-- of a call that gives a number: the number in the place of the length
+abbrev pub ofValue : Value → Answer
+ofValue (value.Given n) = answer 0 n
+ofValue (value.Refused r) = answer (r .number) (r .place)
 
 -- what reading a record hands out: the refusal, or 0; the part list; the sets; the stretch of their bytes as offset and length
 abbrev pub ofContents : Contents → Record

@@ -1,4 +1,5 @@
 // The static library: every entry point for C, each passing on to the function behind it.
+use answer::Value;
 use answer::Verdict;
 use answer::Written;
 use record::Contents;
@@ -21,7 +22,10 @@ ghost use Rattle.vector_kind.specs.Kinds.{kindOf, kindRefusal};
 ghost use Rattle.vector_conversion.specs.Vectors.{vectorRefusal, converted};
 ghost use Rattle.record.specs.Contents.{wholeContents, contentsAt, cursor, stepAt, recordRefusal, designIn};
 ghost use Rattle.record_lines.specs.Changes.{addPart, takeOut, takeOutGroup, addSet};
-ghost use Rattle.record_lines.specs.Records.{firstRecord, changedRecord};
+ghost use Rattle.record_lines.specs.Records.{enteredRecord, firstRecord, changedRecord};
+ghost use Rattle.record_numbers.specs.Numbering.{named};
+ghost use Rattle.record_naming.specs.Naming.{foundMask, namedRefusal};
+ghost use Rattle.record_by_number.specs.Parts.{partPosition, partsMask, changedThere};
 ghost use Rattle.drawing_text.specs.Drawings.{recordOfDrawing};
 ghost use Rattle.drawing_text.specs.Writing.{drawingOfRecord};
 ghost use Rattle.sheet.specs.Sheets.{sheetBytes, sheetOf};
@@ -29,9 +33,9 @@ ghost use Rattle.sheet_entries.specs.Answers.{entriesDelivered};
 ghost use Rattle.report_lines.specs.Lines.{refusedLine};
 ghost use Rattle.report_text.specs.Reporting.{reportBuffers, reported};
 ghost use Prim.Native.Nat.{_-_};
-ghost use Rattle.nahokipe.specs.Answers.{ofVerdict, ofWritten, ofContents, ofStep, ofEntriesRead};
+ghost use Rattle.nahokipe.specs.Answers.{ofVerdict, ofWritten, ofValue, ofContents, ofStep, ofEntriesRead};
 
-// What a host is handed: number 0 and the length written, or a refusal's number and place.
+// What a host is handed: number 0 and the length written, or the position or mask that was asked for; or a refusal's number and place.
 #[repr(C)]
 pub struct Answer {
     pub number: u8,
@@ -294,6 +298,43 @@ pub extern "C" fn nahokipe_first_record(n: usize, list: &[u16], buffer: &mut [u8
     of_written(record_changes::first_record(n, list, buffer))
 }
 
+// A record of parts that already have numbers.
+#[no_mangle]
+pub extern "C" fn nahokipe_entered_record(
+    mark: u64,
+    numbers: &[u64],
+    list: &[u16],
+    buffer: &mut [u8],
+) -> Answer
+    ensures { λ r. ⌜ outcome r (now (buffer .exit)) ≡ retold ofWritten (enteredRecord mark (now (numbers .entry)) (now (list .entry)) (now (buffer .entry))) ⌝ }
+{
+    of_written(record_changes::entered_record(mark, numbers, list, buffer))
+}
+
+// The position of the part with a number, in a record.
+#[no_mangle]
+pub extern "C" fn nahokipe_position_of(bytes: &[u8], number: u64) -> Answer
+    ensures { λ r. ⌜ r ≡ ofValue (partPosition (now (bytes .entry)) number) ⌝ }
+{
+    of_value(record_by_number::position_of(bytes, number))
+}
+
+// The mask of the parts with some numbers, of a part list.
+#[no_mangle]
+pub extern "C" fn nahokipe_mask_of(numbers: &[u64], wanted: &[u64]) -> Answer
+    ensures { λ r. ⌜ r ≡ ofValue (foundMask (now (numbers .entry)) (now (wanted .entry))) ⌝ }
+{
+    of_value(record_naming::mask_of(numbers, wanted))
+}
+
+// The numbers of the parts of a mask, of a part list.
+#[no_mangle]
+pub extern "C" fn nahokipe_numbers_of(numbers: &[u64], mask: usize, cells: &mut [u64]) -> Answer
+    ensures { λ r. ⌜ outcome r (now (cells .exit)) ≡ retold ofWritten (delivered (namedRefusal (now (numbers .entry)) mask) (named (now (numbers .entry)) mask) (now (cells .entry))) ⌝ }
+{
+    of_written(record_naming::numbers_of(numbers, mask, cells))
+}
+
 // A record with one part more.
 #[no_mangle]
 pub extern "C" fn nahokipe_add_part(bytes: &[u8], buffer: &mut [u8]) -> Answer
@@ -324,6 +365,34 @@ pub extern "C" fn nahokipe_add_set(bytes: &[u8], set: u16, buffer: &mut [u8]) ->
     ensures { λ r. ⌜ outcome r (now (buffer .exit)) ≡ retold ofWritten (changedRecord (addSet set) (now (bytes .entry)) (now (buffer .entry))) ⌝ }
 {
     of_written(record_changes::add_set(bytes, set, buffer))
+}
+
+// A record without the part that has a number.
+#[no_mangle]
+pub extern "C" fn nahokipe_take_out_part(bytes: &[u8], number: u64, buffer: &mut [u8]) -> Answer
+    ensures { λ r. ⌜ outcome r (now (buffer .exit)) ≡ retold ofWritten (changedThere takeOut (partPosition (now (bytes .entry)) number) (now (bytes .entry)) (now (buffer .entry))) ⌝ }
+{
+    of_written(record_by_number::take_out_part(bytes, number, buffer))
+}
+
+// A record without the parts that have some numbers.
+#[no_mangle]
+pub extern "C" fn nahokipe_take_out_parts(bytes: &[u8], wanted: &[u64], buffer: &mut [u8]) -> Answer
+    ensures { λ r. ⌜ outcome r (now (buffer .exit)) ≡ retold ofWritten (changedThere takeOutGroup (partsMask (now (bytes .entry)) (now (wanted .entry))) (now (bytes .entry)) (now (buffer .entry))) ⌝ }
+{
+    of_written(record_by_number::take_out_parts(bytes, wanted, buffer))
+}
+
+// A record with the path set of the parts that have some numbers.
+#[no_mangle]
+pub extern "C" fn nahokipe_add_set_of_parts(
+    bytes: &[u8],
+    wanted: &[u64],
+    buffer: &mut [u8],
+) -> Answer
+    ensures { λ r. ⌜ outcome r (now (buffer .exit)) ≡ retold ofWritten (changedThere addSet (partsMask (now (bytes .entry)) (now (wanted .entry))) (now (bytes .entry)) (now (buffer .entry))) ⌝ }
+{
+    of_written(record_by_number::add_set_of_parts(bytes, wanted, buffer))
 }
 
 // The record of a drawing's text.
@@ -382,6 +451,21 @@ fn of_written(written: Written) -> Answer
             value: length,
         },
         Written::Refused(refusal) => Answer {
+            number: refusal.number,
+            value: refusal.place,
+        },
+    }
+}
+
+fn of_value(value: Value) -> Answer
+    ensures { λ r. ⌜ r ≡ ofValue value ⌝ }
+{
+    match value {
+        Value::Given(given) => Answer {
+            number: 0,
+            value: given,
+        },
+        Value::Refused(refusal) => Answer {
             number: refusal.number,
             value: refusal.place,
         },

@@ -26,6 +26,10 @@ pub or-right : (p : Bool) {q : Bool} → q ≡ true → p || q ≡ true
 or-right true h = refl
 or-right false h = h
 
+pub neither : (p q : Bool) → p || q ≡ false → (p ≡ false) × (q ≡ false)
+neither true q h = absurd (true≢false h)
+neither false q h = (refl, h)
+
 pub or-false : (p : Bool) → p || false ≡ p
 or-false true = refl
 or-false false = refl

@@ -19,17 +19,13 @@ use Rattle.answer.proofs.Checks.{mask-passed, mask-right}
 use Rattle.codec.specs.declared.Field.the-variants.{Set}
 use Rattle.codec.proofs.FieldReads.{AnyPlace, Follow, AllAllowed}
 use Rattle.theory_sets.specs.Masks.{holds, RisingFrom, Rising}
-use Rattle.numbers.proofs.Bools.{clash, false-of}
+use Rattle.numbers.proofs.Bools.{clash, neither, false-of}
 use Rattle.theory_sets.proofs.Masks.{holds-le}
 use Rattle.theory_sets.proofs.Ranges.{rising-above}
 use Rattle.record.specs.Records.{misplaced, setRefusal}
 use Rattle.record.specs.RecordBytes.{SetRules}
 
 -- ---- 24
-
-neither : (p q : Bool) → p || q ≡ false → (p ≡ false) × (q ≡ false)
-neither true q h = clash {p = true} refl h
-neither false q h = (refl, h)
 
 -- a set that 24 passes is above each earlier set and holds none
 pub misplaced-none : (earlier : List ℕ) (x : ℕ) → misplaced earlier x ≡ false → (c : ℕ) → List·Memᴰ c earlier → (c < x) × (holds x c ≡ false)

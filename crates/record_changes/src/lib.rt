@@ -1,5 +1,5 @@
-// Changes of design records (01, "Records on disk"; 02, §2): a first record, and the four changes of record bytes. The whole record is checked as
-// a reader checks it, then the change, then the new record is written.
+// Changes of design records (01, "Records on disk"; 02, §2): records to start from, and the four changes of record bytes. The whole record is
+// checked as a reader checks it, then the change, then the new record is written.
 use answer::Verdict;
 use answer::Written;
 use record_parts::Numbered;
@@ -16,7 +16,7 @@ ghost use Rattle.codec.specs.ByteForm.{formsOf};
 ghost use Rattle.record.specs.Records.{design};
 ghost use Rattle.record.specs.RecordBytes.{recordBytes, DesignRules};
 ghost use Rattle.record_lines.specs.Changes.{addPart, takeOut, takeOutGroup, addSet, setsWithout, designWithout, takeOutGroupRefusal};
-ghost use Rattle.record_lines.specs.Records.{changedRecord, firstRecord};
+ghost use Rattle.record_lines.specs.Records.{changedRecord, enteredRecord, firstRecord};
 
 // Add part: position n+1, part number mark+1, in no set.
 pub fn add_part(bytes: &[u8], buffer: &mut [u8]) -> Written
@@ -99,19 +99,34 @@ pub fn add_set(bytes: &[u8], set: u16, buffer: &mut [u8]) -> Written
     }
 }
 
+// A record of parts that already have numbers, from these and the mark, which is the highest number ever issued, and a list of sets over the
+// positions of the numbers: these numbers, this mark, the minimal sets.
+pub fn entered_record(mark: u64, numbers: &[u64], list: &[u16], buffer: &mut [u8]) -> Written
+    ensures { λ r. ⌜ outcome r (now (buffer .exit)) ≡ enteredRecord mark (now (numbers .entry)) (now (list .entry)) (now (buffer .entry)) ⌝ }
+{
+    let mut sets = [0u16; 12870];
+    let found = record_sets::minimal_of_list(numbers.len(), list, &mut sets);
+    match found {
+        Written::Refused(refusal) => Written::Refused(refusal),
+        Written::Length(count) => {
+            let verdict = record_numbers::judge(mark, numbers);
+            match verdict {
+                Verdict::Refused(refusal) => Written::Refused(refusal),
+                Verdict::Accepted => write_record(mark, numbers, &sets[..count], buffer),
+            }
+        }
+    }
+}
+
 // A first record, from the number of parts and a list of sets: part numbers 1 to n, mark n, the minimal sets.
 pub fn first_record(n: usize, list: &[u16], buffer: &mut [u8]) -> Written
     ensures { λ r. ⌜ outcome r (now (buffer .exit)) ≡ firstRecord n (now (list .entry)) (now (buffer .entry)) ⌝ }
 {
-    let mut sets = [0u16; 12870];
-    let found = record_sets::minimal_of_list(n, list, &mut sets);
-    match found {
-        Written::Refused(refusal) => Written::Refused(refusal),
-        Written::Length(count) => {
-            let numbers: [u64; 16] = [1, 2, 3, 4, 5, 6, 7, 8, 9, 10, 11, 12, 13, 14, 15, 16];
-            write_record(n as u64, &numbers[..n], &sets[..count], buffer)
-        }
+    if record_numbers::MOST_PARTS < n {
+        return answer::unwritten(answer::WRONG_PART_COUNT, 0);
     }
+    let numbers: [u64; 16] = [1, 2, 3, 4, 5, 6, 7, 8, 9, 10, 11, 12, 13, 14, 15, 16];
+    entered_record(n as u64, &numbers[..n], list, buffer)
 }
 
 // Writes the record without the parts of a group, or says what refuses the group or how many bytes it needs.

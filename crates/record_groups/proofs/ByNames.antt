@@ -23,13 +23,7 @@ use Rattle.record_lines.proofs.Keeping.{keep-same, some-intro, some-elim, keep-
 use Rattle.record_lines.proofs.Names.{named-once, names-intro, names-elim, names-meet, none-of-numbers, names-none}
 use Rattle.record_lines.proofs.NamedChanges.{without-numbers, without-named}
 use Rattle.record_lines.proofs.Rules.{without-rules}
-
--- one design is another without the parts of these numbers
-pub record Without (gone : List ℕ) (old new : Design) : Type 0 where
-  pub rules : DesignRules new
-  pub mark : new .parts .mark ≡ old .parts .mark
-  pub numbers : numbersOf (new .parts) ≡ keep (λ number. not (names number gone)) (numbersOf (old .parts))
-  pub sets : namedSets new ≡ keep (λ set. not (namesSome gone set)) (namedSets old)
+use Rattle.record_groups.specs.Without.{Without}
 
 -- no part
 pub without-none : (d : Design) → DesignRules d → Without [] d d

@@ -18,6 +18,7 @@ use Rattle.record.specs.Records.{misplaced, recordAt, onlyRecord, wholeRecord}
 use Rattle.record.specs.RecordBytes.{recordBytes}
 use Rattle.record_lines.specs.Changes.{takeOutGroup, setsWithout}
 use Rattle.record_lines.specs.Records.{changedRecord}
+use Rattle.record_naming.specs.Naming.{positionFrom}
 use Rattle.record_groups.specs.Series.{Result, resultOf, series}
 
 -- 01's bridge: 05 05 01 02 03 04 05 04 09 0E 12 15
@@ -39,7 +40,7 @@ singly order bytes room = series (map (λ number. record { number = number; buff
 left :
     together 20 bridge 12 ∷ singly (3 ∷ 5 ∷ []) bridge 12 ∷ singly (5 ∷ 3 ∷ []) bridge 12 ∷ []
     ≡ replicate 3 (record { verdict = Accepted; bytes = 3 ∷ 5 ∷ 1 ∷ 2 ∷ 4 ∷ 1 ∷ 5 ∷ [] })
-unfolding changedRecord wholeRecord onlyRecord recordAt headAt partsAt fieldsAt fieldAt misplaced has holds numberAt numberIn recordBytes headBytes partsBytes formsOf bytesOf grouped partListRefusal others meets squeezed setsWithout
+unfolding positionFrom changedRecord wholeRecord onlyRecord recordAt headAt partsAt fieldsAt fieldAt misplaced has holds numberAt numberIn recordBytes headBytes partsBytes formsOf bytesOf grouped partListRefusal others meets squeezed setsWithout
 left = refl
 
 -- Parts 1 and 2 of the machine of three are refused by 18 together; part 1 alone is, and ends the series, though part 2 alone could leave; and after
@@ -47,21 +48,21 @@ left = refl
 refused :
     together 3 three 8 ∷ singly (1 ∷ 2 ∷ []) three 8 ∷ singly (2 ∷ 1 ∷ []) three 8 ∷ []
     ≡ replicate 3 (record { verdict = Refused (at 18 0); bytes = three })
-unfolding changedRecord wholeRecord onlyRecord recordAt headAt partsAt fieldsAt fieldAt misplaced has holds numberAt numberIn recordBytes headBytes partsBytes formsOf bytesOf grouped partListRefusal others meets squeezed setsWithout
+unfolding positionFrom changedRecord wholeRecord onlyRecord recordAt headAt partsAt fieldsAt fieldAt misplaced has holds numberAt numberIn recordBytes headBytes partsBytes formsOf bytesOf grouped partListRefusal others meets squeezed setsWithout
 refused = refl
 
 part-two-alone : singly (2 ∷ []) three 8 ≡ record { verdict = Accepted; bytes = 2 ∷ 3 ∷ 1 ∷ 3 ∷ 1 ∷ 3 ∷ [] }
-unfolding changedRecord wholeRecord onlyRecord recordAt headAt partsAt fieldsAt fieldAt misplaced has holds numberAt numberIn recordBytes headBytes partsBytes formsOf bytesOf grouped partListRefusal others meets squeezed setsWithout
+unfolding positionFrom changedRecord wholeRecord onlyRecord recordAt headAt partsAt fieldsAt fieldAt misplaced has holds numberAt numberIn recordBytes headBytes partsBytes formsOf bytesOf grouped partListRefusal others meets squeezed setsWithout
 part-two-alone = refl
 
 -- a number that no part has is 17
 part-nine : singly (9 ∷ []) three 8 ≡ record { verdict = Refused (at 17 0); bytes = three }
-unfolding changedRecord wholeRecord onlyRecord recordAt headAt partsAt fieldsAt fieldAt misplaced has holds numberAt numberIn recordBytes headBytes partsBytes formsOf bytesOf grouped partListRefusal others meets squeezed setsWithout
+unfolding positionFrom changedRecord wholeRecord onlyRecord recordAt headAt partsAt fieldsAt fieldAt misplaced has holds numberAt numberIn recordBytes headBytes partsBytes formsOf bytesOf grouped partListRefusal others meets squeezed setsWithout
 part-nine = refl
 
 -- A short buffer is another matter: the bridge without part 5 takes nine bytes on the way to seven.
 short :
     together 20 bridge 7 .verdict ∷ singly (5 ∷ 3 ∷ []) bridge 7 .verdict ∷ []
     ≡ Accepted ∷ Refused (at 11 9) ∷ []
-unfolding changedRecord wholeRecord onlyRecord recordAt headAt partsAt fieldsAt fieldAt misplaced has holds numberAt numberIn recordBytes headBytes partsBytes formsOf bytesOf grouped partListRefusal others meets squeezed setsWithout
+unfolding positionFrom changedRecord wholeRecord onlyRecord recordAt headAt partsAt fieldsAt fieldAt misplaced has holds numberAt numberIn recordBytes headBytes partsBytes formsOf bytesOf grouped partListRefusal others meets squeezed setsWithout
 short = refl

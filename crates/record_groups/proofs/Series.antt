@@ -2,14 +2,12 @@
 -- buffer is too short.
 -- Assumes nothing.
 use mathlib.Core.Path.{_≡_, refl, sym, ap, _∙_, subst}
-use mathlib.Core.Bool.{Bool, true, false, not, cond}
-use mathlib.Core.List.{List, [], _∷_, map, List·Memᴰ·head, List·Memᴰ·tail, List·Memᴰ·not-nil, List·Memᴰ·cases-cons, List·Memᴰ·eq-of-singleton}
-use mathlib.Core.Logic.{_⊎_, inl, inr, ⊎-elim, _↔_}
-use Prim.Native.Nat.{ℕ, suc, _+_, _-_, _^_, _≤_, _<_}
+use mathlib.Core.Bool.{Bool, true, false, not}
+use mathlib.Core.List.{List, [], _∷_, map, List·Memᴰ·head, List·Memᴰ·tail, List·Memᴰ·eq-of-singleton}
+use mathlib.Core.Logic.{⊎-elim, _↔_}
+use Prim.Native.Nat.{ℕ, suc, _-_, _^_, _≤_, _<_}
 use native.Mathlib.Omega.{arith}
-use borrow.Author.Tests.{eqb-true, eq-eqb}
-use lib.Dec.{eqb}
-use lib.ListN.{length, getD, drop}
+use lib.ListN.{length, drop}
 use lib.Seq.{take-append-seam}
 use Rattle.answer.specs.Refusals.{inEverySet, shortBuffer}
 use Rattle.answer.specs.Outcome.{at, Outcome, delivered}
@@ -43,31 +41,11 @@ use Rattle.record_lines.specs.Lines.{Call, outcomeOf, recordAfter, after}
 use Rattle.record_lines.proofs.Keeping.{every-intro, every-elim, keep-intro, every-kept, every-same}
 use Rattle.record_lines.proofs.Names.{names-elim, names-either}
 use Rattle.record_lines.proofs.Refusals.{position-passed}
-use Rattle.record_groups.specs.Series.{Result, verdictOf, resultOf, NotShort, positionFrom, positionIn, Leaving, leaving, callFor, ending, seriesFrom, series, Reordered}
+use Rattle.record_naming.proofs.Positions.{Traced, traced}
+use Rattle.record_groups.specs.Series.{Result, verdictOf, resultOf, NotShort, positionIn, Leaving, leaving, callFor, ending, seriesFrom, series, Reordered}
+use Rattle.record_groups.specs.Without.{Without}
 use Rattle.record_groups.proofs.Orders.{Apart, order-apart, order-same}
-use Rattle.record_groups.proofs.ByNames.{Without, without-none, without-group, without-then, without-order, without-once, same-namesSome, every-named}
-
--- ---- where a number stands
-
--- a number in use stands at the position that is found for it
-pub record Traced (first number : ℕ) (numbers : List ℕ) : Type 0 where
-  pub index : ℕ
-  pub inside : index < length numbers
-  pub position : positionFrom first number numbers ≡ first + index
-  pub same : getD numbers index 0 ≡ number
-
-pub traced : (first number : ℕ) (numbers : List ℕ) → In number numbers → Traced first number numbers
-traced first number [] i = absurd (List·Memᴰ·not-nil i)
-traced first number (x ∷ xs) i =
-    let f = cases (eqb number x) refl (List·Memᴰ·cases-cons i) (traced (suc first) number xs) in
-    record { index = f .0; inside = f .1; position = f .2; same = f .3 }
-  where
-    cases : (p : Bool) → eqb number x ≡ p → (number ≡ x) ⊎ In number xs → (In number xs → Traced (suc first) number xs)
-        → (index : ℕ) × (index < length (x ∷ xs)) × (cond p first (positionFrom (suc first) number xs) ≡ first + index) × (getD (x ∷ xs) index 0 ≡ number)
-    cases true e i later = (0, omega arith, omega arith, sym (eqb-true number x e))
-    cases false e (inl same) later = clash (eq-eqb number x same) e
-    cases false e (inr i) later =
-        let t = later i in (suc (t .index), omega (arith, t .inside), omega (arith, t .position), t .same)
+use Rattle.record_groups.proofs.ByNames.{without-none, without-group, without-then, without-order, without-once, same-namesSome, every-named}
 
 -- ---- one call on a record
 

@@ -1,9 +1,7 @@
 -- Parts taken out of a record one after the other (02, §2): "singly in any order, each traced by its part number".
-use mathlib.Core.Bool.{cond}
 use mathlib.Core.List.{List, [], _∷_, map}
 use mathlib.Core.Path.{_≡_}
-use Prim.Native.Nat.{ℕ, suc}
-use lib.Dec.{eqb}
+use Prim.Native.Nat.{ℕ}
 use Rattle.answer.specs.Refusals.{shortBuffer}
 use Rattle.answer.specs.Outcome.{at}
 use Rattle.answer.specs.declared.Verdict.{Verdict}
@@ -13,6 +11,7 @@ use Rattle.answer.specs.declared.Written.the-variants as written
 use Rattle.codec.specs.Reads.{Read, found, refused}
 use Rattle.theory_orders.specs.Orders.{times}
 use Rattle.record_parts.specs.PartLists.{numbersOf}
+use Rattle.record_naming.specs.Naming.{positionOf}
 use Rattle.record.specs.Records.{Design, wholeRecord}
 use Rattle.record_lines.specs.Changes.{takeOut}
 use Rattle.record_lines.specs.Lines.{Call, outcomeOf, after}
@@ -38,14 +37,9 @@ NotShort result = (needed : ℕ) → result .verdict ≡ Refused (at shortBuffer
 
 -- ---- one part after the other
 
--- the position at which a number stands, where the first one is counted `first`; 0 where it stands nowhere
-abbrev pub positionFrom : ℕ → ℕ → List ℕ → ℕ
-positionFrom first number [] = 0
-positionFrom first number (other ∷ numbers) = cond (eqb number other) first (positionFrom (suc first) number numbers)
-
 -- the position of the part with a number in the record that was read, from 1; 0 where no part in use has it
 abbrev pub positionIn : Read Design → ℕ → ℕ
-positionIn (found d next) number = positionFrom 1 number (numbersOf (d .parts))
+positionIn (found d next) number = positionOf (numbersOf (d .parts)) number
 positionIn (refused refusal) number = 0
 
 -- a part that is to leave, by its number, and the buffer lent for the record without it

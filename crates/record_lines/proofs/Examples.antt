@@ -22,7 +22,7 @@ use Rattle.record.specs.Records.{misplaced, recordAt, onlyRecord, wholeRecord}
 use Rattle.record_head.specs.HeadingBytes.{partsBytes, headBytes}
 use Rattle.record.specs.RecordBytes.{recordBytes}
 use Rattle.record_lines.specs.Changes.{Change, addPart, takeOut, takeOutGroup, addSet, setsWithout}
-use Rattle.record_lines.specs.Records.{changedRecord, firstRecord}
+use Rattle.record_lines.specs.Records.{changedRecord, firstRecord, enteredRecord}
 use Rattle.record_lines.specs.Lines.{Call, after, lastOf}
 
 -- 01's bridge: 05 05 01 02 03 04 05 04 09 0E 12 15
@@ -93,3 +93,21 @@ not-together = refl
 first : firstRecord 2 (3 ∷ 1 ∷ 1 ∷ []) (replicate 7 9) ≡ outcome (Length 6) (2 ∷ 2 ∷ 1 ∷ 2 ∷ 1 ∷ 1 ∷ 9 ∷ [])
 unfolding firstRecord structure.listRefusal structure.entriesRefusal tabulate holds any those listed minimal recordBytes headBytes partsBytes formsOf bytesOf grouped
 first = refl
+
+-- ---- records of parts that already have numbers
+
+-- parts 3, 7 and 12 of a tab whose numbers went up to 15, with {3, 7}, {3, 12} and a set that holds one of them
+entered : enteredRecord 15 (3 ∷ 7 ∷ 12 ∷ []) (5 ∷ 7 ∷ 3 ∷ []) (replicate 9 0) ≡ outcome (Length 8) (3 ∷ 15 ∷ 3 ∷ 7 ∷ 12 ∷ 2 ∷ 3 ∷ 5 ∷ 0 ∷ [])
+unfolding enteredRecord structure.listRefusal structure.entriesRefusal has holds any those listed minimal recordBytes headBytes partsBytes formsOf bytesOf grouped
+entered = refl
+
+-- no number; no set; a set beyond the last position before a wrong number; the number 0; one that does not rise; one above the mark; a mark above
+-- the top number, behind the last number; and a short buffer last
+not-entered :
+    enteredRecord 15 [] (1 ∷ []) [] .answer ∷ enteredRecord 15 (0 ∷ []) [] [] .answer ∷ enteredRecord 15 (0 ∷ []) (2 ∷ []) [] .answer
+    ∷ enteredRecord 15 (0 ∷ []) (1 ∷ []) [] .answer ∷ enteredRecord 15 (3 ∷ 7 ∷ 7 ∷ []) (1 ∷ []) [] .answer ∷ enteredRecord 15 (3 ∷ 16 ∷ []) (1 ∷ []) [] .answer
+    ∷ enteredRecord 281474976710656 (3 ∷ 7 ∷ []) (1 ∷ []) [] .answer ∷ enteredRecord 15 (3 ∷ []) (1 ∷ []) [] .answer ∷ []
+    ≡ Refused (at 1 0) ∷ Refused (at 2 0) ∷ Refused (at 4 0) ∷ Refused (at 23 0) ∷ Refused (at 23 2) ∷ Refused (at 23 1) ∷ Refused (at 23 2)
+    ∷ Refused (at 11 5) ∷ []
+unfolding enteredRecord structure.listRefusal structure.entriesRefusal has holds any those listed minimal recordBytes headBytes partsBytes formsOf bytesOf grouped
+not-entered = refl

@@ -9,6 +9,7 @@ use mathlib.Core.Bool.{Bool, true, false, not, _&&_}
 use Prim.Native.Nat.{ℕ, _≤_}
 use native.Mathlib.Nat.{le-trans}
 use native.Mathlib.Omega.{arith}
+use lib.ListN.{take}
 use Rattle.answer.specs.declared.Verdict.the-variants.{Accepted}
 use Rattle.answer.specs.declared.Written.{Written}
 use Rattle.answer.specs.declared.Written.the-variants as written
@@ -28,7 +29,8 @@ use Rattle.record.specs.RecordBytes.{DesignRules}
 use Rattle.record.proofs.RoundTrip.{whole-written}
 use Rattle.masks.specs.Groups.{meets}
 use Rattle.numbers.proofs.Bools.{and-left, and-right, and-both, or-left, or-right, false-of}
-use Rattle.record_lines.specs.Changes.{Change, addPart, takeOut, takeOutGroup, addSet, every, designWithout, changeRefusal, changed}
+use Rattle.record_lines.specs.Changes.{Change, addPart, takeOut, takeOutGroup, addSet, every, designWithout, changeRefusal, changed, enteredDesign}
+use Rattle.record_lines.specs.Records.{enteredRecord}
 use Rattle.record_lines.specs.Names.{namedSets, names, namesSome, runs}
 use Rattle.record_lines.specs.Lines.{Call, outcomeOf, recordAfter, after, lastOf, unlessRefused, madeBy, designAfter, issuedIn, leftIn, givenIn, along, lastDesign, issuedBy, leftBy, givenBy, DesignLine, GivenInUse}
 use Rattle.record_lines.proofs.Keeping.{keep-elim, every-intro, every-elim, some-intro, some-elim}
@@ -36,7 +38,7 @@ use Rattle.record_lines.proofs.Names.{names-intro, names-elim}
 use Rattle.record_lines.proofs.NamedChanges.{added-names, without-named, with-set-names, named-in-use}
 use Rattle.record_lines.proofs.Rules.{changed-rules, without-rules, take-out-accepted, group-out-accepted, set-accepted}
 use Rattle.record_lines.proofs.Running.{added-runs, without-runs, with-set-runs}
-use Rattle.record_lines.proofs.Written.{made-read}
+use Rattle.record_lines.proofs.Written.{made-read, entered-keeps, entered-read}
 
 -- a set that names no number that left is still a path set: if all its parts work, the machine runs
 abbrev Stays : Design → List ℕ → List ℕ → Type 0
@@ -186,7 +188,7 @@ module _ (calls : List Call) (bytes : List ℕ) (d : Design) (next : ℕ) (read 
       i
 
 -- a line in two parts
-last-append : (earlier later : List Call) (bytes : List ℕ) → lastOf (earlier ++ later) bytes ≡ lastOf later (lastOf earlier bytes)
+pub last-append : (earlier later : List Call) (bytes : List ℕ) → lastOf (earlier ++ later) bytes ≡ lastOf later (lastOf earlier bytes)
 last-append [] later bytes = refl
 last-append (call ∷ calls) later bytes = last-append calls later (after call bytes)
 
@@ -232,6 +234,15 @@ module _ (bytes : List ℕ) (d : Design) (next : ℕ) (small : Bytes bytes) (rea
         ⊎-elim (gone .1)
         (above-mark later now between (middle-read .next) (middle-read .read) middle-rules number (below-mark earlier bytes d next read rules number (gone .0)))
         (line-from later now between (middle-read .next) (middle-read .read) middle-rules .parts .origin number j)
+
+-- ---- every line from a record that was entered
+
+-- Along every line from a record of parts that already had numbers, no number up to the mark that was given with them is issued.
+pub entered-never-issued : (mark : ℕ) (numbers list buffer : List ℕ) (k : ℕ) → enteredRecord mark numbers list buffer .answer ≡ written.Length k
+    → (calls : List Call) (number : ℕ) → number ≤ mark
+    → In number (issuedBy calls (take k (enteredRecord mark numbers list buffer .buffer)) (enteredDesign mark numbers list)) → ⊥
+entered-never-issued mark numbers list buffer k e calls =
+    above-mark calls (take k (enteredRecord mark numbers list buffer .buffer)) (enteredDesign mark numbers list) k (entered-read mark numbers list buffer k e) (entered-keeps mark numbers list buffer k e)
 
 -- ---- the sets that were given
 

@@ -73,7 +73,7 @@ named-at (p ∷ ps) set (suc i) h k = cases (has set 0) (named-at ps (set / 2) i
     cases false rest = rest
 
 -- Rising numbers stand at one position each, so the number at a position is named exactly if the bit is set.
-rising-once : (low high : ℕ) (numbers : List ℕ) → RisingWithin low high numbers → (i j : ℕ) → i < length numbers → j < length numbers → getD numbers i 0 ≡ getD numbers j 0 → i ≡ j
+pub rising-once : (low high : ℕ) (numbers : List ℕ) → RisingWithin low high numbers → (i j : ℕ) → i < length numbers → j < length numbers → getD numbers i 0 ≡ getD numbers j 0 → i ≡ j
 rising-once low high [] r i j hi hj e = absurd (omega arith)
 rising-once low high (p ∷ ps) r zero zero hi hj e = refl
 rising-once low high (p ∷ ps) r zero (suc j) hi hj e = absurd (omega (arith, rising-in p high ps (r .2) (in-at j ps (le-of-suc-le-suc hj)) .0))

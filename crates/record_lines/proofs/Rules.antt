@@ -1,5 +1,5 @@
--- What a change gives keeps the rules of a design, and so does a first design. A part list refuses by 18 itself that all its parts leave: every
--- set names some part of the machine, so the record's 18 agrees.
+-- What a change gives keeps the rules of a design, and so do a design that is entered and a first design. A part list refuses by 18 itself
+-- that all its parts leave: every set names some part of the machine, so the record's 18 agrees.
 -- Assumes nothing.
 use mathlib.Core.Path.{_≡_, refl, sym, ap, _∙_, subst}
 use mathlib.Core.Bool.{Bool, true, false}
@@ -12,17 +12,20 @@ use borrow.Author.Tests.{eqb-true, eqb-false, ltb-false, leb-false}
 use lib.Dec.{eqb, ltb, leb}
 use lib.ListN.{length, length-append}
 use Rattle.answer.specs.Refusals.{unknownPart, emptySet, unknownPosition, inEverySet, fullMachine, numbersSpent}
-use Rattle.answer.specs.Outcome.{refuse}
+use Rattle.answer.specs.Outcome.{refuse, andThen}
 use Rattle.answer.specs.declared.Refusal.{Refusal}
+use Rattle.answer.specs.declared.Verdict.{Verdict}
 use Rattle.answer.specs.declared.Verdict.the-variants.{Accepted, Refused}
-use Rattle.answer.proofs.Outcomes.{refuse-accepted, refuse-held}
+use Rattle.answer.proofs.Outcomes.{refuse-accepted, refuse-held, then-accepted}
 use Rattle.answer.proofs.Checks.{group-right, group-refused}
 use Rattle.numbers.specs.Tables.{tabulate}
 use Rattle.numbers.proofs.Tables.{tabulate-length, tabulate-suc}
 use Rattle.record_parts.specs.declared.PartList.{PartList}
 use Rattle.record_parts.specs.declared.Changed.{Changed}
-use Rattle.record_numbers.specs.Numbering.{mostParts, topNumber, RisingWithin, others}
-use Rattle.record_parts.specs.PartLists.{numbersOf, WellFormed}
+use Rattle.record_numbers.specs.Numbering.{mostParts, topNumber, RisingWithin, others, numbersRefusal}
+use Rattle.record_numbers.proofs.Refusals.{refusal-counted}
+use Rattle.record_numbers.proofs.Rules.{accepted-rules, rules-accepted}
+use Rattle.record_parts.specs.PartLists.{numbersOf, listOf, WellFormed}
 use Rattle.record_parts.specs.Changes.{partAdded, addRefusal, single}
 use Rattle.record_parts.specs.Changes as parts
 use Rattle.record_parts.specs.Lines as lines
@@ -34,9 +37,10 @@ use Rattle.theory_sets.specs.Structures.{listed, minimalSets}
 use Rattle.theory_sets.proofs.Lists.{listed-semicoherent}
 use Rattle.structure.specs.Checks.{listRefusal}
 use Rattle.structure.proofs.Acceptance.{AcceptedList, accepted-list}
-use Rattle.record.specs.Records.{Design}
+use Rattle.record.specs.Records.{Design, design}
 use Rattle.record.specs.RecordBytes.{SetRules, DesignRules}
-use Rattle.record_lines.specs.Changes.{Change, addPart, takeOut, takeOutGroup, addSet, every, setsWithout, designWithout, withoutRefusal, takeOutRefusal, takeOutGroupRefusal, addSetRefusal, changeRefusal, changed, firstDesign}
+use Rattle.record_lines.specs.Changes.{Change, addPart, takeOut, takeOutGroup, addSet, every, setsWithout, designWithout, withoutRefusal, takeOutRefusal, takeOutGroupRefusal, addSetRefusal, changeRefusal, changed, enteredDesign, firstDesign}
+use Rattle.record_lines.specs.Records.{enteredRefusal}
 use Rattle.record_lines.proofs.MinimalSets.{minimal-set-rules}
 use Rattle.record_lines.proofs.TakenOut.{sets-without-rules}
 
@@ -152,7 +156,23 @@ changed-rules (addSet set) d r accepted =
       sets = listed-rules (d .parts .count) set (d .sets) (r .parts .rules .few) (with-set-within set d r accepted);
     }
 
--- ---- a first design
+-- ---- a design of parts that already have numbers, and a first design
+
+-- the minimal sets of an accepted list keep the rules
+accepted-sets : (n : ℕ) (list : List ℕ) → AcceptedList n list → SetRules n (minimalSets n (listed list))
+accepted-sets n [] a = absurd (omega (arith, a .any-set))
+accepted-sets n (set ∷ sets) a = listed-rules n set sets (a .few) (a .sets)
+
+pub entered-rules : (mark : ℕ) (numbers list : List ℕ) → enteredRefusal mark numbers list ≡ Accepted → DesignRules (enteredDesign mark numbers list)
+entered-rules mark numbers list accepted =
+    let n : ℕ = length numbers in
+    let t = then-accepted (listRefusal n list) (numbersRefusal 0 mark 0 numbers) accepted in
+    let a = accepted-list n list (t .0) in
+    record {
+      parts = list-well-formed mark numbers
+          (accepted-rules n mark numbers (refusal-counted n mark numbers (λ none. omega (arith, a .some)) (a .few) ∙ t .1));
+      sets = accepted-sets n list a;
+    }
 
 -- 1 to n rise to n
 first-rising : (n : ℕ) → RisingWithin 0 n (tabulate n (λ i. i + 1))
@@ -162,15 +182,30 @@ first-rising (suc n) =
     subst (RisingWithin 0 (suc n)) (sym (tabulate-suc n (λ i. i + 1)))
     (rising-append 0 n (suc n) (tabulate n (λ i. i + 1)) ((n + 1) ∷ []) (omega arith) (omega arith) (first-rising n) (omega arith, omega arith, tt))
 
-pub first-rules : (n : ℕ) (list : List ℕ) → listRefusal n list ≡ Accepted → DesignRules (firstDesign n list)
-first-rules n list accepted = whole list (accepted-list n list accepted)
-  where
-    whole : (list : List ℕ) → AcceptedList n list → DesignRules (firstDesign n list)
-    whole [] a = absurd (omega (arith, a .any-set))
-    whole (set ∷ sets) a =
-        let counted : length (tabulate n (λ i. i + 1)) ≡ n = tabulate-length n (λ i. i + 1) in
-        record {
-          parts = list-well-formed n (tabulate n (λ i. i + 1))
-              (record { some = omega (arith, a .some); few = omega (arith, a .few); rising = first-rising n; top = omega (arith, a .few) });
-          sets = rw counted (listed-rules n set sets (a .few) (a .sets));
-        }
+module _ (n : ℕ) (list : List ℕ) where
+  abbrev first : List ℕ
+  first = tabulate n (λ i. i + 1)
+
+  -- a first design is that of the numbers 1 to n with the mark n
+  pub first-design-entered : firstDesign n list ≡ enteredDesign n first list
+  first-design-entered = ap (λ (k : ℕ). design (listOf n first) (minimalSets k (listed list))) (sym (tabulate-length n (λ i. i + 1)))
+
+  -- 1 to n are right numbers under the mark n
+  first-right : listRefusal n list ≡ Accepted → numbersRefusal 0 n 0 first ≡ Accepted
+  first-right accepted =
+      let a = accepted-list n list accepted in
+      sym (refusal-counted n n first (λ none. omega (arith, a .some)) (a .few))
+      ∙ rules-accepted (record { some = a .some; few = a .few; rising = first-rising n; top = omega (arith, a .few) })
+
+  -- so it is refused as its list of sets is
+  pub first-refusal-entered : listRefusal n list ≡ enteredRefusal n first list
+  first-refusal-entered =
+      cases (listRefusal n list) refl ∙ ap (λ (k : ℕ). andThen (listRefusal k list) (numbersRefusal 0 n 0 first)) (sym (tabulate-length n (λ i. i + 1)))
+    where
+      cases : (v : Verdict) → listRefusal n list ≡ v → v ≡ andThen v (numbersRefusal 0 n 0 first)
+      cases (Refused why) e = refl
+      cases Accepted e = sym (first-right e)
+
+  pub first-rules : listRefusal n list ≡ Accepted → DesignRules (firstDesign n list)
+  first-rules accepted =
+      subst DesignRules (sym first-design-entered) (entered-rules n first list (sym first-refusal-entered ∙ accepted))

@@ -1,9 +1,10 @@
--- Changes of a design (01, "Records on disk"; 02, §2): add part, take out the part at a position or the parts of a group, add set; and a first
--- design.
+-- Changes of a design (01, "Records on disk"; 02, §2): add part, take out the part at a position or the parts of a group, add set; and designs to
+-- start from.
 use mathlib.Core.Bool.{Bool, true, not, cond, _&&_}
 use mathlib.Core.List.{List, [], _∷_, map}
 use Prim.Native.Nat.{ℕ, _+_}
 use lib.Dec.{ltb, eqb}
+use lib.ListN.{length}
 use Rattle.answer.specs.Refusals.{unknownPosition, inEverySet}
 use Rattle.answer.specs.Outcome.{refuse}
 use Rattle.answer.specs.Checks.{maskRefusal, groupRefusal}
@@ -83,6 +84,10 @@ changed addPart d = design (partAdded (d .parts) .list) (d .sets)
 changed (takeOut position) d = designWithout (single position) d
 changed (takeOutGroup group) d = designWithout group d
 changed (addSet set) d = design (d .parts) (minimalSets (d .parts .count) (listed (set ∷ d .sets)))
+
+-- a design of parts that already have numbers, with a list of sets as in the list form: these numbers, this mark, the minimal sets
+abbrev pub enteredDesign : ℕ → List ℕ → List ℕ → Design
+enteredDesign mark numbers list = design (listOf mark numbers) (minimalSets (length numbers) (listed list))
 
 -- a first design, of n parts and a list of sets as in the list form: part numbers 1 to n, mark n, the minimal sets
 abbrev pub firstDesign : ℕ → List ℕ → Design

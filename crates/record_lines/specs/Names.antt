@@ -1,6 +1,6 @@
 -- A design named by its part numbers and not by positions.
-use mathlib.Core.Bool.{Bool}
-use mathlib.Core.List.{List, map, List·Memᴰ}
+use mathlib.Core.Bool.{Bool, false, _||_}
+use mathlib.Core.List.{List, [], _∷_, map, List·Memᴰ}
 use mathlib.Core.Path.{_≡_}
 use Prim.Native.Nat.{ℕ, _-_}
 use lib.Dec.{eqb}
@@ -24,7 +24,12 @@ partNumberAt d position = getD (numbersOf (d .parts)) (position - 1) 0
 abbrev pub names : ℕ → List ℕ → Bool
 names number set = some (λ other. eqb number other) set
 
--- and names some part of a group, given by its part numbers
+-- some number stands twice on a list
+abbrev pub repeated : List ℕ → Bool
+repeated [] = false
+repeated (number ∷ numbers) = names number numbers || repeated numbers
+
+-- a set names some part of a group, given by its part numbers
 abbrev pub namesSome : List ℕ → List ℕ → Bool
 namesSome gone set = some (λ number. names number set) gone
 

@@ -15,7 +15,7 @@ use Rattle.answer.specs.declared.Verdict.the-variants.{Accepted}
 use Rattle.answer.proofs.Outcomes.{refuse-accepted, refuse-passed}
 use Rattle.numbers.specs.Counts.{choose}
 use Rattle.theory_sets.specs.Masks.{least}
-use Rattle.numbers.proofs.Bools.{and-left, and-right, and-both, clash}
+use Rattle.numbers.proofs.Bools.{and-left, and-right, and-both, neither, clash}
 use Rattle.theory_sets.proofs.Ranges.{any-false, any-none}
 use Rattle.vector_kind.specs.Kinds.{lengthOf}
 use Rattle.vector_conversion.specs.Vectors.{Scaled, standsFor, wholeCount, countsOf, wrongCount, falls, pathCountsRefusal, countsRefusal, vectorRefusal}
@@ -44,11 +44,6 @@ pub record RightCount (n j : ℕ) (count : Scaled) : Type 0 where
   pub most : wholeCount count ≤ choose n j
   pub none : j ≡ 0 → wholeCount count ≡ 0
   pub all : j ≡ n → wholeCount count ≡ 1
-
--- neither of two tests holds
-neither : (p q : Bool) → p || q ≡ false → (p ≡ false) × (q ≡ false)
-neither true q h = clash {p = true} refl h
-neither false q h = (refl, h)
 
 -- one test does not hold without another
 without : (p q : Bool) → p && not q ≡ false → p ≡ true → q ≡ true

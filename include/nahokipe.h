@@ -13,6 +13,10 @@
  * buffers that are lent to one call overlap; and nothing else changes them before the call returns.
  *
  * Positions of parts are not part numbers: when a part is taken out, the parts behind it move to lower positions and keep their numbers.
+ * After part 3 has left a machine of the parts 1 to 5, part 4 stands at position 3. Sets and groups are masks of positions everywhere.
+ * Each call on a record, or on a record's table, that takes a position, a set or a group warns of it and names the call that takes part
+ * numbers.
+ *
  * Two copies of one record issue the same next number: that a number never comes back holds along one line of changes, each made to what
  * the last one gave.
  *
@@ -31,8 +35,8 @@ extern "C" {
 #endif
 
 /*
- * What a call answers. number 0: given, and value is how many cells were written, 0 for a verdict and for nahokipe_figures. Else number
- * is why it was refused, and value is the place, 0 where the list below names none:
+ * What a call answers. number 0: given, and value is how many cells were written, 0 for a verdict and for nahokipe_figures, and what was
+ * asked for where the call says so. Else number is why it was refused, and value is the place, 0 where the list below names none:
  *
  *    1  n is not 1 to 16
  *    2  the list is empty
@@ -51,20 +55,22 @@ extern "C" {
  *   14  the path sets' proportion of all sets falls from size j to j + 1; the smallest such j
  *   15  the group is empty
  *   16  the group has bit n or above
- *   17  the position is not 1 to n
+ *   17  no part has this position or this part number
  *   18  every set names the part, or some part of the group
  *   19  the record has 16 parts
  *   20  the record's mark is 2^48 - 1
  *   21  the bytes end before a number does; the length of the input
- *   22  a number is not written in its shortest form, is over its top value, or takes more bytes than that can: seven for a part number
- *       and the mark, five for n, the count and a set of a record, nine in a sheet. Bit 7 set in the last of these is 22 also where the
- *       input ends there; its first byte's position, from 0
- *   23  a part number is 0, not above the one before it, or above the mark; its first byte's position
+ *   22  a number is not written in its shortest form, is over its top value, or takes more bytes than that can; its first byte's position,
+ *       from 0. Seven bytes are the most for a part number and the mark, five for n, the count and a set of a record, nine in a sheet. Bit
+ *       7 set in the last of these is 22 also where the input ends there
+ *   23  a part number is 0, not above the one before it, or above the mark, or the mark is above 2^48 - 1; its first byte's position. In
+ *       nahokipe_entered_record the number's index, from 0, also of one above 2^48 - 1, and n for the mark
  *   24  a set is not above the one before it, or holds an earlier one; its first byte's position
  *   25  bytes are left behind the last number; the first one's position
  *   26  the kind is not 1 to 4
  *   27  a line of a drawing's text is of another form; the line's number, from 1. An empty text is 27 at 1
- *   28  a position stands twice on a line of a drawing's text; the line's number, from 1
+ *   28  a position stands twice on a line of a drawing's text, or a part number twice among those wanted; the line's number, from 1, and 0
+ *       for a part number
  *
  * A record's own n, count and sets are refused with 1 to 5 as well, and then the place is the position of the number's first byte. A
  * drawing's text is refused with 1, 2, 3 and 17 as well, and then the place is the line's number, from 1.
@@ -79,7 +85,60 @@ typedef struct nahokipe_answer {
     size_t value;
 } nahokipe_answer;
 
-/* Writes the table of a list, the greater of 1 and 2^n / 8 bytes: 8,192 are enough for every n. Refused: 1 to 5, 11. */
+/* The refusals by name. */
+#define NAHOKIPE_WRONG_PART_COUNT 1
+#define NAHOKIPE_EMPTY_LIST 2
+#define NAHOKIPE_LONG_LIST 3
+#define NAHOKIPE_UNKNOWN_PART 4
+#define NAHOKIPE_EMPTY_SET 5
+#define NAHOKIPE_WRONG_TABLE_LENGTH 6
+#define NAHOKIPE_UNUSED_BIT 7
+#define NAHOKIPE_EMPTY_SET_WORKS 8
+#define NAHOKIPE_FULL_SET_FAILS 9
+#define NAHOKIPE_BROKEN_SET 10
+#define NAHOKIPE_SHORT_BUFFER 11
+#define NAHOKIPE_WRONG_VECTOR_LENGTH 12
+#define NAHOKIPE_WRONG_PATH_COUNT 13
+#define NAHOKIPE_FALLING_PROPORTION 14
+#define NAHOKIPE_EMPTY_GROUP 15
+#define NAHOKIPE_UNKNOWN_GROUP_PART 16
+#define NAHOKIPE_UNKNOWN_POSITION 17
+#define NAHOKIPE_IN_EVERY_SET 18
+#define NAHOKIPE_FULL_MACHINE 19
+#define NAHOKIPE_NUMBERS_SPENT 20
+#define NAHOKIPE_END_OF_BYTES 21
+#define NAHOKIPE_WRONG_NUMBER 22
+#define NAHOKIPE_WRONG_PART_NUMBER 23
+#define NAHOKIPE_WRONG_SET 24
+#define NAHOKIPE_BYTES_LEFT 25
+#define NAHOKIPE_WRONG_KIND 26
+#define NAHOKIPE_WRONG_LINE 27
+#define NAHOKIPE_REPEATED_POSITION 28
+
+/* The kinds of vectors by name; "Vectors", below, says what they are. */
+#define NAHOKIPE_PATH_COUNTS 1
+#define NAHOKIPE_TAIL 2
+#define NAHOKIPE_SIGNATURE 3
+#define NAHOKIPE_DOMINATION 4
+
+/*
+ * Lengths that are always enough. In cells: the most parts, which bound a signature, importances, shares and part numbers; the most sets of
+ * a list and minimal sets of a machine; the most entries of a vector; the most coefficients of h(x,z). In bytes: no table, record or sheet
+ * and no drawing's text that is written or accepted is longer than these, and the last two are enough for every report and for the line of
+ * every refusal.
+ */
+#define NAHOKIPE_MOST_PARTS 16
+#define NAHOKIPE_MOST_SETS 12870
+#define NAHOKIPE_MOST_ENTRIES 17
+#define NAHOKIPE_MOST_COEFFICIENTS 81
+#define NAHOKIPE_LONGEST_TABLE 8192
+#define NAHOKIPE_LONGEST_RECORD 38732
+#define NAHOKIPE_LONGEST_SHEET 155
+#define NAHOKIPE_LONGEST_DRAWING 553419
+#define NAHOKIPE_ENOUGH_FOR_REPORT 4096
+#define NAHOKIPE_ENOUGH_FOR_REFUSED_LINE 64
+
+/* Writes the table of a list, the greater of 1 and 2^n / 8 bytes: NAHOKIPE_LONGEST_TABLE is enough for every n. Refused: 1 to 5, 11. */
 nahokipe_answer nahokipe_table_of_list(size_t n, const uint16_t *list, size_t list_len, uint8_t *table, size_t table_len);
 
 /* Whether a list is one of n parts. Writes nothing. Refused: 1 to 5. */
@@ -92,8 +151,8 @@ nahokipe_answer nahokipe_list_verdict(size_t n, const uint16_t *list, size_t lis
 nahokipe_answer nahokipe_table_verdict(size_t n, const uint8_t *table, size_t table_len);
 
 /*
- * Writes the minimal sets of a table, the path sets that hold no other, ascending by mask: 12,870 cells are enough for every table.
- * Refused: 1, 6 to 11.
+ * Writes the minimal sets of a table, the path sets that hold no other, ascending by mask: NAHOKIPE_MOST_SETS cells are enough for every
+ * table. Refused: 1, 6 to 11.
  */
 nahokipe_answer nahokipe_minimal_sets(size_t n, const uint8_t *table, size_t table_len, uint16_t *sets, size_t sets_len);
 
@@ -126,24 +185,31 @@ nahokipe_answer nahokipe_figures(size_t n, const uint8_t *table, size_t table_le
                                  uint64_t *importance, size_t importance_len);
 
 /*
- * The shares of a group of m parts, given as a mask: in how many of the n! orders of failure the 1st, 2nd, ..., m-th failure inside the
- * group stops the machine. Refused: 1, 6 to 10, 15, 16, 11, and then no cell of any buffer is written.
+ * The shares of a group of m parts: in how many of the n! orders of failure the 1st, 2nd, ..., m-th failure inside the group stops the
+ * machine. Refused: 1, 6 to 10, 15, 16, 11, and then no cell of any buffer is written.
+ *
+ * WARNING, for each of these calls: the group is a mask of positions, and positions are not part numbers. nahokipe_mask_of makes the mask
+ * of part numbers.
  */
 
-/* Writes the m shares, 16 at the most, worked out path set by path set. */
+/* Writes the m shares, 16 at the most, worked out path set by path set. WARNING: the group has positions; nahokipe_mask_of makes it. */
 nahokipe_answer nahokipe_shares_by_sets(size_t n, const uint8_t *table, size_t table_len, size_t group, int64_t *cells, size_t cells_len);
 
-/* Writes the same m shares, worked out from the coefficients of h(x,z). */
+/* Writes the same m shares, worked out from the coefficients of h(x,z). WARNING: the group has positions; nahokipe_mask_of makes it. */
 nahokipe_answer nahokipe_shares_by_reliability(size_t n, const uint8_t *table, size_t table_len, size_t group, int64_t *cells,
                                                size_t cells_len);
 
-/* Writes the m shares by the first route into one buffer and by the second into the other. Where either is too short, neither is written. */
+/*
+ * Writes the m shares by the first route into one buffer and by the second into the other. Where either is too short, neither is written.
+ * WARNING: the group has positions; nahokipe_mask_of makes it.
+ */
 nahokipe_answer nahokipe_shares_by_both_routes(size_t n, const uint8_t *table, size_t table_len, size_t group, int64_t *first,
                                                size_t first_len, int64_t *second, size_t second_len);
 
 /*
- * Writes the (m + 1)(n - m + 1) coefficients of h(x,z), 81 at the most, the machine's reliability where the parts of the group have the reliability x
- * and the others z: that of x^i z^j in cell i (n - m + 1) + j.
+ * Writes the (m + 1)(n - m + 1) coefficients of h(x,z), NAHOKIPE_MOST_COEFFICIENTS at the most, the machine's reliability where the parts
+ * of the group have the reliability x and the others z: that of x^i z^j in cell i (n - m + 1) + j. WARNING: the group has positions;
+ * nahokipe_mask_of makes it.
  */
 nahokipe_answer nahokipe_reliability(size_t n, const uint8_t *table, size_t table_len, size_t group, int64_t *cells, size_t cells_len);
 
@@ -157,8 +223,8 @@ nahokipe_answer nahokipe_reliability(size_t n, const uint8_t *table, size_t tabl
 nahokipe_answer nahokipe_vector_verdict(uint8_t kind, size_t n, const int64_t *entries, size_t entries_len);
 
 /*
- * Writes the vector of the target kind that stands for the same path counts: n cells for a signature, else n + 1; 17 are enough.
- * Refused: 26 for either kind, 1, 12, 13, 14, 11.
+ * Writes the vector of the target kind that stands for the same path counts: n cells for a signature, else n + 1.
+ * NAHOKIPE_MOST_ENTRIES are enough. Refused: 26 for either kind, 1, 12, 13, 14, 11.
  */
 nahokipe_answer nahokipe_convert(uint8_t kind, size_t n, const int64_t *entries, size_t entries_len, uint8_t target, int64_t *cells,
                                  size_t cells_len);
@@ -168,7 +234,7 @@ nahokipe_answer nahokipe_convert(uint8_t kind, size_t n, const int64_t *entries,
  * bit 7 set on all but the last. An entry v of a domination is written as 2v, or -2v - 1 where it is negative. Numbers reach 2^63 - 1.
  */
 
-/* Writes the sheet of a vector: 155 bytes are enough for every vector. Refused: 26, 1, 12, 13, 14, 11. */
+/* Writes the sheet of a vector: NAHOKIPE_LONGEST_SHEET bytes are enough for every vector. Refused: 26, 1, 12, 13, 14, 11. */
 nahokipe_answer nahokipe_write_sheet(uint8_t kind, size_t n, const int64_t *entries, size_t entries_len, uint8_t *sheet,
                                      size_t sheet_len);
 
@@ -181,15 +247,15 @@ typedef struct nahokipe_sheet {
 } nahokipe_sheet;
 
 /*
- * Writes the entries of the vector in a sheet: 17 cells are enough. Refused, in this order: 21 and 22 of the kind; 26; 21 and 22 of n; 1, at
- * place 0; 21 and 22 of the entries, one after the other; 25; 13 and then 14, whose places are sizes; 11.
+ * Writes the entries of the vector in a sheet: NAHOKIPE_MOST_ENTRIES cells are enough. Refused, in this order: 21 and 22 of the kind; 26;
+ * 21 and 22 of n; 1, at place 0; 21 and 22 of the entries, one after the other; 25; 13 and then 14, whose places are sizes; 11.
  */
 nahokipe_sheet nahokipe_read_sheet(const uint8_t *sheet, size_t sheet_len, int64_t *cells, size_t cells_len);
 
 /*
  * Design records: n; the mark, which is the highest part number ever issued; the n part numbers, rising; the count of minimal sets; the
  * minimal sets, rising. All are numbers in groups of seven bits, as in a sheet; the mark and the part numbers reach 2^48 - 1, the others
- * 2^32 - 1. 40,000 bytes are enough for every record.
+ * 2^32 - 1. NAHOKIPE_LONGEST_RECORD bytes are enough for every record.
  */
 
 /*
@@ -202,7 +268,7 @@ typedef struct nahokipe_record {
     size_t value;
     size_t parts;
     uint64_t mark;
-    uint64_t numbers[16];
+    uint64_t numbers[NAHOKIPE_MOST_PARTS];
     size_t sets;
     size_t offset;
     size_t length;
@@ -227,7 +293,8 @@ typedef struct nahokipe_step {
 
 /*
  * The next set of a record, read where it stands. A walk begins with the offset and the sets of nahokipe_whole_record, or of
- * nahokipe_record_at, as next and left, and goes on with those of the last step. It ends where no set is left, or where no number can be read.
+ * nahokipe_record_at, as next and left, and goes on with those of the last step. It ends where no set is left, or where no number can be
+ * read.
  */
 nahokipe_step nahokipe_next_set(const uint8_t *bytes, size_t bytes_len, size_t next, size_t left);
 
@@ -238,6 +305,39 @@ nahokipe_answer nahokipe_table_of_record(const uint8_t *bytes, size_t bytes_len,
 nahokipe_answer nahokipe_first_record(size_t n, const uint16_t *list, size_t list_len, uint8_t *buffer, size_t buffer_len);
 
 /*
+ * Writes a record of parts that have numbers already. n is numbers_len, the part at position i has the number numbers[i - 1], and the
+ * list's masks are of these positions. The record has these part numbers, this mark and the minimal sets of the list; with the numbers 1
+ * to n and the mark n it is that of nahokipe_first_record. The mark is the highest number ever issued, also to a part that has left: a
+ * lower one would let a number come back. NAHOKIPE_LONGEST_RECORD bytes are enough. Refused: 1 to 5; 23, number by number, at the index of
+ * the first that is 0, is not above the one before it, or is above the mark or 2^48 - 1, and then at n if the mark is above 2^48 - 1; 11.
+ *
+ * WARNING: the list's masks are of positions, not of part numbers. nahokipe_mask_of makes them of part numbers.
+ */
+nahokipe_answer nahokipe_entered_record(uint64_t mark, const uint64_t *numbers, size_t numbers_len, const uint16_t *list, size_t list_len,
+                                        uint8_t *buffer, size_t buffer_len);
+
+/* Part numbers and positions. A list of part numbers is as nahokipe_whole_record hands it out: numbers, with parts as its length. */
+
+/*
+ * value is the position, from 1, of the one part of a record that has this number. Writes nothing. Refused: as nahokipe_whole_record, 17
+ * where no part has it.
+ */
+nahokipe_answer nahokipe_position_of(const uint8_t *bytes, size_t bytes_len, uint64_t number);
+
+/*
+ * value is the mask of the positions whose number is wanted, 0 where none is. They may be wanted in any order. A number that stands several
+ * times among the numbers, which no record has, has all its positions in the mask. Writes nothing. Refused: 1 where numbers_len is not 1 to
+ * 16; 17 where any wanted number is no part's; 28 where one is wanted twice.
+ */
+nahokipe_answer nahokipe_mask_of(const uint64_t *numbers, size_t numbers_len, const uint64_t *wanted, size_t wanted_len);
+
+/*
+ * Writes the numbers at the positions of a mask, in the order of the numbers: NAHOKIPE_MOST_PARTS cells are enough. Of a record's numbers
+ * nahokipe_mask_of makes the same mask of them again. Refused: 1 where numbers_len is not 1 to 16, 16, 11.
+ */
+nahokipe_answer nahokipe_numbers_of(const uint64_t *numbers, size_t numbers_len, size_t mask, uint64_t *cells, size_t cells_len);
+
+/*
  * Changes of a record: each reads the whole record, is refused as nahokipe_whole_record is, then as it says itself, then with 11, and
  * writes the new record.
  */
@@ -246,20 +346,47 @@ nahokipe_answer nahokipe_first_record(size_t n, const uint16_t *list, size_t lis
 nahokipe_answer nahokipe_add_part(const uint8_t *bytes, size_t bytes_len, uint8_t *buffer, size_t buffer_len);
 
 /*
- * The part at a position is held failed: sets that name it go, higher positions move down by one, part numbers and mark stay. A buffer as
- * long as the record is enough. Refused: 17, 18.
+ * The part that has this number is held failed: sets that name it go, the parts behind it move to positions lower by one, part numbers and
+ * mark stay. A buffer as long as the record is enough. Refused: 17 where no part has the number, 18.
+ */
+nahokipe_answer nahokipe_take_out_part(const uint8_t *bytes, size_t bytes_len, uint64_t number, uint8_t *buffer, size_t buffer_len);
+
+/*
+ * The parts that have these numbers, wanted in any order, are all held failed: sets that name one of them go, the other parts move down
+ * past all that left, part numbers and mark stay. The outcome, 18 or the new record, is that of taking them out one by one in any order, up
+ * to the first refusal. A buffer as long as the record is enough. Refused: 17 where any number is no part's, 28, 15 where none is wanted,
+ * 18.
+ */
+nahokipe_answer nahokipe_take_out_parts(const uint8_t *bytes, size_t bytes_len, const uint64_t *wanted, size_t wanted_len, uint8_t *buffer,
+                                        size_t buffer_len);
+
+/*
+ * One path set more, that of the parts that have these numbers, wanted in any order: the minimal sets of the old ones and the new one.
+ * NAHOKIPE_LONGEST_RECORD bytes are enough. Refused: 17 where any number is no part's, 28, 5 where none is wanted, with the place 0.
+ */
+nahokipe_answer nahokipe_add_set_of_parts(const uint8_t *bytes, size_t bytes_len, const uint64_t *wanted, size_t wanted_len,
+                                          uint8_t *buffer, size_t buffer_len);
+
+/*
+ * The part at a position is taken out, as nahokipe_take_out_part does. A buffer as long as the record is enough. Refused: 17, 18.
+ *
+ * WARNING: a position is not a part number. nahokipe_take_out_part takes the part number.
  */
 nahokipe_answer nahokipe_take_out(const uint8_t *bytes, size_t bytes_len, size_t position, uint8_t *buffer, size_t buffer_len);
 
 /*
- * The parts of a group, given as a mask of the positions in the record that is read, are all held failed: sets that name one of them go,
- * the other parts move down past all that left, part numbers and mark stay. The outcome, 18 or the new record, is that of taking the same
- * parts out singly in any order, each at the position where its part number then stands, up to the first refusal. A buffer as long as the
- * record is enough. Refused: 15, 16, 18.
+ * The parts of a group, given as a mask of the positions in the record that is read, are taken out, as nahokipe_take_out_parts does. A
+ * buffer as long as the record is enough. Refused: 15, 16, 18.
+ *
+ * WARNING: positions are not part numbers. nahokipe_take_out_parts takes part numbers.
  */
 nahokipe_answer nahokipe_take_out_group(const uint8_t *bytes, size_t bytes_len, size_t group, uint8_t *buffer, size_t buffer_len);
 
-/* One path set more: the minimal sets of the old ones and the new one. Refused: 4, 5, with the place 0. */
+/*
+ * One path set more, given as a mask of positions, as nahokipe_add_set_of_parts does. Refused: 4, 5, with the place 0.
+ *
+ * WARNING: positions are not part numbers. nahokipe_add_set_of_parts takes part numbers.
+ */
 nahokipe_answer nahokipe_add_set(const uint8_t *bytes, size_t bytes_len, uint16_t set, uint8_t *buffer, size_t buffer_len);
 
 /*
@@ -273,26 +400,27 @@ nahokipe_answer nahokipe_add_set(const uint8_t *bytes, size_t bytes_len, uint16_
  */
 
 /*
- * Writes the record of a text: part numbers 1 to n, mark n, the minimal sets; sets may stand in any order, repeatedly, and hold others. 40,000
- * bytes are enough. Refused, line by line: line 1 with 27, 1, and 2 if the text ends there; each of the others with 3 if it is line 12,872,
- * whatever stands there, 27, 17 for any of its positions, 28. Then with 11.
+ * Writes the record of a text: part numbers 1 to n, mark n, the minimal sets; sets may stand in any order, repeatedly, and hold others.
+ * NAHOKIPE_LONGEST_RECORD bytes are enough. Refused, line by line: line 1 with 27, 1, and 2 if the text ends there; each of the others with
+ * 3 if it is line 12,872, whatever stands there, 27, 17 for any of its positions, 28. Then with 11.
  */
 nahokipe_answer nahokipe_record_of_drawing(const uint8_t *text, size_t text_len, uint8_t *buffer, size_t buffer_len);
 
 /*
  * Writes the text of a record: its number of parts, and a line for each minimal set, sets ascending by mask and positions ascending.
- * 553,419 bytes are enough for every record. Refused: as nahokipe_whole_record, 11.
+ * NAHOKIPE_LONGEST_DRAWING bytes are enough for every record. Refused: as nahokipe_whole_record, 11.
  */
 nahokipe_answer nahokipe_drawing_of_record(const uint8_t *bytes, size_t bytes_len, uint8_t *buffer, size_t buffer_len);
 
 /*
- * Writes the report on a record, and the record's table into the first buffer; value is the text's length in bytes, of which 4,096 are
- * enough. The text gives parts, sets and mark, then the signature by `order`, the domination by `dom` and the importances by `part` and
- * part number, each line ended by a line feed. Refused: as nahokipe_whole_record, 11 for the table and then for the text.
+ * Writes the report on a record, and the record's table into the first buffer; value is the text's length in bytes, of which
+ * NAHOKIPE_ENOUGH_FOR_REPORT are enough. The text gives parts, sets and mark, then the signature by `order`, the domination by `dom` and
+ * the importances by `part` and part number, each line ended by a line feed. Refused: as nahokipe_whole_record, 11 for the table and then
+ * for the text.
  */
 nahokipe_answer nahokipe_report(const uint8_t *bytes, size_t bytes_len, uint8_t *table, size_t table_len, uint8_t *text, size_t text_len);
 
-/* Writes the line `refused NUMBER PLACE` with its line feed: 64 bytes are enough. Refused: 11. */
+/* Writes the line `refused NUMBER PLACE` with its line feed: NAHOKIPE_ENOUGH_FOR_REFUSED_LINE bytes are enough. Refused: 11. */
 nahokipe_answer nahokipe_refused_line(uint8_t number, size_t place, uint8_t *text, size_t text_len);
 
 #ifdef __cplusplus

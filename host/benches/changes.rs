@@ -14,11 +14,12 @@ mod baseline {
 }
 mod timing;
 
-use nahokipe_host::comparing::Left;
-use nahokipe_host::making::{damaged_record, largest_record, random_group, random_record};
-use nahokipe_host::naive_records::{changed, Change, MOST_RECORD};
-use nahokipe_host::seeded::Seeded;
-use nahokipe_host::Refusal;
+use nahokipe::lent::LONGEST_RECORD;
+use nahokipe::Refusal;
+use nahokipe_testing::comparing::Left;
+use nahokipe_testing::making::{damaged_record, largest_record, random_group, random_record};
+use nahokipe_testing::naive_records::{changed, Change};
+use nahokipe_testing::seeded::Seeded;
 use std::hint::black_box;
 use timing::{print_head, print_row, side_by_side, timed};
 
@@ -41,8 +42,8 @@ struct Program {
 }
 
 const CALCULATOR: Program = Program {
-    take_out: nahokipe_host::take_out,
-    take_out_group: nahokipe_host::take_out_group,
+    take_out: nahokipe::lent::take_out,
+    take_out_group: nahokipe::lent::take_out_group,
 };
 
 const BASELINE: Program = Program {
@@ -69,7 +70,7 @@ fn main() {
 /// One change by both programs, whose new record is that of the naive program.
 fn print_step(name: &str, calls: [Call; 2], record: &[u8], (parts, change): (usize, Change)) {
     let expected = changed(record, change).expect("a set left");
-    let once = |call| round(call, record, parts, MOST_RECORD);
+    let once = |call| round(call, record, parts, LONGEST_RECORD);
     let (ours, theirs) = side_by_side(
         ROUNDS,
         || once(calls[0]),
@@ -114,7 +115,7 @@ fn agree() {
 
 /// Two calls leave the same, in a buffer of the most bytes that any record needs and in short ones.
 fn agree_on(calls: [Call; 2], bytes: &[u8], parts: usize) {
-    for length in [0, 20, MOST_RECORD] {
+    for length in [0, 20, LONGEST_RECORD] {
         let [ours, theirs] = calls.map(|call| round(call, bytes, parts, length).0);
         assert!(ours == theirs, "{parts:#x} of {bytes:02X?}, {length} lent");
     }

@@ -14,12 +14,11 @@ mod baseline {
 }
 mod timing;
 
-use nahokipe_host::comparing::{given, Call, Left};
-use nahokipe_host::making::{damaged_drawing, damaged_record, largest_drawing};
-use nahokipe_host::making::{random_drawing, random_record};
-use nahokipe_host::naive_drawing::MOST_TEXT;
-use nahokipe_host::naive_records::MOST_RECORD;
-use nahokipe_host::seeded::Seeded;
+use nahokipe::lent::{LONGEST_DRAWING, LONGEST_RECORD};
+use nahokipe_testing::comparing::{given, Call, Left};
+use nahokipe_testing::making::{damaged_drawing, damaged_record, largest_drawing};
+use nahokipe_testing::making::{random_drawing, random_record};
+use nahokipe_testing::seeded::Seeded;
 use std::hint::black_box;
 use timing::{print_head, print_row, side_by_side, timed};
 
@@ -32,8 +31,8 @@ struct Program {
 }
 
 const CALCULATOR: Program = Program {
-    record_of_drawing: nahokipe_host::record_of_drawing,
-    drawing_of_record: nahokipe_host::drawing_of_record,
+    record_of_drawing: nahokipe::lent::record_of_drawing,
+    drawing_of_record: nahokipe::lent::drawing_of_record,
 };
 
 const BASELINE: Program = Program {
@@ -44,7 +43,7 @@ const BASELINE: Program = Program {
 fn main() {
     agree();
     let text = largest_drawing().into_bytes();
-    let record = given(CALCULATOR.record_of_drawing, &text, MOST_RECORD);
+    let record = given(CALCULATOR.record_of_drawing, &text, LONGEST_RECORD);
     let record = record.expect("an accepted text");
     let what = format!(
         "the text of all sets of 8 of 16 parts, {} bytes, and its record, {} bytes",
@@ -52,9 +51,9 @@ fn main() {
         record.len()
     );
     print_head(&what, ROUNDS);
-    let read = |program: &Program| (program.record_of_drawing, MOST_RECORD);
+    let read = |program: &Program| (program.record_of_drawing, LONGEST_RECORD);
     print_step("text read", read, &text, &record);
-    let written = |program: &Program| (program.drawing_of_record, MOST_TEXT);
+    let written = |program: &Program| (program.drawing_of_record, LONGEST_DRAWING);
     print_step("text written", written, &record, &text);
 }
 
@@ -93,14 +92,14 @@ fn agree() {
                 damaged_drawing(&mut seeded, n),
             ] {
                 let calls = [CALCULATOR.record_of_drawing, BASELINE.record_of_drawing];
-                agree_on(calls, text.as_bytes(), MOST_RECORD);
+                agree_on(calls, text.as_bytes(), LONGEST_RECORD);
             }
             for bytes in [
                 random_record(&mut seeded, n),
                 damaged_record(&mut seeded, n),
             ] {
                 let calls = [CALCULATOR.drawing_of_record, BASELINE.drawing_of_record];
-                agree_on(calls, &bytes, MOST_TEXT);
+                agree_on(calls, &bytes, LONGEST_DRAWING);
             }
         }
     }

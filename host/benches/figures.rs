@@ -9,9 +9,9 @@ mod baseline {
 }
 mod timing;
 
-use nahokipe_host::making::six_of_sixteen;
-use nahokipe_host::naive_figures::Buffers;
-use nahokipe_host::Refusal;
+use nahokipe::Refusal;
+use nahokipe_testing::making::six_of_sixteen;
+use nahokipe_testing::naive_figures::Buffers;
 use std::hint::black_box;
 use timing::{print_head, print_row, side_by_side, timed};
 
@@ -22,7 +22,7 @@ const ROUNDS: usize = 5_000;
 type Program =
     fn(usize, &[u8], &mut [i64], &mut [i64], &mut [i64], &mut [u64]) -> Result<(), Refusal>;
 
-const CALCULATOR: Program = nahokipe_host::figures;
+const CALCULATOR: Program = nahokipe::lent::figures;
 const BASELINE: Program = baseline::figures::figures;
 
 fn main() {

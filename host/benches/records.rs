@@ -12,10 +12,9 @@ mod baseline {
 }
 mod timing;
 
-use nahokipe_host::making::{damaged_record, largest_record, random_record};
-use nahokipe_host::records::Record;
-use nahokipe_host::seeded::Seeded;
-use nahokipe_host::{next_set, Refusal};
+use nahokipe::{next_set, Record, Refusal};
+use nahokipe_testing::making::{damaged_record, largest_record, random_record};
+use nahokipe_testing::seeded::Seeded;
 use std::hint::black_box;
 use timing::{print_head, print_row, side_by_side, timed};
 
@@ -30,8 +29,8 @@ struct Program {
 }
 
 const CALCULATOR: Program = Program {
-    whole_record: nahokipe_host::whole_record,
-    table_of_record: nahokipe_host::table_of_record,
+    whole_record: nahokipe::whole_record,
+    table_of_record: nahokipe::lent::table_of_record,
     walk,
 };
 

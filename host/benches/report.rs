@@ -17,9 +17,9 @@ mod baseline {
 }
 mod timing;
 
-use nahokipe_host::making::{damaged_record, largest_record, random_record};
-use nahokipe_host::seeded::Seeded;
-use nahokipe_host::Refusal;
+use nahokipe::Refusal;
+use nahokipe_testing::making::{damaged_record, largest_record, random_record};
+use nahokipe_testing::seeded::Seeded;
 use std::hint::black_box;
 use std::io::{Read, Write};
 use std::path::{Path, PathBuf};
@@ -35,7 +35,7 @@ const AS_PROGRAM: &str = "as-program";
 /// The call that is timed.
 type Call = fn(&[u8], &mut [u8], &mut [u8]) -> Result<usize, Refusal>;
 
-const CALCULATOR: Call = nahokipe_host::report;
+const CALCULATOR: Call = nahokipe::lent::report;
 const BASELINE: Call = baseline::report::report;
 
 fn main() {

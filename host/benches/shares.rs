@@ -9,8 +9,8 @@ mod baseline {
 }
 mod timing;
 
-use nahokipe_host::making::six_of_sixteen;
-use nahokipe_host::Refusal;
+use nahokipe::Refusal;
+use nahokipe_testing::making::six_of_sixteen;
 use std::hint::black_box;
 use timing::{print_head, print_row, side_by_side, timed};
 
@@ -21,7 +21,7 @@ const ROUNDS: usize = 2_000;
 /// The call that is timed.
 type Program = fn(usize, &[u8], usize, &mut [i64], &mut [i64]) -> Result<usize, Refusal>;
 
-const CALCULATOR: Program = nahokipe_host::shares_by_both_routes;
+const CALCULATOR: Program = nahokipe::lent::shares_by_both_routes;
 const BASELINE: Program = baseline::shares::shares_by_both_routes;
 
 fn main() {

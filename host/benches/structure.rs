@@ -8,7 +8,7 @@ mod baseline {
 }
 mod timing;
 
-use nahokipe_host::Refusal;
+use nahokipe::Refusal;
 use std::hint::black_box;
 use timing::{print_head, print_row, side_by_side, timed};
 
@@ -24,9 +24,9 @@ struct Program {
 }
 
 const CALCULATOR: Program = Program {
-    table_of_list: nahokipe_host::table_of_list,
-    table_verdict: nahokipe_host::table_verdict,
-    minimal_sets: nahokipe_host::minimal_sets,
+    table_of_list: nahokipe::lent::table_of_list,
+    table_verdict: nahokipe::table_verdict,
+    minimal_sets: nahokipe::lent::minimal_sets,
 };
 
 const BASELINE: Program = Program {

@@ -1,345 +1,94 @@
-//! Safe calls of the calculator's static library, on Rust slices.
+//! Safe calls of the signature calculator, a proved static library for machines of up to 16 parts.
 //!
-//! Every function takes every input: where the calculator refuses, the answer is a [`Refusal`] and what was lent is as it was.
+//! Every function takes every input: what the calculator does not accept is answered with a [`Refusal`]. The calls at the root make their
+//! buffers themselves and give vectors; those in [`lent`] write into a buffer that the caller lends, and allocate nothing.
 //!
-//! `./check` runs the tests. `cargo bench --manifest-path host/Cargo.toml` runs the benchmarks, once `rt staticlib nahokipe` has written
-//! the archive.
+//! # From a record to figures and a change
+//!
+//! A record keeps a machine: its parts by number, the highest number ever issued, which is its mark, and the minimal sets of parts that
+//! suffice to run it. Part numbers stay with their parts. Positions, 1 to n in the order of the part numbers, move when a part leaves. A set
+//! of positions is a mask: the part at position i is bit i - 1.
+//!
+//! ```
+//! use nahokipe::{add_part, add_set_of_parts, entered_record, figures, mask_of, report};
+//! use nahokipe::{numbers_of, sets_of_record, table_of_record, take_out_part, whole_record};
+//!
+//! # fn main() -> Result<(), nahokipe::Refusal> {
+//! // A controller, number 3, with two pumps, 7 and 12. Number 15 was issued once, and its part has left.
+//! let numbers = [3, 7, 12];
+//! let sets = [mask_of(&numbers, &[3, 7])?, mask_of(&numbers, &[3, 12])?];
+//! let record = entered_record(15, &numbers, &sets)?;
+//!
+//! // What a record says, and its sets by part numbers.
+//! let read = whole_record(&record)?;
+//! assert_eq!((read.mark, read.sets), (15, 2));
+//! assert_eq!(read.numbers, numbers);
+//! let second = sets_of_record(&record)?[1];
+//! assert_eq!(numbers_of(&read.numbers, second as usize)?, [3, 12]);
+//!
+//! // The figures count the 3! = 6 orders in which the parts can fail.
+//! let figures = figures(3, &table_of_record(&record)?)?;
+//! assert_eq!(figures.signature, [2, 4, 0]);
+//! assert_eq!(figures.importance, [4, 1, 1]);
+//! assert!(report(&record)?.starts_with(b"parts 3 sets 2 mark 15\n"));
+//!
+//! // Pump 7 leaves and another comes. Its number is one that was never issued, and it is in no set until one is added.
+//! let record = add_part(&take_out_part(&record, 7)?)?;
+//! assert_eq!(whole_record(&record)?.numbers, [3, 12, 16]);
+//! let record = add_set_of_parts(&record, &[3, 16])?;
+//! assert_eq!(sets_of_record(&record)?, [0b011, 0b101]);
+//!
+//! // There is no part 7 any more.
+//! let refusal = take_out_part(&record, 7).unwrap_err();
+//! assert_eq!(refusal.number, 17);
+//! # Ok(())
+//! # }
+//! ```
+//!
+//! # Building
+//!
+//! The package links libnahokipe.a, which `rt staticlib nahokipe` writes to target/staticlib of the repository; the variable NAHOKIPE_LIB_DIR
+//! names another folder that has it. Calls keep nothing between them and may run in any number of threads at once; 256 KiB of stack are
+//! enough for every call.
+//!
+//! `./check` runs the tests, and `cargo bench --manifest-path host/Cargo.toml` the benchmarks.
 
-use std::fmt;
+mod changes;
+mod declared;
+mod drawings;
+mod figures;
+mod kind;
+pub mod lent;
+mod part_numbers;
+mod records;
+mod refusal;
+mod report;
+mod shares;
+mod structures;
+mod vectors;
 
-pub mod comparing;
-pub mod known;
-pub mod making;
-pub mod naive;
-pub mod naive_bytes;
-pub mod naive_drawing;
-pub mod naive_figures;
-pub mod naive_records;
-pub mod naive_report;
-pub mod naive_shares;
-pub mod naive_vectors;
-pub mod records;
-pub mod report;
-pub mod seeded;
-pub mod vectors;
-
-pub use records::{
-    add_part, add_set, drawing_of_record, first_record, next_set, record_at, record_of_drawing,
-    stretch, table_of_record, take_out, take_out_group, walk, whole_record,
-};
+pub use changes::{add_part, add_set_of_parts, take_out_part, take_out_parts};
+pub use changes::{add_set, take_out, take_out_group};
+pub use drawings::{drawing_of_record, record_of_drawing};
+pub use figures::{domination, figures, importance, path_counts, signature, tail, Figures};
+pub use kind::Kind;
+pub use part_numbers::{mask_of, numbers_of, position_of};
+pub use records::{entered_record, first_record, record_at, table_of_record, whole_record, Record};
+pub use records::{next_set, sets_of_record, stretch, walk, Step, Walk};
+pub use refusal::Refusal;
 pub use report::{refused_line, report};
-pub use vectors::{convert, read_sheet, vector_verdict, write_sheet};
+pub use shares::{reliability, shares_by_both_routes, shares_by_reliability, shares_by_sets};
+pub use structures::{list_verdict, minimal_sets, table_of_list, table_verdict};
+pub use vectors::{convert, read_sheet, vector_verdict, write_sheet, Vector};
 
-/// Why a call was refused: a number of document 01, "Where each refusal is found", or of document 02, and the place that it reports.
-#[derive(Clone, Copy, Debug, PartialEq, Eq)]
-pub struct Refusal {
-    pub number: u8,
-    pub place: usize,
-}
-
-impl fmt::Display for Refusal {
-    fn fmt(&self, f: &mut fmt::Formatter<'_>) -> fmt::Result {
-        write!(f, "refused {} {}", self.number, self.place)
-    }
-}
-
-impl std::error::Error for Refusal {}
-
-/// The table of a list of sets, into `table`: the number of bytes written.
-pub fn table_of_list(n: usize, list: &[u16], table: &mut [u8]) -> Result<usize, Refusal> {
-    let answer = unsafe {
-        nahokipe_table_of_list(
-            n,
-            list.as_ptr(),
-            list.len(),
-            table.as_mut_ptr(),
-            table.len(),
-        )
-    };
-    answer.given()
-}
-
-/// Whether a list of sets is one of n parts.
-pub fn list_verdict(n: usize, list: &[u16]) -> Result<(), Refusal> {
-    let answer = unsafe { nahokipe_list_verdict(n, list.as_ptr(), list.len()) };
-    answer.given().map(drop)
-}
-
-/// Whether a table is a semicoherent structure of n parts.
-pub fn table_verdict(n: usize, table: &[u8]) -> Result<(), Refusal> {
-    let answer = unsafe { nahokipe_table_verdict(n, table.as_ptr(), table.len()) };
-    answer.given().map(drop)
-}
-
-/// The minimal path sets of a table, ascending, into `sets`: how many were written.
-pub fn minimal_sets(n: usize, table: &[u8], sets: &mut [u16]) -> Result<usize, Refusal> {
-    of_table(nahokipe_minimal_sets, n, table, sets)
-}
-
-/// The path counts φ(0) to φ(n) of a table, into `cells`: how many were written.
-pub fn path_counts(n: usize, table: &[u8], cells: &mut [i64]) -> Result<usize, Refusal> {
-    of_table(nahokipe_path_counts, n, table, cells)
-}
-
-/// The tail T(0) to T(n) of a table, into `cells`: how many were written.
-pub fn tail(n: usize, table: &[u8], cells: &mut [i64]) -> Result<usize, Refusal> {
-    of_table(nahokipe_tail, n, table, cells)
-}
-
-/// The signature N(1) to N(n) of a table, into `cells`: how many were written.
-pub fn signature(n: usize, table: &[u8], cells: &mut [i64]) -> Result<usize, Refusal> {
-    of_table(nahokipe_signature, n, table, cells)
-}
-
-/// The domination d(0) to d(n) of a table, into `cells`: how many were written.
-pub fn domination(n: usize, table: &[u8], cells: &mut [i64]) -> Result<usize, Refusal> {
-    of_table(nahokipe_domination, n, table, cells)
-}
-
-/// The Barlow-Proschan counts of all parts of a table, by position, into `cells`: how many were written.
-pub fn importance(n: usize, table: &[u8], cells: &mut [u64]) -> Result<usize, Refusal> {
-    of_table(nahokipe_importance, n, table, cells)
-}
-
-/// The path counts, the signature, the domination and the importances of a table at once, with one check of the table. Room is asked
-/// for in this order.
-pub fn figures(
-    n: usize,
-    table: &[u8],
-    counts: &mut [i64],
-    signature: &mut [i64],
-    domination: &mut [i64],
-    importance: &mut [u64],
-) -> Result<(), Refusal> {
-    let answer = unsafe {
-        nahokipe_figures(
-            n,
-            table.as_ptr(),
-            table.len(),
-            counts.as_mut_ptr(),
-            counts.len(),
-            signature.as_mut_ptr(),
-            signature.len(),
-            domination.as_mut_ptr(),
-            domination.len(),
-            importance.as_mut_ptr(),
-            importance.len(),
-        )
-    };
-    answer.given().map(drop)
-}
-
-/// The shares of a group, set by set, into `cells`: how many were written.
-pub fn shares_by_sets(
-    n: usize,
-    table: &[u8],
-    group: usize,
-    cells: &mut [i64],
-) -> Result<usize, Refusal> {
-    of_group(nahokipe_shares_by_sets, n, table, group, cells)
-}
-
-/// The shares of a group through h(x,z), into `cells`: how many were written.
-pub fn shares_by_reliability(
-    n: usize,
-    table: &[u8],
-    group: usize,
-    cells: &mut [i64],
-) -> Result<usize, Refusal> {
-    of_group(nahokipe_shares_by_reliability, n, table, group, cells)
-}
-
-/// The coefficients of h(x,z) of a group, that of x^i z^j in cell i (n-m+1) + j, into `cells`: how many were written.
-pub fn reliability(
-    n: usize,
-    table: &[u8],
-    group: usize,
-    cells: &mut [i64],
-) -> Result<usize, Refusal> {
-    of_group(nahokipe_reliability, n, table, group, cells)
-}
-
-/// The shares of a group set by set into `first` and through h(x,z) into `second`: how many were written into either.
-pub fn shares_by_both_routes(
-    n: usize,
-    table: &[u8],
-    group: usize,
-    first: &mut [i64],
-    second: &mut [i64],
-) -> Result<usize, Refusal> {
-    let answer = unsafe {
-        nahokipe_shares_by_both_routes(
-            n,
-            table.as_ptr(),
-            table.len(),
-            group,
-            first.as_mut_ptr(),
-            first.len(),
-            second.as_mut_ptr(),
-            second.len(),
-        )
-    };
-    answer.given()
-}
-
-/// A call that works on a table and writes into a buffer.
-type OfTable<T> = unsafe extern "C" fn(usize, *const u8, usize, *mut T, usize) -> Answer;
-
-fn of_table<T>(
-    call: OfTable<T>,
-    n: usize,
-    table: &[u8],
-    cells: &mut [T],
-) -> Result<usize, Refusal> {
-    let (room, length) = (cells.as_mut_ptr(), cells.len());
-    unsafe { call(n, table.as_ptr(), table.len(), room, length) }.given()
-}
-
-/// A call that works on a table and a group and writes into a buffer.
-type OfGroup = unsafe extern "C" fn(usize, *const u8, usize, usize, *mut i64, usize) -> Answer;
-
-fn of_group(
-    call: OfGroup,
-    n: usize,
-    table: &[u8],
-    group: usize,
-    cells: &mut [i64],
-) -> Result<usize, Refusal> {
-    let (room, length) = (cells.as_mut_ptr(), cells.len());
-    unsafe { call(n, table.as_ptr(), table.len(), group, room, length) }.given()
-}
-
-/// The answer as it comes through C: number 0 with the length written, or a refusal's number with its place.
-#[repr(C)]
-struct Answer {
-    number: u8,
-    value: usize,
-}
-
-impl Answer {
-    fn given(self) -> Result<usize, Refusal> {
-        match self.number {
-            0 => Ok(self.value),
-            number => Err(Refusal {
-                number,
-                place: self.value,
-            }),
-        }
-    }
-}
-
-// The functions of include/nahokipe.h. A slice goes as a pointer and a length; the pointer of an empty Rust slice is not null, as
-// they ask for.
-extern "C" {
-    fn nahokipe_table_of_list(
-        n: usize,
-        list: *const u16,
-        list_len: usize,
-        table: *mut u8,
-        table_len: usize,
-    ) -> Answer;
-
-    fn nahokipe_list_verdict(n: usize, list: *const u16, list_len: usize) -> Answer;
-
-    fn nahokipe_table_verdict(n: usize, table: *const u8, table_len: usize) -> Answer;
-
-    fn nahokipe_minimal_sets(
-        n: usize,
-        table: *const u8,
-        table_len: usize,
-        sets: *mut u16,
-        sets_len: usize,
-    ) -> Answer;
-
-    fn nahokipe_path_counts(
-        n: usize,
-        table: *const u8,
-        table_len: usize,
-        cells: *mut i64,
-        cells_len: usize,
-    ) -> Answer;
-
-    fn nahokipe_tail(
-        n: usize,
-        table: *const u8,
-        table_len: usize,
-        cells: *mut i64,
-        cells_len: usize,
-    ) -> Answer;
-
-    fn nahokipe_signature(
-        n: usize,
-        table: *const u8,
-        table_len: usize,
-        cells: *mut i64,
-        cells_len: usize,
-    ) -> Answer;
-
-    fn nahokipe_domination(
-        n: usize,
-        table: *const u8,
-        table_len: usize,
-        cells: *mut i64,
-        cells_len: usize,
-    ) -> Answer;
-
-    fn nahokipe_importance(
-        n: usize,
-        table: *const u8,
-        table_len: usize,
-        cells: *mut u64,
-        cells_len: usize,
-    ) -> Answer;
-
-    fn nahokipe_figures(
-        n: usize,
-        table: *const u8,
-        table_len: usize,
-        counts: *mut i64,
-        counts_len: usize,
-        signature: *mut i64,
-        signature_len: usize,
-        domination: *mut i64,
-        domination_len: usize,
-        importance: *mut u64,
-        importance_len: usize,
-    ) -> Answer;
-
-    fn nahokipe_shares_by_sets(
-        n: usize,
-        table: *const u8,
-        table_len: usize,
-        group: usize,
-        cells: *mut i64,
-        cells_len: usize,
-    ) -> Answer;
-
-    fn nahokipe_shares_by_reliability(
-        n: usize,
-        table: *const u8,
-        table_len: usize,
-        group: usize,
-        cells: *mut i64,
-        cells_len: usize,
-    ) -> Answer;
-
-    fn nahokipe_reliability(
-        n: usize,
-        table: *const u8,
-        table_len: usize,
-        group: usize,
-        cells: *mut i64,
-        cells_len: usize,
-    ) -> Answer;
-
-    fn nahokipe_shares_by_both_routes(
-        n: usize,
-        table: *const u8,
-        table_len: usize,
-        group: usize,
-        first: *mut i64,
-        first_len: usize,
-        second: *mut i64,
-        second_len: usize,
-    ) -> Answer;
+/// What a call writes into a buffer that is always enough, cut to its length.
+fn written<T: Clone + Default>(
+    enough: usize,
+    call: impl FnOnce(&mut [T]) -> Result<usize, Refusal>,
+) -> Result<Vec<T>, Refusal> {
+    let mut buffer = vec![T::default(); enough];
+    let length = call(&mut buffer)?;
+    buffer.truncate(length);
+    buffer.shrink_to_fit();
+    Ok(buffer)
 }

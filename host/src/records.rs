@@ -1,6 +1,8 @@
-//! Design records: read, walked, turned into tables, changed, and read from and written as the drawing tool's text.
+//! Design records: made, read, walked, and turned into tables.
 
-use crate::{Answer, Refusal};
+use crate::declared::{Answer, RecordAnswer, StepAnswer};
+use crate::lent::{self, LONGEST_RECORD, LONGEST_TABLE};
+use crate::{written, Refusal};
 
 /// What a record says, beside its sets, and where their bytes stand.
 #[derive(Clone, Debug, PartialEq, Eq)]
@@ -18,22 +20,78 @@ pub struct Record {
 }
 
 /// The record that the bytes are.
+///
+/// ```
+/// let bridge = [5, 5, 1, 2, 3, 4, 5, 4, 0x09, 0x0E, 0x12, 0x15];
+/// let record = nahokipe::whole_record(&bridge)?;
+/// assert_eq!((record.mark, record.sets), (5, 4));
+/// assert_eq!(record.numbers, [1, 2, 3, 4, 5]);
+///
+/// let refusal = nahokipe::whole_record(&bridge[..11]).unwrap_err();
+/// assert_eq!((refusal.number, refusal.place), (21, 11));
+/// # Ok::<(), nahokipe::Refusal>(())
+/// ```
 pub fn whole_record(bytes: &[u8]) -> Result<Record, Refusal> {
-    whole_record_answer(bytes).given()
+    record_of(lent::whole_record_answer(bytes))
 }
 
-/// The record that stands at a position. What comes after it is not looked at.
+/// The record that stands at a position of the bytes. What comes after it is not looked at.
+///
+/// ```
+/// let two = [1, 1, 1, 1, 1, 2, 9, 4, 8, 1, 3];
+/// let first = nahokipe::record_at(&two, 0)?;
+/// let second = nahokipe::record_at(&two, first.offset + first.length)?;
+/// assert_eq!(second.numbers, [4, 8]);
+/// # Ok::<(), nahokipe::Refusal>(())
+/// ```
 pub fn record_at(bytes: &[u8], start: usize) -> Result<Record, Refusal> {
-    record_at_answer(bytes, start).given()
+    record_of(lent::record_at_answer(bytes, start))
+}
+
+/// An accepted record, or the refusal.
+fn record_of(answer: RecordAnswer) -> Result<Record, Refusal> {
+    let RecordAnswer { number, value, .. } = answer;
+    Answer { number, value }.given()?;
+    Ok(Record {
+        mark: answer.mark,
+        numbers: answer.numbers[..answer.parts].to_vec(),
+        sets: answer.sets,
+        offset: answer.offset,
+        length: answer.length,
+    })
 }
 
 /// The bytes of a whole record that carry its sets.
+///
+/// ```
+/// assert_eq!(nahokipe::stretch(&[2, 2, 1, 2, 2, 0b01, 0b10])?, [0b01, 0b10]);
+/// # Ok::<(), nahokipe::Refusal>(())
+/// ```
 pub fn stretch(bytes: &[u8]) -> Result<&[u8], Refusal> {
     let record = whole_record(bytes)?;
     Ok(&bytes[record.offset..record.offset + record.length])
 }
 
+/// The minimal sets of a whole record, ascending: masks of its positions. [`crate::numbers_of`] turns one into part numbers.
+///
+/// ```
+/// let bridge = [5, 5, 1, 2, 3, 4, 5, 4, 0x09, 0x0E, 0x12, 0x15];
+/// assert_eq!(nahokipe::sets_of_record(&bridge)?, [0x09, 0x0E, 0x12, 0x15]);
+/// # Ok::<(), nahokipe::Refusal>(())
+/// ```
+pub fn sets_of_record(bytes: &[u8]) -> Result<Vec<u16>, Refusal> {
+    let narrow = |set: u64| u16::try_from(set).expect("a set of up to 16 parts");
+    Ok(walk(bytes)?.map(narrow).collect())
+}
+
 /// A walk along the sets of a whole record.
+///
+/// ```
+/// let bridge = [5, 5, 1, 2, 3, 4, 5, 4, 0x09, 0x0E, 0x12, 0x15];
+/// let parts: Vec<u32> = nahokipe::walk(&bridge)?.map(u64::count_ones).collect();
+/// assert_eq!(parts, [2, 3, 2, 3]);
+/// # Ok::<(), nahokipe::Refusal>(())
+/// ```
 pub fn walk(bytes: &[u8]) -> Result<Walk<'_>, Refusal> {
     let record = whole_record(bytes)?;
     Ok(Walk {
@@ -64,8 +122,11 @@ impl Iterator for Walk<'_> {
 /// A set, the position behind it, and how many sets are left there.
 #[derive(Clone, Copy, Debug, PartialEq, Eq)]
 pub struct Step {
+    /// The set.
     pub set: u64,
+    /// The position behind it.
     pub next: usize,
+    /// How many sets are left there.
     pub left: usize,
 }
 
@@ -76,230 +137,46 @@ pub fn next_set(bytes: &[u8], next: usize, left: usize) -> Option<Step> {
         set,
         next,
         left,
-    } = step_answer(bytes, next, left);
+    } = lent::step_answer(bytes, next, left);
     (given == 1).then_some(Step { set, next, left })
 }
 
-/// The table of a record, into `table`: the number of bytes written.
-pub fn table_of_record(bytes: &[u8], table: &mut [u8]) -> Result<usize, Refusal> {
-    let answer = unsafe {
-        nahokipe_table_of_record(bytes.as_ptr(), bytes.len(), table.as_mut_ptr(), table.len())
-    };
-    answer.given()
+/// The table of a record.
+///
+/// ```
+/// assert_eq!(nahokipe::table_of_record(&[2, 2, 1, 2, 2, 0b01, 0b10])?, [0b1110]);
+/// # Ok::<(), nahokipe::Refusal>(())
+/// ```
+pub fn table_of_record(bytes: &[u8]) -> Result<Vec<u8>, Refusal> {
+    written(LONGEST_TABLE, |table| lent::table_of_record(bytes, table))
 }
 
-/// A first record of a list of sets, with part numbers 1 to n and mark n, into `buffer`: the number of bytes written.
-pub fn first_record(n: usize, list: &[u16], buffer: &mut [u8]) -> Result<usize, Refusal> {
-    let answer = unsafe {
-        nahokipe_first_record(
-            n,
-            list.as_ptr(),
-            list.len(),
-            buffer.as_mut_ptr(),
-            buffer.len(),
-        )
-    };
-    answer.given()
+/// A first record of a list of sets of n parts: part numbers 1 to n, mark n, the minimal sets. Sets may stand in any order, repeatedly, and
+/// hold others.
+///
+/// ```
+/// let pumps = nahokipe::first_record(3, &[0b101, 0b111, 0b011])?;
+/// assert_eq!(pumps, [3, 3, 1, 2, 3, 2, 0b011, 0b101]);
+/// # Ok::<(), nahokipe::Refusal>(())
+/// ```
+pub fn first_record(n: usize, list: &[u16]) -> Result<Vec<u8>, Refusal> {
+    written(LONGEST_RECORD, |buffer| lent::first_record(n, list, buffer))
 }
 
-/// The record with one part more, which is in no set and has the part number above the mark, into `buffer`: the number of bytes written.
-pub fn add_part(bytes: &[u8], buffer: &mut [u8]) -> Result<usize, Refusal> {
-    let answer = unsafe {
-        nahokipe_add_part(
-            bytes.as_ptr(),
-            bytes.len(),
-            buffer.as_mut_ptr(),
-            buffer.len(),
-        )
-    };
-    answer.given()
-}
-
-/// The record without the part at a position, which is held failed, into `buffer`: the number of bytes written.
-pub fn take_out(bytes: &[u8], position: usize, buffer: &mut [u8]) -> Result<usize, Refusal> {
-    let answer = unsafe {
-        nahokipe_take_out(
-            bytes.as_ptr(),
-            bytes.len(),
-            position,
-            buffer.as_mut_ptr(),
-            buffer.len(),
-        )
-    };
-    answer.given()
-}
-
-/// The record without the parts of a group, a mask of its positions, which are all held failed, into `buffer`: the number of bytes written.
-pub fn take_out_group(bytes: &[u8], group: usize, buffer: &mut [u8]) -> Result<usize, Refusal> {
-    let answer = unsafe {
-        nahokipe_take_out_group(
-            bytes.as_ptr(),
-            bytes.len(),
-            group,
-            buffer.as_mut_ptr(),
-            buffer.len(),
-        )
-    };
-    answer.given()
-}
-
-/// The record with one path set more, into `buffer`: the number of bytes written.
-pub fn add_set(bytes: &[u8], set: u16, buffer: &mut [u8]) -> Result<usize, Refusal> {
-    let answer = unsafe {
-        nahokipe_add_set(
-            bytes.as_ptr(),
-            bytes.len(),
-            set,
-            buffer.as_mut_ptr(),
-            buffer.len(),
-        )
-    };
-    answer.given()
-}
-
-/// The record of a drawing tool's text, with part numbers 1 to n and mark n, into `buffer`: the number of bytes written.
-pub fn record_of_drawing(text: &[u8], buffer: &mut [u8]) -> Result<usize, Refusal> {
-    let answer = unsafe {
-        nahokipe_record_of_drawing(text.as_ptr(), text.len(), buffer.as_mut_ptr(), buffer.len())
-    };
-    answer.given()
-}
-
-/// The drawing tool's text of a record, sets and positions ascending, into `buffer`: the number of bytes written.
-pub fn drawing_of_record(bytes: &[u8], buffer: &mut [u8]) -> Result<usize, Refusal> {
-    let answer = unsafe {
-        nahokipe_drawing_of_record(
-            bytes.as_ptr(),
-            bytes.len(),
-            buffer.as_mut_ptr(),
-            buffer.len(),
-        )
-    };
-    answer.given()
-}
-
-/// The answer about a record as it comes through C. Of a refused one all is 0 beside the number and the place.
-#[repr(C)]
-#[derive(Clone, Copy, Debug, PartialEq, Eq)]
-pub struct RecordAnswer {
-    pub number: u8,
-    pub value: usize,
-    pub parts: usize,
-    pub mark: u64,
-    pub numbers: [u64; 16],
-    pub sets: usize,
-    pub offset: usize,
-    pub length: usize,
-}
-
-impl RecordAnswer {
-    fn given(self) -> Result<Record, Refusal> {
-        let RecordAnswer { number, value, .. } = self;
-        Answer { number, value }.given()?;
-        Ok(Record {
-            mark: self.mark,
-            numbers: self.numbers[..self.parts].to_vec(),
-            sets: self.sets,
-            offset: self.offset,
-            length: self.length,
-        })
-    }
-}
-
-/// The same as [`whole_record`], and what is handed out beside a refusal.
-pub fn whole_record_answer(bytes: &[u8]) -> RecordAnswer {
-    unsafe { nahokipe_whole_record(bytes.as_ptr(), bytes.len()) }
-}
-
-/// The same as [`record_at`], and what is handed out beside a refusal.
-pub fn record_at_answer(bytes: &[u8], start: usize) -> RecordAnswer {
-    unsafe { nahokipe_record_at(bytes.as_ptr(), bytes.len(), start) }
-}
-
-/// A step as it comes through C: given 1 and a step, or all 0 at the end.
-#[repr(C)]
-#[derive(Clone, Copy, Debug, PartialEq, Eq)]
-pub struct StepAnswer {
-    pub given: u8,
-    pub set: u64,
-    pub next: usize,
-    pub left: usize,
-}
-
-/// The same as [`next_set`], and what is handed out at the end.
-pub fn step_answer(bytes: &[u8], next: usize, left: usize) -> StepAnswer {
-    unsafe { nahokipe_next_set(bytes.as_ptr(), bytes.len(), next, left) }
-}
-
-extern "C" {
-    fn nahokipe_whole_record(bytes: *const u8, bytes_len: usize) -> RecordAnswer;
-
-    fn nahokipe_record_at(bytes: *const u8, bytes_len: usize, start: usize) -> RecordAnswer;
-
-    fn nahokipe_next_set(
-        bytes: *const u8,
-        bytes_len: usize,
-        next: usize,
-        left: usize,
-    ) -> StepAnswer;
-
-    fn nahokipe_table_of_record(
-        bytes: *const u8,
-        bytes_len: usize,
-        table: *mut u8,
-        table_len: usize,
-    ) -> Answer;
-
-    fn nahokipe_first_record(
-        n: usize,
-        list: *const u16,
-        list_len: usize,
-        buffer: *mut u8,
-        buffer_len: usize,
-    ) -> Answer;
-
-    fn nahokipe_add_part(
-        bytes: *const u8,
-        bytes_len: usize,
-        buffer: *mut u8,
-        buffer_len: usize,
-    ) -> Answer;
-
-    fn nahokipe_take_out(
-        bytes: *const u8,
-        bytes_len: usize,
-        position: usize,
-        buffer: *mut u8,
-        buffer_len: usize,
-    ) -> Answer;
-
-    fn nahokipe_take_out_group(
-        bytes: *const u8,
-        bytes_len: usize,
-        group: usize,
-        buffer: *mut u8,
-        buffer_len: usize,
-    ) -> Answer;
-
-    fn nahokipe_add_set(
-        bytes: *const u8,
-        bytes_len: usize,
-        set: u16,
-        buffer: *mut u8,
-        buffer_len: usize,
-    ) -> Answer;
-
-    fn nahokipe_record_of_drawing(
-        text: *const u8,
-        text_len: usize,
-        buffer: *mut u8,
-        buffer_len: usize,
-    ) -> Answer;
-
-    fn nahokipe_drawing_of_record(
-        bytes: *const u8,
-        bytes_len: usize,
-        buffer: *mut u8,
-        buffer_len: usize,
-    ) -> Answer;
+/// A record of parts that have numbers already: `numbers` by position, rising, the mark, which is the highest number ever issued, and the
+/// minimal sets of a list of sets of these positions. [`crate::mask_of`] makes such a set of part numbers.
+///
+/// ```
+/// let pumps = nahokipe::entered_record(15, &[3, 7, 12], &[0b011, 0b101])?;
+/// assert_eq!(pumps, [3, 15, 3, 7, 12, 2, 0b011, 0b101]);
+///
+/// // A number above the mark was never issued: the second, at index 1.
+/// let refusal = nahokipe::entered_record(6, &[3, 7, 12], &[0b011]).unwrap_err();
+/// assert_eq!((refusal.number, refusal.place), (23, 1));
+/// # Ok::<(), nahokipe::Refusal>(())
+/// ```
+pub fn entered_record(mark: u64, numbers: &[u64], list: &[u16]) -> Result<Vec<u8>, Refusal> {
+    written(LONGEST_RECORD, |buffer| {
+        lent::entered_record(mark, numbers, list, buffer)
+    })
 }

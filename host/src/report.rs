@@ -1,39 +1,33 @@
-//! The report on a design record.
+//! The report on a design record, and the line of a refusal.
 
-use crate::{Answer, Refusal};
+use crate::lent::{self, ENOUGH_FOR_REFUSED_LINE, ENOUGH_FOR_REPORT, LONGEST_TABLE};
+use crate::{written, Refusal};
 
-/// The report's text into `text`, and the record's table into `table`: how many bytes the text has.
-pub fn report(bytes: &[u8], table: &mut [u8], text: &mut [u8]) -> Result<usize, Refusal> {
-    let answer = unsafe {
-        nahokipe_report(
-            bytes.as_ptr(),
-            bytes.len(),
-            table.as_mut_ptr(),
-            table.len(),
-            text.as_mut_ptr(),
-            text.len(),
-        )
-    };
-    answer.given()
+/// The report on a record, by part numbers.
+///
+/// ```
+/// let text = nahokipe::report(&[2, 9, 4, 8, 1, 0b11])?;
+/// let lines = b"parts 2 sets 1 mark 9\norder 1 2\norder 2 0\ndom 1 0\ndom 2 1\npart 4 1\npart 8 1\n";
+/// assert_eq!(text, lines);
+/// # Ok::<(), nahokipe::Refusal>(())
+/// ```
+pub fn report(bytes: &[u8]) -> Result<Vec<u8>, Refusal> {
+    let mut table = vec![0; LONGEST_TABLE];
+    written(ENOUGH_FOR_REPORT, |text| {
+        lent::report(bytes, &mut table, text)
+    })
 }
 
-/// The line that tells of a refusal, into `text`: how many bytes it has.
-pub fn refused_line(refusal: Refusal, text: &mut [u8]) -> Result<usize, Refusal> {
-    let answer = unsafe {
-        nahokipe_refused_line(refusal.number, refusal.place, text.as_mut_ptr(), text.len())
-    };
-    answer.given()
-}
-
-extern "C" {
-    fn nahokipe_report(
-        bytes: *const u8,
-        bytes_len: usize,
-        table: *mut u8,
-        table_len: usize,
-        text: *mut u8,
-        text_len: usize,
-    ) -> Answer;
-
-    fn nahokipe_refused_line(number: u8, place: usize, text: *mut u8, text_len: usize) -> Answer;
+/// The line that tells of a refusal, `refused NUMBER PLACE` and a line feed.
+///
+/// ```
+/// let refusal = nahokipe::report(&[2, 9, 4]).unwrap_err();
+/// assert_eq!(nahokipe::refused_line(refusal), "refused 21 3\n");
+/// ```
+pub fn refused_line(refusal: Refusal) -> String {
+    let line = written(ENOUGH_FOR_REFUSED_LINE, |text| {
+        lent::refused_line(refusal, text)
+    });
+    let line = line.expect("a line has fewer bytes than this");
+    String::from_utf8(line).expect("a line has letters and digits")
 }

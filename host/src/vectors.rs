@@ -1,124 +1,75 @@
 //! Vectors of the four kinds, and the sheets that carry them.
-//!
-//! A kind goes as its number, since the calculator judges it: 1 path counts, 2 tail, 3 signature, 4 domination.
 
-use crate::{Answer, Refusal};
+use crate::lent::{self, LONGEST_SHEET, MOST_ENTRIES};
+use crate::{written, Kind, Refusal};
 
-/// Whether a vector of n parts is accepted.
-pub fn vector_verdict(kind: u8, n: usize, entries: &[i64]) -> Result<(), Refusal> {
-    let answer = unsafe { nahokipe_vector_verdict(kind, n, entries.as_ptr(), entries.len()) };
-    answer.given().map(drop)
+/// Whether a vector of n parts is accepted: its path counts are possible, and their proportion of all sets never falls from one size to the
+/// next.
+///
+/// ```
+/// use nahokipe::{vector_verdict, Kind};
+///
+/// assert_eq!(vector_verdict(Kind::Signature, 5, &[0, 24, 72, 24, 0]), Ok(()));
+/// let refusal = vector_verdict(Kind::PathCounts, 3, &[0, 3, 2, 1]).unwrap_err();
+/// assert_eq!((refusal.number, refusal.place), (14, 1));
+/// ```
+pub fn vector_verdict(kind: Kind, n: usize, entries: &[i64]) -> Result<(), Refusal> {
+    lent::vector_verdict(kind.number(), n, entries)
 }
 
-/// The vector of another kind that stands for the same path counts, into `cells`: how many were written.
-pub fn convert(
-    kind: u8,
-    n: usize,
-    entries: &[i64],
-    target: u8,
-    cells: &mut [i64],
-) -> Result<usize, Refusal> {
-    let answer = unsafe {
-        nahokipe_convert(
-            kind,
-            n,
-            entries.as_ptr(),
-            entries.len(),
-            target,
-            cells.as_mut_ptr(),
-            cells.len(),
-        )
-    };
-    answer.given()
+/// The vector of another kind that stands for the same path counts.
+///
+/// ```
+/// use nahokipe::{convert, Kind};
+///
+/// let signature = [0, 24, 72, 24, 0];
+/// let domination = convert(Kind::Signature, 5, &signature, Kind::Domination)?;
+/// assert_eq!(domination, [0, 0, 2, 2, -5, 2]);
+/// # Ok::<(), nahokipe::Refusal>(())
+/// ```
+pub fn convert(kind: Kind, n: usize, entries: &[i64], target: Kind) -> Result<Vec<i64>, Refusal> {
+    written(MOST_ENTRIES, |cells| {
+        lent::convert(kind.number(), n, entries, target.number(), cells)
+    })
 }
 
-/// The sheet of a vector, into `sheet`: how many bytes were written.
-pub fn write_sheet(
-    kind: u8,
-    n: usize,
-    entries: &[i64],
-    sheet: &mut [u8],
-) -> Result<usize, Refusal> {
-    let answer = unsafe {
-        nahokipe_write_sheet(
-            kind,
-            n,
-            entries.as_ptr(),
-            entries.len(),
-            sheet.as_mut_ptr(),
-            sheet.len(),
-        )
-    };
-    answer.given()
+/// The sheet of a vector.
+///
+/// ```
+/// use nahokipe::{read_sheet, write_sheet, Kind};
+///
+/// let sheet = write_sheet(Kind::Tail, 5, &[120, 120, 96, 24, 0, 0])?;
+/// assert_eq!(sheet, [2, 5, 120, 120, 96, 24, 0, 0]);
+/// let vector = read_sheet(&sheet)?;
+/// assert_eq!((vector.kind, vector.n), (Kind::Tail, 5));
+/// assert_eq!(vector.entries, [120, 120, 96, 24, 0, 0]);
+/// # Ok::<(), nahokipe::Refusal>(())
+/// ```
+pub fn write_sheet(kind: Kind, n: usize, entries: &[i64]) -> Result<Vec<u8>, Refusal> {
+    written(LONGEST_SHEET, |sheet| {
+        lent::write_sheet(kind.number(), n, entries, sheet)
+    })
 }
 
-/// What a sheet says of its vector, beside the entries.
-#[derive(Clone, Copy, Debug, PartialEq, Eq)]
-pub struct Sheet {
-    pub kind: u8,
+/// A vector, as a sheet has it.
+#[derive(Clone, Debug, PartialEq, Eq)]
+pub struct Vector {
+    /// What the entries are.
+    pub kind: Kind,
+    /// The number of parts.
     pub n: usize,
-    /// How many entries were written.
-    pub entries: usize,
+    /// The entries, n for a signature and else n + 1.
+    pub entries: Vec<i64>,
 }
 
-/// The vector of a sheet: its entries into `cells`.
-pub fn read_sheet(sheet: &[u8], cells: &mut [i64]) -> Result<Sheet, Refusal> {
-    let SheetAnswer {
-        number,
-        value,
-        kind,
-        n,
-    } = sheet_answer(sheet, cells);
-    let entries = Answer { number, value }.given()?;
-    Ok(Sheet { kind, n, entries })
-}
-
-/// The answer about a sheet as it comes through C. Of a refused one the kind is 1 and n is 0.
-#[repr(C)]
-#[derive(Clone, Copy, Debug, PartialEq, Eq)]
-pub struct SheetAnswer {
-    pub number: u8,
-    pub value: usize,
-    pub kind: u8,
-    pub n: usize,
-}
-
-/// The same as [`read_sheet`], and what is handed out beside a refusal.
-pub fn sheet_answer(sheet: &[u8], cells: &mut [i64]) -> SheetAnswer {
-    unsafe { nahokipe_read_sheet(sheet.as_ptr(), sheet.len(), cells.as_mut_ptr(), cells.len()) }
-}
-
-extern "C" {
-    fn nahokipe_vector_verdict(
-        kind: u8,
-        n: usize,
-        entries: *const i64,
-        entries_len: usize,
-    ) -> Answer;
-
-    fn nahokipe_convert(
-        kind: u8,
-        n: usize,
-        entries: *const i64,
-        entries_len: usize,
-        target: u8,
-        cells: *mut i64,
-        cells_len: usize,
-    ) -> Answer;
-
-    fn nahokipe_write_sheet(
-        kind: u8,
-        n: usize,
-        entries: *const i64,
-        entries_len: usize,
-        sheet: *mut u8,
-        sheet_len: usize,
-    ) -> Answer;
-
-    fn nahokipe_read_sheet(
-        sheet: *const u8,
-        sheet_len: usize,
-        cells: *mut i64,
-        cells_len: usize,
-    ) -> SheetAnswer;
+/// The vector of a sheet.
+pub fn read_sheet(sheet: &[u8]) -> Result<Vector, Refusal> {
+    let mut entries = vec![0; MOST_ENTRIES];
+    let read = lent::read_sheet(sheet, &mut entries)?;
+    entries.truncate(read.entries);
+    Ok(Vector {
+        kind: Kind::try_from(read.kind)?,
+        n: read.n,
+        entries,
+    })
 }

@@ -1,14 +1,15 @@
 //! Changes of records: the calculator against designs whose sets are named by part numbers, answers, places and every cell of the lent
 //! buffers, along lines of changes with refused ones among them.
 
-use nahokipe_host::comparing::{make, same_change as compare, same_change_into as compare_into};
-use nahokipe_host::making::{largest_record, random_group, random_plain, random_set};
-use nahokipe_host::making::{random_record, sets_of_size, spoilt_record};
-use nahokipe_host::naive::{in_table, refused, table_length, MOST_SETS};
-use nahokipe_host::naive_records::{self as by_words, named, record_bytes, Change, Design};
-use nahokipe_host::naive_records::{Plain, TOP_NUMBER};
-use nahokipe_host::seeded::Seeded;
-use nahokipe_host::{add_part, table_of_record, take_out, whole_record, Refusal};
+use nahokipe::lent::{add_part, table_of_record, take_out};
+use nahokipe::{whole_record, Refusal};
+use nahokipe_testing::comparing::{make, same_change as compare, same_change_into as compare_into};
+use nahokipe_testing::making::{largest_record, random_group, random_plain, random_set};
+use nahokipe_testing::making::{random_record, random_wanted, sets_of_size, spoilt_record};
+use nahokipe_testing::naive::{in_table, refused, table_length, MOST_SETS};
+use nahokipe_testing::naive_records::{self as by_words, named, record_bytes, Change, Design};
+use nahokipe_testing::naive_records::{Plain, TOP_NUMBER};
+use nahokipe_testing::seeded::Seeded;
 use std::collections::BTreeSet;
 
 const BRIDGE: [u8; 12] = [5, 5, 1, 2, 3, 4, 5, 4, 0x09, 0x0E, 0x12, 0x15];
@@ -44,14 +45,21 @@ fn path_sets_after(before: &PathSets, old: &Plain, change: Change) -> PathSets {
         }
         Change::TakeOut(position) => without(before, &[old.numbers[position - 1]].into()),
         Change::TakeOutGroup(group) => without(before, &named(&old.numbers, group as u16)),
-        Change::AddSet(set) => {
-            let new = named(&old.numbers, set);
-            let all = (0..1_u32 << old.numbers.len()).map(|set| named(&old.numbers, set as u16));
-            let holding = all.filter(|set| new.is_subset(set));
-            let more: PathSets = holding.map(|set| set.into_iter().collect()).collect();
-            before.union(&more).cloned().collect()
+        Change::AddSet(set) => with(before, &old.numbers, &named(&old.numbers, set)),
+        Change::TakeOutPart(number) => without(before, &[number].into()),
+        Change::TakeOutParts(wanted) => without(before, &wanted.iter().copied().collect()),
+        Change::AddSetOfParts(wanted) => {
+            with(before, &old.numbers, &wanted.iter().copied().collect())
         }
     }
+}
+
+/// The path sets, and all sets of these parts that hold the new one.
+fn with(before: &PathSets, numbers: &[u64], new: &BTreeSet<u64>) -> PathSets {
+    let all = (0..1_u32 << numbers.len()).map(|set| named(numbers, set as u16));
+    let holding = all.filter(|set| new.is_subset(set));
+    let more: PathSets = holding.map(|set| set.into_iter().collect()).collect();
+    before.union(&more).cloned().collect()
 }
 
 /// The path sets that have none of these parts.
@@ -123,13 +131,21 @@ impl Line {
     }
 }
 
-/// A change of a record of n parts; some are refused.
-fn random_change(seeded: &mut Seeded, n: usize, growth: usize) -> Change {
+/// A change of a record of n parts, by positions or by wanted part numbers; some are refused.
+fn random_change<'a>(
+    seeded: &mut Seeded,
+    n: usize,
+    growth: usize,
+    wanted: &'a [u64],
+) -> Change<'a> {
     match seeded.between(0, 11 + growth) {
-        0..=1 => Change::TakeOut(seeded.between(0, n + 1)),
-        2..=3 => Change::TakeOutGroup(random_group(seeded, n)),
+        0 => Change::TakeOut(seeded.between(0, n + 1)),
+        1 => Change::TakeOutPart(wanted.first().copied().unwrap_or(0)),
+        2 => Change::TakeOutGroup(random_group(seeded, n)),
+        3 => Change::TakeOutParts(wanted),
         4 => Change::TakeOutGroup(seeded.pick(&[0, 1 << n, usize::MAX, 1])),
-        5..=7 => Change::AddSet(random_set(seeded, n)),
+        5 => Change::AddSet(random_set(seeded, n)),
+        6..=7 => Change::AddSetOfParts(wanted),
         8 => Change::AddSet(seeded.pick(&[0, 1 << n.min(15), u16::MAX, 1])),
         _ => Change::AddPart,
     }
@@ -152,16 +168,17 @@ fn lines_of_changes() {
         let parts = seeded.between(1, 6);
         let mut line = Line::from(first_of_a_line(&mut seeded, parts, number));
         for _ in 0..200 {
-            let n = line.plain().numbers.len();
+            let numbers = line.plain().numbers;
+            let wanted = random_wanted(&mut seeded, &numbers);
             let growth = if number % 4 == 0 { 4 } else { 0 };
-            let change = random_change(&mut seeded, n, growth);
+            let change = random_change(&mut seeded, numbers.len(), growth, &wanted);
             let room = random_room(&mut seeded, &line.bytes);
             line.go_on(change, room);
         }
         seen.append(&mut line.refusals);
         left_together += line.left_together;
     }
-    let expected = BTreeSet::from([4, 5, 11, 15, 16, 17, 18, 19, 20]);
+    let expected = BTreeSet::from([4, 5, 11, 15, 16, 17, 18, 19, 20, 28]);
     assert_eq!(seen, expected);
     assert!(left_together > 200, "{left_together}");
 }
@@ -256,11 +273,15 @@ fn changes_of_damaged_records() {
             let set = seeded.pick(&[0, 1, u16::MAX]);
             let position = seeded.pick(&[0, 1, n, n + 1]);
             let group = seeded.pick(&[0, 1, 1 << n, usize::MAX]);
+            let number = seeded.pick(&[0, 1, TOP_NUMBER, u64::MAX]);
             let changes = [
                 Change::AddPart,
                 Change::TakeOut(position),
                 Change::TakeOutGroup(group),
                 Change::AddSet(set),
+                Change::TakeOutPart(number),
+                Change::TakeOutParts(&[number, number]),
+                Change::AddSetOfParts(&[]),
             ];
             for change in changes {
                 let expected = by_words::changed(&bytes, change);
@@ -285,6 +306,12 @@ fn changes_of_truncated_records() {
         Change::TakeOutGroup(1),
         Change::AddSet(0),
         Change::AddSet(1),
+        Change::TakeOutPart(0),
+        Change::TakeOutPart(1),
+        Change::TakeOutParts(&[]),
+        Change::TakeOutParts(&[1, 1]),
+        Change::AddSetOfParts(&[]),
+        Change::AddSetOfParts(&[1]),
     ];
     for n in [1, 3, 5, 16] {
         let bytes = random_record(&mut seeded, n);

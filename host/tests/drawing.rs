@@ -1,16 +1,16 @@
 //! Drawings' texts read into records (document 02, §1): the calculator against the naive reader, answers, places and every cell of the
 //! lent buffers, on whole, cut and changed texts.
 
-use nahokipe_host::comparing::{front, given, same_into, same_into_all};
-use nahokipe_host::known::{READ_DRAWINGS, REFUSED_DRAWINGS};
-use nahokipe_host::making::{damaged_drawing, drawing_line, drawing_of_list, largest_drawing};
-use nahokipe_host::making::{minimal_of_list, random_drawing, random_list, random_set};
-use nahokipe_host::making::{sets_of_size, texts_of};
-use nahokipe_host::naive::{refused, MOST_SETS};
-use nahokipe_host::naive_drawing::{self as by_words, MOST_TEXT};
-use nahokipe_host::naive_records::MOST_RECORD;
-use nahokipe_host::seeded::Seeded;
-use nahokipe_host::{first_record, record_of_drawing, Refusal};
+use nahokipe::lent::{first_record, record_of_drawing, LONGEST_DRAWING, LONGEST_RECORD};
+use nahokipe::Refusal;
+use nahokipe_testing::comparing::{front, given, same_into, same_into_all};
+use nahokipe_testing::known::{READ_DRAWINGS, REFUSED_DRAWINGS};
+use nahokipe_testing::making::{damaged_drawing, drawing_line, drawing_of_list, largest_drawing};
+use nahokipe_testing::making::{lists_of, sets_of_size};
+use nahokipe_testing::making::{minimal_of_list, random_drawing, random_list, random_set};
+use nahokipe_testing::naive::{refused, MOST_SETS};
+use nahokipe_testing::naive_drawing as by_words;
+use nahokipe_testing::seeded::Seeded;
 use std::collections::BTreeSet;
 
 const BRIDGE_TEXT: &[u8] = b"parts 5\nset 1 4\nset 2 3 4\nset 2 5\nset 1 3 5\n";
@@ -36,7 +36,7 @@ fn compare_lightly(text: &[u8]) -> u8 {
 
 /// The record that the calculator reads from a text.
 fn read(text: &[u8]) -> Result<Vec<u8>, Refusal> {
-    given(record_of_drawing, text, MOST_RECORD)
+    given(record_of_drawing, text, LONGEST_RECORD)
 }
 
 /// Accepted texts of every n, short enough to change each byte of them, and the bridge's.
@@ -85,7 +85,7 @@ fn random_drawings() {
             let list = random_list(&mut seeded, n);
             let text = drawing_of_list(&mut seeded, n, &list);
             let record = compare(text.as_bytes()).expect("an accepted text");
-            let mut first = vec![0xA5; MOST_RECORD];
+            let mut first = vec![0xA5; LONGEST_RECORD];
             let length = first_record(n, &list, &mut first);
             assert_eq!(length, Ok(record.len()));
             assert!(first[..record.len()] == record);
@@ -200,7 +200,7 @@ fn damaged_drawings() {
 #[test]
 fn every_short_end() {
     let mut seen = BTreeSet::new();
-    for end in (0..=5).flat_map(|length| texts_of(b" 017\nx", length)) {
+    for end in (0..=5).flat_map(|length| lists_of(b" 017\nx", length)) {
         for before in ["parts", "parts 2\nset", "parts 2\nset 1\n"] {
             for behind in ["", "\nset 2\n"] {
                 let text = [before.as_bytes(), &end, behind.as_bytes()].concat();
@@ -441,7 +441,7 @@ fn the_most_sets() {
 fn the_longest_text() {
     let line = drawing_line("set", (1..=16).rev());
     let text = drawing_line("parts", [16]) + &line.repeat(12_870);
-    assert_eq!(text.len(), MOST_TEXT);
+    assert_eq!(text.len(), LONGEST_DRAWING);
     let record = [&[16, 16], &Vec::from_iter(1..=16)[..], &[1, 0xFF, 0xFF, 3]].concat();
     assert_eq!(compare(text.as_bytes()), Ok(record));
 }
@@ -457,7 +457,7 @@ fn the_largest_text_damaged() {
         let index = seeded.between(0, text.len() - 1);
         changed[index] = seeded.pick(BYTES);
         let expected = by_words::record_of_drawing(&changed);
-        let enough = vec![0xA5; MOST_RECORD];
+        let enough = vec![0xA5; LONGEST_RECORD];
         same_into(record_of_drawing, &changed, &expected, enough);
         seen.insert(expected.map_or_else(|refusal| refusal.number, |_| 0));
     }

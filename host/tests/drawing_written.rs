@@ -1,17 +1,19 @@
 //! Records written as drawings' texts (document 02, §1): the calculator against the naive writer, answers, places and every cell of the
 //! lent buffers; and from a record to its text and back.
 
-use nahokipe_host::comparing::{given, same_into, same_into_all};
-use nahokipe_host::known::{READ_DRAWINGS, REFUSED_RECORDS};
-use nahokipe_host::making::{drawing_of_list, largest_drawing, largest_record};
-use nahokipe_host::making::{
+use nahokipe::lent::{add_part, drawing_of_record, record_of_drawing, take_out};
+use nahokipe::lent::{LONGEST_DRAWING, LONGEST_RECORD};
+use nahokipe::Refusal;
+use nahokipe_testing::comparing::{given, same_into, same_into_all};
+use nahokipe_testing::known::{READ_DRAWINGS, REFUSED_RECORDS};
+use nahokipe_testing::making::{drawing_of_list, largest_drawing, largest_record};
+use nahokipe_testing::making::{
     minimal_of_list, random_list, random_record, sets_of_size, spoilt_record,
 };
-use nahokipe_host::naive::refused;
-use nahokipe_host::naive_drawing::{self as by_words, MOST_TEXT};
-use nahokipe_host::naive_records::{record_bytes, whole_record, Plain, MOST_RECORD};
-use nahokipe_host::seeded::Seeded;
-use nahokipe_host::{add_part, drawing_of_record, record_of_drawing, take_out, Refusal};
+use nahokipe_testing::naive::refused;
+use nahokipe_testing::naive_drawing as by_words;
+use nahokipe_testing::naive_records::{record_bytes, whole_record, Plain};
+use nahokipe_testing::seeded::Seeded;
 use std::collections::BTreeSet;
 
 const BRIDGE: [u8; 12] = [5, 5, 1, 2, 3, 4, 5, 4, 0x09, 0x0E, 0x12, 0x15];
@@ -23,18 +25,18 @@ const BRIDGE_TEXT: &[u8] = b"parts 5\nset 1 4\nset 2 3 4\nset 2 5\nset 1 3 5\n";
 fn compare(bytes: &[u8]) -> Result<Vec<u8>, Refusal> {
     let expected = by_words::drawing_of_record(bytes);
     same_into_all(drawing_of_record, bytes, &expected);
-    assert!(expected.as_ref().map_or(0, Vec::len) <= MOST_TEXT);
+    assert!(expected.as_ref().map_or(0, Vec::len) <= LONGEST_DRAWING);
     expected
 }
 
 /// The text that the calculator writes of a record.
 fn written(bytes: &[u8]) -> Result<Vec<u8>, Refusal> {
-    given(drawing_of_record, bytes, MOST_TEXT)
+    given(drawing_of_record, bytes, LONGEST_DRAWING)
 }
 
 /// The record that the calculator reads from a text.
 fn read(text: &[u8]) -> Result<Vec<u8>, Refusal> {
-    given(record_of_drawing, text, MOST_RECORD)
+    given(record_of_drawing, text, LONGEST_RECORD)
 }
 
 /// The record with these sets, and with the part numbers 1 to n and the mark n.

@@ -1,13 +1,14 @@
 //! Figures: the calculator against failure orders listed one by one, against the formulas, and against known machines; answers, places
 //! and every cell of the lent buffers.
 
-use nahokipe_host::comparing::{buffers, front, same};
-use nahokipe_host::making::{flipped, machines, random_table, sets_of_size, table_of_sets};
-use nahokipe_host::naive::{self, refused, structure_of};
-use nahokipe_host::naive_figures::{self as by_formulas, all_delivered, binomial, factorial};
-use nahokipe_host::naive_figures::{failure_orders, listed, Buffers, Figures, Listed};
-use nahokipe_host::seeded::Seeded;
-use nahokipe_host::{domination, figures, importance, path_counts, signature, tail, Refusal};
+use nahokipe::lent::{domination, figures, importance, path_counts, signature, tail};
+use nahokipe::Refusal;
+use nahokipe_testing::comparing::{buffers, front, same};
+use nahokipe_testing::making::{flipped, machines, random_table, sets_of_size, table_of_sets};
+use nahokipe_testing::naive::{self, refused, structure_of};
+use nahokipe_testing::naive_figures::{self as by_formulas, all_delivered, binomial, factorial};
+use nahokipe_testing::naive_figures::{failure_orders, listed, Buffers, Figures, Listed};
+use nahokipe_testing::seeded::Seeded;
 use std::fmt::Debug;
 
 /// What buffers are filled with: a pattern and its opposite.

@@ -1,15 +1,17 @@
 //! Groups of parts taken out together (document 02, §2): the calculator against designs whose sets are named by part numbers and against
 //! itself, the same parts taken out singly in any order; answers, places and every cell of the lent buffers.
 
-use nahokipe_host::comparing::{front, given, same_change, same_change_into};
-use nahokipe_host::known::{REFUSED_RECORDS, TAKEN_OUT_GROUPS};
-use nahokipe_host::making::{largest_record, machines, random_group, random_plain, sets_of_size};
-use nahokipe_host::naive::{minimal_sets, refused};
-use nahokipe_host::naive_figures::{failure_orders, size};
-use nahokipe_host::naive_records::{self as by_words, named, record_bytes, Change};
-use nahokipe_host::naive_records::{Plain, TOP_NUMBER};
-use nahokipe_host::seeded::Seeded;
-use nahokipe_host::{take_out, take_out_group, whole_record, Refusal};
+use nahokipe::lent::{take_out, take_out_group};
+use nahokipe::{whole_record, Refusal};
+use nahokipe_testing::comparing::{front, given, same_change, same_change_into};
+use nahokipe_testing::known::{REFUSED_RECORDS, TAKEN_OUT_GROUPS};
+use nahokipe_testing::making::sets_of_size;
+use nahokipe_testing::making::{every_plain, largest_record, random_group, random_plain};
+use nahokipe_testing::naive::refused;
+use nahokipe_testing::naive_figures::{failure_orders, size};
+use nahokipe_testing::naive_records::{self as by_words, named, record_bytes, Change};
+use nahokipe_testing::naive_records::{Plain, TOP_NUMBER};
+use nahokipe_testing::seeded::Seeded;
 use std::collections::BTreeSet;
 
 const BRIDGE: [u8; 12] = [5, 5, 1, 2, 3, 4, 5, 4, 0x09, 0x0E, 0x12, 0x15];
@@ -78,21 +80,6 @@ fn some_orders(seeded: &mut Seeded, plain: &Plain, group: usize) -> Vec<Vec<u64>
         seeded.shuffle(order);
     }
     orders
-}
-
-/// All machines of n parts, n up to 4: numbered 1 to n, and with gaps, numbers of several bytes and a mark above them.
-fn every_plain(n: usize) -> Vec<Plain> {
-    let numberings = [(n as u64, [1, 2, 3, 4]), (1 << 40, [2, 9, 200, 1 << 32])];
-    let mut plains = Vec::new();
-    for table in machines(n) {
-        let sets = minimal_sets(n, &table).expect("an accepted table");
-        plains.extend(numberings.map(|(mark, numbers)| Plain {
-            mark,
-            numbers: numbers[..n].to_vec(),
-            sets: sets.clone(),
-        }));
-    }
-    plains
 }
 
 /// Some machines of every n with up to 20 sets, of which none names all parts where there are several.

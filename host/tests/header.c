@@ -307,6 +307,83 @@ static void test_part_numbers(void)
     expect_refused_record("whole_record, inside the mark", nahokipe_whole_record(top_mark, 7), 21, 7);
 }
 
+/* A record of parts 3, 7 and 12 with the mark 15, and one as a first record; refusals leave the buffer as it was. */
+static void test_entered(void)
+{
+    static const uint64_t numbers[5] = {1, 2, 3, 4, 5}, gaps[3] = {3, 7, 12}, falling[3] = {3, 7, 7};
+    static const uint64_t top = ((uint64_t)1 << 48) - 1;
+    static const uint16_t list[5] = {0x15, 0x12, 0x1F, 0x0E, 0x09}, pumps[3] = {0x05, 0x07, 0x03};
+    static const uint8_t written[9] = {3, 15, 3, 7, 12, 2, 0x03, 0x05, 0xA5};
+    uint8_t buffer[9], first[12] = {0};
+
+    memset(buffer, 0xA5, sizeof buffer);
+    expect("entered_record", nahokipe_entered_record(15, gaps, 3, pumps, 3, buffer, 9), 0, 8);
+    expect_bytes("entered_record", buffer, written, sizeof buffer);
+    expect("entered_record, no parts", nahokipe_entered_record(15, gaps, 0, pumps, 0, buffer, 9), NAHOKIPE_WRONG_PART_COUNT, 0);
+    expect("entered_record, no sets", nahokipe_entered_record(15, gaps, 3, pumps, 0, buffer, 9), NAHOKIPE_EMPTY_LIST, 0);
+    expect("entered_record, part 3", nahokipe_entered_record(15, gaps, 2, pumps, 3, buffer, 9), NAHOKIPE_UNKNOWN_PART, 0);
+    expect("entered_record, twice", nahokipe_entered_record(15, falling, 3, pumps, 3, buffer, 9), NAHOKIPE_WRONG_PART_NUMBER, 2);
+    expect("entered_record, above the mark", nahokipe_entered_record(6, gaps, 3, pumps, 3, buffer, 9), NAHOKIPE_WRONG_PART_NUMBER, 1);
+    expect("entered_record, high mark", nahokipe_entered_record(top + 1, gaps, 3, pumps, 3, buffer, 9), NAHOKIPE_WRONG_PART_NUMBER, 3);
+    expect("entered_record, short buffer", nahokipe_entered_record(15, gaps, 3, pumps, 3, buffer, 7), NAHOKIPE_SHORT_BUFFER, 8);
+    expect_bytes("entered_record, refused", buffer, written, sizeof buffer);
+    expect("entered_record, a first record", nahokipe_entered_record(5, numbers, 5, list, 5, first, 12), 0, 12);
+    expect_bytes("entered_record, a first record", first, record, sizeof first);
+}
+
+/* Positions and masks of part numbers, and part numbers of masks. */
+static void test_naming(void)
+{
+    static const uint8_t pumps[8] = {3, 15, 3, 7, 12, 2, 0x03, 0x05};
+    static const uint64_t numbers[3] = {3, 7, 12}, wanted[4] = {12, 3, 12, 8}, named[4] = {3, 12, 99, 99};
+    uint64_t cells[4] = {99, 99, 99, 99};
+
+    expect("position_of", nahokipe_position_of(pumps, 8, 12), 0, 3);
+    expect("position_of, no part's", nahokipe_position_of(pumps, 8, ((uint64_t)1 << 32) + 12), NAHOKIPE_UNKNOWN_POSITION, 0);
+    expect("position_of, cut off", nahokipe_position_of(pumps, 7, 12), NAHOKIPE_END_OF_BYTES, 7);
+    expect("mask_of", nahokipe_mask_of(numbers, 3, wanted, 2), 0, 0x05);
+    expect("mask_of, none", nahokipe_mask_of(numbers, 3, wanted, 0), 0, 0);
+    expect("mask_of, twice", nahokipe_mask_of(numbers, 3, wanted, 3), NAHOKIPE_REPEATED_POSITION, 0);
+    expect("mask_of, no part's", nahokipe_mask_of(numbers, 3, wanted, 4), NAHOKIPE_UNKNOWN_POSITION, 0);
+    expect("mask_of, no parts", nahokipe_mask_of(numbers, 0, wanted, 4), NAHOKIPE_WRONG_PART_COUNT, 0);
+    expect("numbers_of", nahokipe_numbers_of(numbers, 3, 0x05, cells, 4), 0, 2);
+    expect("numbers_of, part 4", nahokipe_numbers_of(numbers, 3, 0x08, cells, 4), NAHOKIPE_UNKNOWN_GROUP_PART, 0);
+    expect("numbers_of, short buffer", nahokipe_numbers_of(numbers, 3, 0x07, cells, 2), NAHOKIPE_SHORT_BUFFER, 3);
+    expect_bytes("numbers_of", cells, named, sizeof cells);
+}
+
+/* Changes by part numbers, where part 7 is at position 2. */
+static void test_changes_by_number(void)
+{
+    static const uint8_t pumps[8] = {3, 15, 3, 7, 12, 2, 0x03, 0x05};
+    static const uint64_t gone[3] = {12, 7, 12}, alone[1] = {12}, unknown[2] = {7, 2};
+    static const uint8_t one_out[9] = {2, 15, 3, 12, 1, 0x03, 0xA5, 0xA5, 0xA5};
+    static const uint8_t other_out[9] = {2, 15, 3, 7, 1, 0x03, 0xA5, 0xA5, 0xA5};
+    static const uint8_t wider[9] = {3, 15, 3, 7, 12, 2, 0x03, 0x04, 0xA5};
+    uint8_t buffer[9];
+
+    memset(buffer, 0xA5, sizeof buffer);
+    expect("take_out_part", nahokipe_take_out_part(pumps, 8, 7, buffer, 9), 0, 6);
+    expect("take_out_part, no part's", nahokipe_take_out_part(pumps, 8, 2, buffer, 9), NAHOKIPE_UNKNOWN_POSITION, 0);
+    expect("take_out_part, in every set", nahokipe_take_out_part(pumps, 8, 3, buffer, 9), NAHOKIPE_IN_EVERY_SET, 0);
+    expect("take_out_part, short buffer", nahokipe_take_out_part(pumps, 8, 7, buffer, 5), NAHOKIPE_SHORT_BUFFER, 6);
+    expect_bytes("take_out_part", buffer, one_out, sizeof buffer);
+    expect("take_out_parts", nahokipe_take_out_parts(pumps, 8, alone, 1, buffer, 9), 0, 6);
+    expect("take_out_parts, in every set", nahokipe_take_out_parts(pumps, 8, gone, 2, buffer, 9), NAHOKIPE_IN_EVERY_SET, 0);
+    expect("take_out_parts, twice", nahokipe_take_out_parts(pumps, 8, gone, 3, buffer, 9), NAHOKIPE_REPEATED_POSITION, 0);
+    expect("take_out_parts, no part's", nahokipe_take_out_parts(pumps, 8, unknown, 2, buffer, 9), NAHOKIPE_UNKNOWN_POSITION, 0);
+    expect("take_out_parts, none", nahokipe_take_out_parts(pumps, 8, gone, 0, buffer, 9), NAHOKIPE_EMPTY_GROUP, 0);
+    expect("take_out_parts, short buffer", nahokipe_take_out_parts(pumps, 8, alone, 1, buffer, 5), NAHOKIPE_SHORT_BUFFER, 6);
+    expect_bytes("take_out_parts", buffer, other_out, sizeof buffer);
+    expect("add_set_of_parts", nahokipe_add_set_of_parts(pumps, 8, alone, 1, buffer, 9), 0, 8);
+    expect("add_set_of_parts, none", nahokipe_add_set_of_parts(pumps, 8, alone, 0, buffer, 9), NAHOKIPE_EMPTY_SET, 0);
+    expect("add_set_of_parts, twice", nahokipe_add_set_of_parts(pumps, 8, gone, 3, buffer, 9), NAHOKIPE_REPEATED_POSITION, 0);
+    expect("add_set_of_parts, no part's", nahokipe_add_set_of_parts(pumps, 8, unknown, 2, buffer, 9), NAHOKIPE_UNKNOWN_POSITION, 0);
+    expect("add_set_of_parts, short buffer", nahokipe_add_set_of_parts(pumps, 8, alone, 1, buffer, 7), NAHOKIPE_SHORT_BUFFER, 8);
+    expect("add_set_of_parts, cut off", nahokipe_add_set_of_parts(pumps, 7, alone, 1, buffer, 9), NAHOKIPE_END_OF_BYTES, 7);
+    expect_bytes("add_set_of_parts", buffer, wider, sizeof buffer);
+}
+
 /* A text that is read into a buffer of some length; its own words tell where it is not answered as it should be. */
 static void expect_read(const char *text, uint8_t *buffer, size_t length, unsigned number, size_t value)
 {
@@ -381,6 +458,9 @@ int main(void)
     test_changes();
     test_groups();
     test_part_numbers();
+    test_entered();
+    test_naming();
+    test_changes_by_number();
     test_drawings();
     test_report();
     return failures != 0;

@@ -1,7 +1,7 @@
 //! The naive implementation against itself and against document 01's own words: what the other tests compare with must be right.
 
-use nahokipe_host::naive::*;
-use nahokipe_host::seeded::Seeded;
+use nahokipe_testing::naive::*;
+use nahokipe_testing::seeded::Seeded;
 
 #[test]
 fn both_ways_to_the_path_sets_agree() {

@@ -1,13 +1,14 @@
 //! The naive reader and writer of drawings' texts against texts worked out by hand, against lists of numbers written one by one, and
 //! against each other: what the other tests compare with must be right.
 
-use nahokipe_host::known::{READ_DRAWINGS, REFUSED_DRAWINGS};
-use nahokipe_host::making::{drawing_line, drawing_of_list, largest_drawing, minimal_of_list};
-use nahokipe_host::making::{random_list, random_plain, sets_of_size, texts_of};
-use nahokipe_host::naive::refused;
-use nahokipe_host::naive_drawing::*;
-use nahokipe_host::naive_records::{record_bytes, whole_record, Plain};
-use nahokipe_host::seeded::Seeded;
+use nahokipe::lent::LONGEST_DRAWING;
+use nahokipe_testing::known::{READ_DRAWINGS, REFUSED_DRAWINGS};
+use nahokipe_testing::making::{drawing_line, drawing_of_list, largest_drawing, minimal_of_list};
+use nahokipe_testing::making::{lists_of, random_list, random_plain, sets_of_size};
+use nahokipe_testing::naive::refused;
+use nahokipe_testing::naive_drawing::*;
+use nahokipe_testing::naive_records::{record_bytes, whole_record, Plain};
+use nahokipe_testing::seeded::Seeded;
 use std::collections::BTreeSet;
 
 fn shown(text: &[u8]) -> String {
@@ -41,7 +42,7 @@ fn sets_in_the_order_of_lines() {
 fn every_end_of_a_line() {
     let lists = lists_of_numbers(7);
     let mut met = 0;
-    for end in (0..=7).flat_map(|length| texts_of(b" 01x", length)) {
+    for end in (0..=7).flat_map(|length| lists_of(b" 01x", length)) {
         let is_list = lists.contains(&end);
         let spaces = end.iter().filter(|&&byte| byte == b' ').count();
         let first = [b"parts", end.as_slice(), b"\nset 1\n"].concat();
@@ -143,7 +144,7 @@ fn the_longest_texts() {
     let (first, longest) = (drawing_line("parts", [16]), drawing_line("set", 1..=16));
     assert_eq!((first.len(), longest.len()), (9, 43));
     let text = first + &longest.repeat(12_870);
-    assert_eq!(text.len(), MOST_TEXT);
+    assert_eq!(text.len(), LONGEST_DRAWING);
     let sets = vec![0xFFFF; 12_870];
     assert!(drawing(text.as_bytes()) == Ok(Drawing { parts: 16, sets }));
     let largest = largest_drawing();

@@ -1,9 +1,9 @@
 //! The naive figures against document 01's examples and against each other: what the other tests compare with must be right.
 
-use nahokipe_host::making::random_list;
-use nahokipe_host::naive::{path_sets, refused};
-use nahokipe_host::naive_figures::*;
-use nahokipe_host::seeded::Seeded;
+use nahokipe_testing::making::random_list;
+use nahokipe_testing::naive::{path_sets, refused};
+use nahokipe_testing::naive_figures::*;
+use nahokipe_testing::seeded::Seeded;
 use std::collections::HashSet;
 
 /// A list of n parts, with its path counts, tail, signature, domination and importances as document 01 gives them or by hand.

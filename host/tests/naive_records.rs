@@ -1,13 +1,14 @@
 //! The naive records, changes and reports against document 01's examples and against each other: what the other tests compare with must
 //! be right.
 
-use nahokipe_host::known::{REFUSED_RECORDS, TAKEN_OUT_GROUPS};
-use nahokipe_host::making::{largest_record, random_group, random_record, sets_of_size};
-use nahokipe_host::naive::{has, holds, refused};
-use nahokipe_host::naive_records::*;
-use nahokipe_host::naive_report::{printed, refused_line};
-use nahokipe_host::seeded::Seeded;
-use nahokipe_host::Refusal;
+use nahokipe::Refusal;
+use nahokipe_testing::known::{CHANGED_BY_NUMBER, ENTERED_RECORDS, WANTED_MASKS};
+use nahokipe_testing::known::{REFUSED_RECORDS, TAKEN_OUT_GROUPS};
+use nahokipe_testing::making::{largest_record, random_group, random_record, sets_of_size};
+use nahokipe_testing::naive::{has, holds, refused};
+use nahokipe_testing::naive_records::*;
+use nahokipe_testing::naive_report::{printed, refused_line};
+use nahokipe_testing::seeded::Seeded;
 
 const BRIDGE: [u8; 12] = [5, 5, 1, 2, 3, 4, 5, 4, 0x09, 0x0E, 0x12, 0x15];
 
@@ -103,6 +104,48 @@ fn examples_of_changes() {
 fn examples_of_groups() {
     for (bytes, group, expected) in TAKEN_OUT_GROUPS {
         changes_to(bytes, Change::TakeOutGroup(group), expected);
+    }
+}
+
+#[test]
+fn examples_by_part_numbers() {
+    for (bytes, change, expected) in CHANGED_BY_NUMBER {
+        changes_to(bytes, change, expected);
+    }
+    for (numbers, wanted, expected) in WANTED_MASKS {
+        let expected = expected.or_else(|(number, place)| refused(number, place));
+        let about = format!("{wanted:?} among {numbers:?}");
+        assert_eq!(mask_of(numbers, wanted), expected, "{about}");
+    }
+    for (mark, numbers, list, expected) in ENTERED_RECORDS {
+        let expected = expected.or_else(|(number, place)| refused(number, place));
+        let found = entered_record(mark, numbers, list);
+        assert_eq!(found, expected.map(<[u8]>::to_vec), "{mark}, {numbers:?}");
+    }
+}
+
+/// A change by part numbers is the change by the positions at which they stand.
+#[test]
+fn numbers_stand_at_positions() {
+    let mut seeded = Seeded::new(113);
+    for n in 1..=16 {
+        for _ in 0..12 {
+            let bytes = random_record(&mut seeded, n);
+            let numbers = whole_record(&bytes)
+                .expect("an accepted record")
+                .plain
+                .numbers;
+            let group = random_group(&mut seeded, n);
+            let wanted = numbers_of(&numbers, group).expect("a group of these parts");
+            assert_eq!(mask_of(&numbers, &wanted), Ok(group as u16));
+            let together = changed(&bytes, Change::TakeOutGroup(group));
+            assert!(changed(&bytes, Change::TakeOutParts(&wanted)) == together);
+            let with_set = changed(&bytes, Change::AddSet(group as u16));
+            assert!(changed(&bytes, Change::AddSetOfParts(&wanted)) == with_set);
+            let position = position_of(&bytes, wanted[0]).expect("a part's number");
+            let single = changed(&bytes, Change::TakeOut(position));
+            assert!(changed(&bytes, Change::TakeOutPart(wanted[0])) == single);
+        }
     }
 }
 

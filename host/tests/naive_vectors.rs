@@ -1,13 +1,13 @@
 //! The naive vectors and sheets against document 01's examples and against figures of machines: what the other tests compare with must
 //! be right.
 
-use nahokipe_host::known::REFUSED_VECTORS;
-use nahokipe_host::making::random_table;
-use nahokipe_host::naive::{refused, structure_of};
-use nahokipe_host::naive_bytes::{number_at, number_bytes, Field};
-use nahokipe_host::naive_figures::figures_of;
-use nahokipe_host::naive_vectors::*;
-use nahokipe_host::seeded::Seeded;
+use nahokipe_testing::known::REFUSED_VECTORS;
+use nahokipe_testing::making::random_table;
+use nahokipe_testing::naive::{refused, structure_of};
+use nahokipe_testing::naive_bytes::{number_at, number_bytes, Field};
+use nahokipe_testing::naive_figures::figures_of;
+use nahokipe_testing::naive_vectors::*;
+use nahokipe_testing::seeded::Seeded;
 
 /// The bridge in the four kinds.
 const BRIDGE: [(u8, &[i64]); 4] = [

@@ -1,14 +1,16 @@
 //! Part numbers up to 2^48-1 (document 02, §7): records whose numbers take four to seven groups, records that were accepted while part
 //! numbers reached 2^32-1, and lines of changes that cross 2^32 and that end at the top number.
 
-use nahokipe_host::comparing::{given, handed_out, make};
-use nahokipe_host::making::{damaged_record, random_record, random_set};
-use nahokipe_host::naive::{self, refused, table_length};
-use nahokipe_host::naive_records::{self as by_words, former_record, record_bytes, Change, Plain};
-use nahokipe_host::naive_records::{Design, TOP_NUMBER};
-use nahokipe_host::records::whole_record_answer;
-use nahokipe_host::seeded::Seeded;
-use nahokipe_host::{table_of_record, whole_record, Refusal};
+use nahokipe::lent::{table_of_record, whole_record_answer};
+use nahokipe::{whole_record, Refusal};
+use nahokipe_testing::comparing::{given, handed_out, make};
+use nahokipe_testing::making::{damaged_record, random_record, random_set};
+use nahokipe_testing::naive::{self, refused, table_length};
+use nahokipe_testing::naive_records::{
+    self as by_words, former_record, record_bytes, Change, Plain,
+};
+use nahokipe_testing::naive_records::{Design, TOP_NUMBER};
+use nahokipe_testing::seeded::Seeded;
 use std::collections::BTreeSet;
 
 /// Where part numbers ended until then.

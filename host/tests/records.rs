@@ -1,18 +1,17 @@
 //! Records: the calculator against the naive implementation, answers, places, the stretch and the walk, and every cell of the lent
 //! buffers.
 
-use nahokipe_host::comparing::{buffers, front, handed_out, same};
-use nahokipe_host::known::REFUSED_RECORDS;
-use nahokipe_host::making::{damaged_record, largest_record, minimal_of_list, random_list};
-use nahokipe_host::making::{random_record, random_set, sets_of_size, table_of_sets};
-use nahokipe_host::naive::{self, refused, table_length, MOST_SETS};
-use nahokipe_host::naive_bytes::{number_bytes, numbers_bytes};
-use nahokipe_host::naive_records::{self as by_words, record_bytes, Plain, Reading, TOP_NUMBER};
-use nahokipe_host::records::{record_at_answer, step_answer, whole_record_answer};
-use nahokipe_host::records::{Record, RecordAnswer, StepAnswer};
-use nahokipe_host::seeded::Seeded;
-use nahokipe_host::{first_record, next_set, record_at, stretch, table_of_list, table_of_record};
-use nahokipe_host::{walk, whole_record, Refusal};
+use nahokipe::lent::{first_record, table_of_list, table_of_record, RecordAnswer, StepAnswer};
+use nahokipe::lent::{record_at_answer, step_answer, whole_record_answer};
+use nahokipe::{next_set, record_at, stretch, walk, whole_record, Record, Refusal};
+use nahokipe_testing::comparing::{buffers, front, handed_out, same};
+use nahokipe_testing::known::REFUSED_RECORDS;
+use nahokipe_testing::making::{damaged_record, largest_record, minimal_of_list, random_list};
+use nahokipe_testing::making::{random_record, random_set, sets_of_size, table_of_sets};
+use nahokipe_testing::naive::{self, refused, table_length, MOST_SETS};
+use nahokipe_testing::naive_bytes::{number_bytes, numbers_bytes};
+use nahokipe_testing::naive_records::{self as by_words, record_bytes, Plain, Reading, TOP_NUMBER};
+use nahokipe_testing::seeded::Seeded;
 use std::collections::BTreeSet;
 
 const BRIDGE: [u8; 12] = [5, 5, 1, 2, 3, 4, 5, 4, 0x09, 0x0E, 0x12, 0x15];

@@ -1,19 +1,17 @@
 //! The report: the calculator's text against one made from failure orders listed one by one for few parts, and from the formulas for
 //! more; answers, places and every byte of both lent buffers.
 
-use nahokipe_host::comparing::front;
-use nahokipe_host::making::{damaged_record, largest_record, random_record};
-use nahokipe_host::naive::{refused, table_length};
-use nahokipe_host::naive_records::{record_bytes, whole_record, Plain, TOP_NUMBER};
-use nahokipe_host::naive_report as by_words;
-use nahokipe_host::seeded::Seeded;
-use nahokipe_host::{refused_line, report, Refusal};
+use nahokipe::lent::{refused_line, report, ENOUGH_FOR_REPORT};
+use nahokipe::Refusal;
+use nahokipe_testing::comparing::front;
+use nahokipe_testing::making::{damaged_record, largest_record, random_record};
+use nahokipe_testing::naive::{refused, table_length};
+use nahokipe_testing::naive_records::{record_bytes, whole_record, Plain, TOP_NUMBER};
+use nahokipe_testing::naive_report as by_words;
+use nahokipe_testing::seeded::Seeded;
 use std::collections::BTreeSet;
 
 const BRIDGE: [u8; 12] = [5, 5, 1, 2, 3, 4, 5, 4, 0x09, 0x0E, 0x12, 0x15];
-
-/// Enough for every report.
-const MOST_TEXT: usize = 4_096;
 
 // ---- comparing
 
@@ -119,7 +117,7 @@ fn numbers_of_every_length() {
 fn the_largest_record() {
     let bytes = largest_record();
     let (_, text) = compare(&bytes).expect("an accepted record");
-    assert!(text.len() <= MOST_TEXT);
+    assert!(text.len() <= ENOUGH_FOR_REPORT);
     assert!(text.starts_with("parts 16 sets 12870 mark 281474976710655\norder 1 0\n"));
     assert!(text.contains("\norder 9 20922789888000\n"));
     assert!(text.ends_with("part 281474976710655 1307674368000\n"));

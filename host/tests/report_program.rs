@@ -1,9 +1,9 @@
 //! The report program: what it prints for records on its standard input, against the naive report. The command is what the environment
 //! variable NAHOKIPE_REPORT says.
 
-use nahokipe_host::making::{damaged_record, largest_record, random_record};
-use nahokipe_host::naive_report::printed;
-use nahokipe_host::seeded::Seeded;
+use nahokipe_testing::making::{damaged_record, largest_record, random_record};
+use nahokipe_testing::naive_report::printed;
+use nahokipe_testing::seeded::Seeded;
 use std::io::{ErrorKind, Write};
 use std::process::{Child, ChildStdin, Command, Stdio};
 use std::thread::sleep;

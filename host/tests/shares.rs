@@ -1,15 +1,14 @@
 //! Shares of groups: the calculator by both routes against failure orders listed one by one, against 001's eq. 1, and h(x,z) against its
 //! definition; answers, places and every cell of the lent buffers.
 
-use nahokipe_host::comparing::{buffers, front, same};
-use nahokipe_host::making::{flipped, machines, random_table, sets_of_size, table_of_sets};
-use nahokipe_host::naive::{self, structure_of};
-use nahokipe_host::naive_figures::{factorial, failure_orders, figures_of};
-use nahokipe_host::naive_shares as by_formulas;
-use nahokipe_host::seeded::Seeded;
-use nahokipe_host::{
-    reliability, shares_by_both_routes, shares_by_reliability, shares_by_sets, Refusal,
-};
+use nahokipe::lent::{reliability, shares_by_both_routes, shares_by_reliability, shares_by_sets};
+use nahokipe::Refusal;
+use nahokipe_testing::comparing::{buffers, front, same};
+use nahokipe_testing::making::{flipped, machines, random_table, sets_of_size, table_of_sets};
+use nahokipe_testing::naive::{self, structure_of};
+use nahokipe_testing::naive_figures::{factorial, failure_orders, figures_of};
+use nahokipe_testing::naive_shares as by_formulas;
+use nahokipe_testing::seeded::Seeded;
 
 /// What buffers are filled with: a pattern and its opposite.
 const PATTERNS: [i64; 2] = [0x5A5A_5A5A_5A5A_5A5A, !0x5A5A_5A5A_5A5A_5A5A];

@@ -1,15 +1,15 @@
 //! Sheets: the calculator against the naive implementation, answers, places and every cell of the lent buffers.
 
-use nahokipe_host::comparing::{buffers, same};
-use nahokipe_host::making::random_table;
-use nahokipe_host::naive::{self, refused, structure_of};
-use nahokipe_host::naive_bytes::{number_bytes, numbers_bytes};
-use nahokipe_host::naive_figures::path_counts;
-use nahokipe_host::naive_vectors::{self as by_words, sheet_bytes, vector_for};
-use nahokipe_host::naive_vectors::{Vector, DOMINATION, KINDS, SIGNATURE};
-use nahokipe_host::seeded::Seeded;
-use nahokipe_host::vectors::{sheet_answer, Sheet, SheetAnswer};
-use nahokipe_host::{read_sheet, write_sheet, Refusal};
+use nahokipe::lent::{read_sheet, sheet_answer, write_sheet, Sheet, SheetAnswer};
+use nahokipe::Refusal;
+use nahokipe_testing::comparing::{buffers, same};
+use nahokipe_testing::making::random_table;
+use nahokipe_testing::naive::{self, refused, structure_of};
+use nahokipe_testing::naive_bytes::{number_bytes, numbers_bytes};
+use nahokipe_testing::naive_figures::path_counts;
+use nahokipe_testing::naive_vectors::{self as by_words, sheet_bytes, vector_for};
+use nahokipe_testing::naive_vectors::{Vector, DOMINATION, KINDS, SIGNATURE};
+use nahokipe_testing::seeded::Seeded;
 use std::collections::BTreeSet;
 
 /// What buffers are filled with: a pattern and its opposite.

@@ -10,13 +10,15 @@
 
 #include "nahokipe.h"
 
-enum { ROOM = 4 << 20, PROMISED = 256 << 10, PAINT = 0xA5, SETS = 12870, BYTES = 40000, DRAWN = 553419 };
+enum { ROOM = 4 << 20, PROMISED = 256 << 10, PAINT = 0xA5 };
+enum { SETS = NAHOKIPE_MOST_SETS, BYTES = NAHOKIPE_LONGEST_RECORD, DRAWN = NAHOKIPE_LONGEST_DRAWING };
 
 static uint16_t sets[SETS], found[SETS];
-static uint8_t table[8192], other[8192], record[BYTES], written[BYTES], text[4096], sheet[256], drawing[DRAWN];
+static uint8_t table[NAHOKIPE_LONGEST_TABLE], other[NAHOKIPE_LONGEST_TABLE], record[BYTES], written[BYTES], drawing[DRAWN];
+static uint8_t text[NAHOKIPE_ENOUGH_FOR_REPORT], sheet[NAHOKIPE_LONGEST_SHEET];
 static int64_t counts[17], first[17], second[17], cells[81];
-static uint64_t parts[16];
-static size_t length, sheet_length, drawing_length, read_length;
+static uint64_t parts[16], numbers[16];
+static size_t length, sheet_length, drawing_length, read_length, entered_length;
 static unsigned char *ground;
 
 static void nothing(void) {}
@@ -30,10 +32,17 @@ static void convert(void) { nahokipe_convert(1, 16, counts, 17, 4, second, 17); 
 static void write_sheet(void) { sheet_length = nahokipe_write_sheet(1, 16, counts, 17, sheet, sizeof sheet).value; }
 static void read_sheet(void) { nahokipe_read_sheet(sheet, sheet_length, first, 17); }
 static void first_record(void) { length = nahokipe_first_record(16, sets, SETS, record, BYTES).value; }
+static void entered_record(void) { entered_length = nahokipe_entered_record(numbers[15], numbers, 16, sets, SETS, written, BYTES).value; }
 static void whole_record(void) { nahokipe_whole_record(record, length); }
 static void table_of_record(void) { nahokipe_table_of_record(record, length, other, sizeof other); }
 static void drawing_of_record(void) { drawing_length = nahokipe_drawing_of_record(record, length, drawing, DRAWN).value; }
 static void record_of_drawing(void) { read_length = nahokipe_record_of_drawing(drawing, drawing_length, written, BYTES).value; }
+static void position_of(void) { nahokipe_position_of(written, entered_length, numbers[15]); }
+static void mask_of(void) { nahokipe_mask_of(numbers, 16, numbers, 16); }
+static void numbers_of(void) { nahokipe_numbers_of(numbers, 16, 0xFFFF, parts, 16); }
+static void take_out_part(void) { nahokipe_take_out_part(written, entered_length, numbers[2], record, BYTES); }
+static void take_out_parts(void) { nahokipe_take_out_parts(written, entered_length, numbers + 2, 2, record, BYTES); }
+static void add_set_of_parts(void) { nahokipe_add_set_of_parts(written, entered_length, numbers, 7, record, BYTES); }
 static void take_out(void) { nahokipe_take_out(record, length, 3, written, BYTES); }
 static void take_out_group(void) { nahokipe_take_out_group(record, length, 0x0C, written, BYTES); }
 static void add_set(void) { nahokipe_add_set(record, length, 0x7F, written, BYTES); }
@@ -67,7 +76,9 @@ int main(void) {
     static const struct { const char *name; call made; } calls[] = {
         {"table_of_list", table_of_list}, {"table_verdict", table_verdict}, {"minimal_sets", minimal_sets}, {"figures", figures},
         {"shares_by_both_routes", both_routes}, {"reliability", reliability}, {"convert", convert}, {"write_sheet", write_sheet},
-        {"read_sheet", read_sheet}, {"first_record", first_record}, {"whole_record", whole_record},
+        {"read_sheet", read_sheet}, {"entered_record", entered_record}, {"position_of", position_of}, {"mask_of", mask_of},
+        {"numbers_of", numbers_of}, {"take_out_part", take_out_part}, {"take_out_parts", take_out_parts},
+        {"add_set_of_parts", add_set_of_parts}, {"first_record", first_record}, {"whole_record", whole_record},
         {"table_of_record", table_of_record}, {"drawing_of_record", drawing_of_record}, {"record_of_drawing", record_of_drawing},
         {"take_out", take_out}, {"take_out_group", take_out_group}, {"add_set", add_set}, {"report", report}, {"add_part", add_part},
     };
@@ -80,12 +91,13 @@ int main(void) {
         for (; rest != 0; rest &= rest - 1) bits++;
         if (bits == 8) sets[count++] = (uint16_t)mask;
     }
+    for (count = 0; count < 16; count++) numbers[count] = ((uint64_t)1 << 48) - 16 + count;
     bare = used(nothing);
     for (count = 0; count < sizeof calls / sizeof calls[0]; count++) {
         size_t taken = used(calls[count].made) - bare;
         if (taken > most) most = taken, largest = calls[count].name;
     }
     printf("stack: the largest call is %s with %zu bytes\n", largest, most);
-    if (length == 0 || sheet_length == 0 || read_length != length || most > PROMISED) return 1;
+    if (length == 0 || entered_length == 0 || sheet_length == 0 || read_length != length || most > PROMISED) return 1;
     return 0;
 }

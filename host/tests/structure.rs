@@ -1,10 +1,11 @@
 //! Structures: the calculator against the naive implementation, answers, places and every cell of the lent buffers.
 
-use nahokipe_host::comparing::{buffers, front, same};
-use nahokipe_host::making::{flipped, random_list, random_set, random_table, sets_of_size};
-use nahokipe_host::naive::{self, refused, table_length, MOST_SETS};
-use nahokipe_host::seeded::Seeded;
-use nahokipe_host::{list_verdict, minimal_sets, table_of_list, table_verdict};
+use nahokipe::lent::{minimal_sets, table_of_list};
+use nahokipe::{list_verdict, table_verdict};
+use nahokipe_testing::comparing::{buffers, front, same};
+use nahokipe_testing::making::{flipped, random_list, random_set, random_table, sets_of_size};
+use nahokipe_testing::naive::{self, refused, table_length, MOST_SETS};
+use nahokipe_testing::seeded::Seeded;
 
 // ---- comparing
 

@@ -1,14 +1,15 @@
 //! Vectors: the calculator against the naive implementation, answers, places and every cell of the lent buffers.
 
-use nahokipe_host::comparing::{buffers, same};
-use nahokipe_host::known::REFUSED_VECTORS;
-use nahokipe_host::making::random_table;
-use nahokipe_host::naive::{self, refused, structure_of};
-use nahokipe_host::naive_figures::{self as figures, binomial, factorial, pascal};
-use nahokipe_host::naive_vectors::{self as by_words, entries_of, vector_for, KINDS};
-use nahokipe_host::naive_vectors::{DOMINATION, PATH_COUNTS, SIGNATURE, TAIL};
-use nahokipe_host::seeded::Seeded;
-use nahokipe_host::{convert, vector_verdict, Refusal};
+use nahokipe::lent::{convert, vector_verdict};
+use nahokipe::Refusal;
+use nahokipe_testing::comparing::{buffers, same};
+use nahokipe_testing::known::REFUSED_VECTORS;
+use nahokipe_testing::making::random_table;
+use nahokipe_testing::naive::{self, refused, structure_of};
+use nahokipe_testing::naive_figures::{self as figures, binomial, factorial, pascal};
+use nahokipe_testing::naive_vectors::{self as by_words, entries_of, vector_for, KINDS};
+use nahokipe_testing::naive_vectors::{DOMINATION, PATH_COUNTS, SIGNATURE, TAIL};
+use nahokipe_testing::seeded::Seeded;
 use std::collections::BTreeSet;
 
 /// What buffers are filled with: a pattern and its opposite.

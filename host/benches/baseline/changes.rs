@@ -4,8 +4,7 @@
 use super::numbers::{number_length, write_number};
 use super::records::{read, Read};
 use super::table::{refused, WITHOUT};
-use nahokipe_host::records::Record;
-use nahokipe_host::Refusal;
+use nahokipe::{Record, Refusal};
 
 /// The record without the part at a position.
 pub fn take_out(bytes: &[u8], position: usize, buffer: &mut [u8]) -> Result<usize, Refusal> {

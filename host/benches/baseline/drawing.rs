@@ -5,7 +5,7 @@ use super::closing::{carry, trimmed};
 use super::numbers::{number_length, write_number};
 use super::records::read;
 use super::table::{refused, word_count, Words};
-use nahokipe_host::Refusal;
+use nahokipe::Refusal;
 
 /// The record of a text.
 pub fn record_of_drawing(text: &[u8], buffer: &mut [u8]) -> Result<usize, Refusal> {

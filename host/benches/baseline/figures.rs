@@ -3,7 +3,7 @@
 
 use super::counts::{BINOMIAL, FACTORIAL};
 use super::table::{accepted, refused, Words, WITHOUT};
-use nahokipe_host::Refusal;
+use nahokipe::Refusal;
 
 /// For each size, the bits of the masks below 64 that have it.
 const OF_SIZE: [u64; 7] = [

@@ -3,8 +3,7 @@
 
 use super::closing::{carry, store, trimmed};
 use super::table::{refused, table_length, Words};
-use nahokipe_host::records::Record;
-use nahokipe_host::Refusal;
+use nahokipe::{Record, Refusal};
 
 /// The top values: of n, the count of sets and a set, and of the mark and a part number.
 const SHORT: u64 = (1 << 32) - 1;

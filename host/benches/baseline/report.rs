@@ -5,7 +5,7 @@ use super::closing::store;
 use super::figures::fill;
 use super::records::{read, Read};
 use super::table::{refused, table_length};
-use nahokipe_host::Refusal;
+use nahokipe::Refusal;
 use std::io::Write;
 
 /// The text of an accepted record, and its table.

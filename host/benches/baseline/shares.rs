@@ -3,7 +3,7 @@
 
 use super::counts::{BINOMIAL, FACTORIAL};
 use super::table::{accepted, refused, Words};
-use nahokipe_host::Refusal;
+use nahokipe::Refusal;
 
 /// lcm(1..n) for n = 0..16.
 const COMMON: [i64; 17] = [

@@ -2,7 +2,7 @@
 
 use super::closing::{carry, store, trimmed};
 use super::table::{accepted, refused, table_length, word_count};
-use nahokipe_host::Refusal;
+use nahokipe::Refusal;
 
 /// The table of a list.
 pub fn table_of_list(n: usize, list: &[u16], table: &mut [u8]) -> Result<usize, Refusal> {

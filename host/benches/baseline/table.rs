@@ -1,6 +1,6 @@
 //! A table as a good Rust program takes it: 64 sets to a word, and checked.
 
-use nahokipe_host::Refusal;
+use nahokipe::Refusal;
 
 /// Whether each mask is a path set, 64 masks to a word: enough for 16 parts.
 pub type Words = [u64; 1024];

@@ -1,5 +1,8 @@
 //! Records, vectors and texts that are refused, with the number and the place that documents 01 and 02 give them, groups with what taking
-//! them out comes to, and texts with their records: worked out by hand, and asked of the calculator and of the second implementation alike.
+//! them out comes to, records that are entered, changes by part numbers, and texts with their records: worked out by hand, and asked of the
+//! calculator and of the second implementation alike.
+
+use crate::naive_records::{Change, TOP_NUMBER};
 
 /// Bytes, and their refusal's number and place.
 pub type RefusedRecord = (&'static [u8], u8, usize);
@@ -109,6 +112,143 @@ pub const TAKEN_OUT_GROUPS: [TakenOutGroup; 31] = [
         Ok(&[6, 10, 1, 6, 7, 8, 9, 10, 1, 0x21]),
     ),
 ];
+
+/// A mark, part numbers and a list, and the bytes of their record, or the refusal's number and place.
+pub type EnteredRecord = (
+    u64,
+    &'static [u64],
+    &'static [u16],
+    Result<&'static [u8], (u8, usize)>,
+);
+
+/// 1 to n and with gaps, numbers of up to seven bytes, and 1 to 5 and 23, alone and before a later one.
+pub const ENTERED_RECORDS: [EnteredRecord; 27] = [
+    (1, &[1], &[1], Ok(&[1, 1, 1, 1, 1])),
+    (5, &[1, 2, 3, 4, 5], &[21, 18, 31, 14, 9], Ok(BRIDGE)),
+    (15, &[3, 7, 12], &[5, 7, 3], Ok(&[3, 15, 3, 7, 12, 2, 3, 5])),
+    (12, &[3, 7, 12], &[4], Ok(&[3, 12, 3, 7, 12, 1, 4])),
+    (300, &[9, 300], &[2], Ok(&[2, 0xAC, 2, 9, 0xAC, 2, 1, 2])),
+    (TOP_NUMBER, &[3], &[1], Ok(TOP_MARK)),
+    (TOP_NUMBER, &[TOP_NUMBER], &[1], Ok(TOP_PART)),
+    (0, &[], &[], Err((1, 0))),
+    (9, &[], &[1], Err((1, 0))),
+    (0, &[0; 17], &[], Err((1, 0))),
+    (0, &[0, 0], &[], Err((2, 0))),
+    (0, &[0, 0], &[1, 4], Err((4, 1))),
+    (0, &[0, 0], &[1, 2, 0], Err((5, 2))),
+    (15, &[0, 7, 12], &[3], Err((23, 0))),
+    (15, &[3, 3, 12], &[3], Err((23, 1))),
+    (15, &[3, 12, 7], &[3], Err((23, 2))),
+    (15, &[3, 7, 0], &[3], Err((23, 2))),
+    (11, &[3, 7, 12], &[3], Err((23, 2))),
+    (6, &[3, 7, 3], &[3], Err((23, 1))),
+    (0, &[1], &[1], Err((23, 0))),
+    (TOP_NUMBER, &[TOP_NUMBER + 1], &[1], Err((23, 0))),
+    (TOP_NUMBER + 1, &[TOP_NUMBER + 1], &[1], Err((23, 0))),
+    (TOP_NUMBER + 1, &[TOP_NUMBER], &[1], Err((23, 1))),
+    (TOP_NUMBER + 1, &[3, 3], &[1], Err((23, 1))),
+    (TOP_NUMBER + 1, &[3, 4], &[1], Err((23, 2))),
+    (u64::MAX, &[1, 2, u64::MAX], &[1], Err((23, 2))),
+    (u64::MAX, &[1], &[1], Err((23, 1))),
+];
+
+/// Part number 3, and the mark 2^48-1.
+const TOP_MARK: &[u8] = &[1, 0xFF, 0xFF, 0xFF, 0xFF, 0xFF, 0xFF, 0x3F, 3, 1, 1];
+
+/// Part number and mark 2^48-1.
+const TOP_PART: &[u8] = &[
+    1, 0xFF, 0xFF, 0xFF, 0xFF, 0xFF, 0xFF, 0x3F, 0xFF, 0xFF, 0xFF, 0xFF, 0xFF, 0xFF, 0x3F, 1, 1,
+];
+
+/// Part numbers, those that are wanted, and the mask of their positions, or the refusal's number and place.
+pub type WantedMask = (&'static [u64], &'static [u64], Result<u16, (u8, usize)>);
+
+/// 1, 17 and 28, alone and before a later one, any order, none wanted, and numbers that stand twice.
+pub const WANTED_MASKS: [WantedMask; 19] = [
+    (&[3, 7, 12], &[7], Ok(0b010)),
+    (&[3, 7, 12], &[12, 3], Ok(0b101)),
+    (&[3, 7, 12], &[12, 7, 3], Ok(0b111)),
+    (&[3, 7, 12], &[], Ok(0)),
+    (&[3, 7, 12], &[8], Err((17, 0))),
+    (&[3, 7, 12], &[0], Err((17, 0))),
+    (&[3, 7, 12], &[3 + (1 << 32)], Err((17, 0))),
+    (&[3, 7, 12], &[7, 7], Err((28, 0))),
+    (&[3, 7, 12], &[7, 3, 7, 12], Err((28, 0))),
+    (&[3, 7, 12], &[7, 7, 8], Err((17, 0))),
+    (&[3, 7, 12], &[8, 8], Err((17, 0))),
+    (&[], &[], Err((1, 0))),
+    (&[], &[3], Err((1, 0))),
+    (&[7; 17], &[7, 7], Err((1, 0))),
+    (&[4, 4], &[4], Ok(0b11)),
+    (&[4, 9, 4], &[4], Ok(0b101)),
+    (&[4, 4], &[4, 4], Err((28, 0))),
+    (&[0, u64::MAX], &[u64::MAX, 0], Ok(0b11)),
+    (&[7; 16], &[7], Ok(0xFFFF)),
+];
+
+/// A record's bytes, a change by part numbers, and the bytes of the new record, or the refusal's number and place.
+pub type ChangedByNumber = (
+    &'static [u8],
+    Change<'static>,
+    Result<&'static [u8], (u8, usize)>,
+);
+
+/// The bridge without part 3: part 4 stands at position 3.
+const FOUR: &[u8] = &[4, 5, 1, 2, 4, 5, 2, 5, 10];
+
+/// Parts 2, 5 and 7 under the mark 9: the set {7}.
+const GAPS: &[u8] = &[3, 9, 2, 5, 7, 1, 4];
+
+/// 17, 28, 15, 5 and 18, alone and before a later one, and parts whose positions are not their numbers.
+pub const CHANGED_BY_NUMBER: [ChangedByNumber; 32] = [
+    (BRIDGE, Change::TakeOutPart(3), Ok(FOUR)),
+    (FOUR, Change::TakeOutPart(4), Ok(&[3, 5, 1, 2, 5, 1, 6])),
+    (FOUR, Change::TakeOutPart(5), Ok(&[3, 5, 1, 2, 4, 1, 5])),
+    (FOUR, Change::TakeOutPart(3), Err((17, 0))),
+    (BRIDGE, Change::TakeOutPart(0), Err((17, 0))),
+    (BRIDGE, Change::TakeOutPart(6), Err((17, 0))),
+    (BRIDGE, Change::TakeOutPart(1 + (1 << 32)), Err((17, 0))),
+    (BRIDGE, Change::TakeOutPart(u64::MAX), Err((17, 0))),
+    (PUMPS, Change::TakeOutPart(1), Err((18, 0))),
+    (PUMPS, Change::TakeOutPart(2), Ok(&[2, 3, 1, 3, 1, 3])),
+    (GAPS, Change::TakeOutPart(2), Ok(&[2, 9, 5, 7, 1, 2])),
+    (GAPS, Change::TakeOutPart(3), Err((17, 0))),
+    (GAPS, Change::TakeOutPart(7), Err((18, 0))),
+    (
+        BRIDGE,
+        Change::TakeOutParts(&[5, 3]),
+        Ok(&[3, 5, 1, 2, 4, 1, 5]),
+    ),
+    (BRIDGE, Change::TakeOutParts(&[3]), Ok(FOUR)),
+    (BRIDGE, Change::TakeOutParts(&[]), Err((15, 0))),
+    (BRIDGE, Change::TakeOutParts(&[3, 6]), Err((17, 0))),
+    (BRIDGE, Change::TakeOutParts(&[3, 3]), Err((28, 0))),
+    (BRIDGE, Change::TakeOutParts(&[3, 3, 6]), Err((17, 0))),
+    (BRIDGE, Change::TakeOutParts(&[2, 1]), Err((18, 0))),
+    (BRIDGE, Change::TakeOutParts(&[2, 1, 2]), Err((28, 0))),
+    (GAPS, Change::TakeOutParts(&[5, 2]), Ok(&[1, 9, 7, 1, 1])),
+    (GAPS, Change::TakeOutParts(&[1]), Err((17, 0))),
+    (BRIDGE, Change::AddSetOfParts(&[1]), Ok(WIDER)),
+    (BRIDGE, Change::AddSetOfParts(&[4, 1]), Ok(BRIDGE)),
+    (BRIDGE, Change::AddSetOfParts(&[]), Err((5, 0))),
+    (BRIDGE, Change::AddSetOfParts(&[6]), Err((17, 0))),
+    (BRIDGE, Change::AddSetOfParts(&[1, 1]), Err((28, 0))),
+    (BRIDGE, Change::AddSetOfParts(&[1, 1, 0]), Err((17, 0))),
+    (
+        GAPS,
+        Change::AddSetOfParts(&[5]),
+        Ok(&[3, 9, 2, 5, 7, 2, 2, 4]),
+    ),
+    (GAPS, Change::AddSetOfParts(&[7, 2]), Ok(GAPS)),
+    (
+        &[1, 1, 1, 1, 1, 0],
+        Change::AddSetOfParts(&[]),
+        Err((25, 5)),
+    ),
+];
+
+/// The bridge with the set {1}.
+const WIDER: &[u8] = &[5, 5, 1, 2, 3, 4, 5, 3, 1, 14, 18];
 
 /// Kind, n and entries, and their refusal's number and place.
 pub type RefusedVector = (u8, usize, &'static [i64], u8, usize);

@@ -5,7 +5,7 @@
 //! formulas are worked out in 128 bits, where nothing can overflow, and narrowed at the end.
 
 use crate::naive::{has, refused, structure_of, table_verdict};
-use crate::Refusal;
+use nahokipe::Refusal;
 
 /// The figures of a machine: those by size or by failures from index 0 on, the signature N(1) first, the importances by position.
 #[derive(Clone, Debug, PartialEq)]

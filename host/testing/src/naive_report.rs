@@ -5,7 +5,7 @@
 use crate::naive::{structure_of, table_of_list};
 use crate::naive_figures::{failure_orders, figures_of, listed};
 use crate::naive_records::{whole_record, Plain};
-use crate::Refusal;
+use nahokipe::Refusal;
 
 /// Up to so many parts the orders are listed; above, the formulas count them.
 const FEW_PARTS: usize = 6;

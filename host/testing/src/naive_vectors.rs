@@ -5,7 +5,7 @@
 use crate::naive::refused;
 use crate::naive_bytes::{number_at, numbers_bytes, Field};
 use crate::naive_figures::{binomial, domination, factorial, signature, tail};
-use crate::Refusal;
+use nahokipe::Refusal;
 
 pub const PATH_COUNTS: u8 = 1;
 pub const TAIL: u8 = 2;

@@ -4,7 +4,7 @@
 //! Nothing here is shared with the calculator; the tests compare the two.
 
 use crate::naive::refused;
-use crate::Refusal;
+use nahokipe::Refusal;
 
 /// Where a number stands says how far it reaches, and so how many groups it may have: those of its top value.
 #[derive(Clone, Copy, Debug)]

@@ -61,6 +61,21 @@ pub fn machines(n: usize) -> Vec<Vec<u8>> {
         .collect()
 }
 
+/// All machines of n parts, n up to 4: numbered 1 to n, and with gaps, numbers of several bytes and a mark above them.
+pub fn every_plain(n: usize) -> Vec<Plain> {
+    let numberings = [(n as u64, [1, 2, 3, 4]), (1 << 40, [2, 9, 200, 1 << 32])];
+    let mut plains = Vec::new();
+    for table in machines(n) {
+        let sets = naive::minimal_sets(n, &table).expect("an accepted table");
+        plains.extend(numberings.map(|(mark, numbers)| Plain {
+            mark,
+            numbers: numbers[..n].to_vec(),
+            sets: sets.clone(),
+        }));
+    }
+    plains
+}
+
 /// The table of a list that is accepted.
 pub fn table_of_sets(n: usize, list: &[u16]) -> Vec<u8> {
     naive::table_of(&naive::path_sets_rising(n, list))
@@ -102,6 +117,32 @@ fn random_numbers(seeded: &mut Seeded, n: usize) -> Vec<u64> {
         numbers.push(last);
     }
     numbers
+}
+
+/// Part numbers to ask for, in any order: some of these, and now and then one twice, one that is no part's, or none.
+pub fn random_wanted(seeded: &mut Seeded, numbers: &[u64]) -> Vec<u64> {
+    let group = random_group(seeded, numbers.len());
+    let places = (0..numbers.len()).filter(|place| group >> place & 1 == 1);
+    let mut wanted: Vec<u64> = places.map(|place| numbers[place]).collect();
+    match seeded.between(0, 9) {
+        0 => wanted.push(wanted[0]),
+        1 => wanted.push(unknown_number(seeded, numbers)),
+        2 => wanted.clear(),
+        _ => {}
+    }
+    seeded.shuffle(&mut wanted);
+    wanted
+}
+
+/// A number that no part has: beside one of these, one that differs in a high bit, or one at or above the top.
+pub fn unknown_number(seeded: &mut Seeded, numbers: &[u64]) -> u64 {
+    let number = seeded.pick(numbers);
+    let beside = [0, number - 1, number + 1];
+    let higher = [16, 32, 48, 63].map(|bit| number ^ (1 << bit));
+    let top = [TOP_NUMBER, TOP_NUMBER + 1, u64::MAX];
+    let mut unknown = [&beside[..], &higher, &top].concat();
+    unknown.retain(|number| !numbers.contains(number));
+    seeded.pick(&unknown)
 }
 
 /// A record of n parts that is accepted.
@@ -210,11 +251,11 @@ fn damage_line<'a>(seeded: &mut Seeded, words: &mut Vec<&'a str>, beside: &'a [S
     }
 }
 
-/// All texts of so many bytes that are made of these.
-pub fn texts_of(bytes: &[u8], length: u32) -> impl Iterator<Item = Vec<u8>> + '_ {
-    let choices = bytes.len();
-    let byte = move |text: usize, i| bytes[text / choices.pow(i) % choices];
-    (0..choices.pow(length)).map(move |text| (0..length).map(|i| byte(text, i)).collect())
+/// All lists of so many of these items, with repeats.
+pub fn lists_of<T: Copy>(items: &[T], length: u32) -> impl Iterator<Item = Vec<T>> + '_ {
+    let choices = items.len();
+    let item = move |list: usize, i| items[list / choices.pow(i) % choices];
+    (0..choices.pow(length)).map(move |list| (0..length).map(|i| item(list, i)).collect())
 }
 
 /// The text of all sets of 8 of 16 parts, ascending: the most sets that a record can have.

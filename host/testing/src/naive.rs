@@ -3,7 +3,7 @@
 //! Nothing here is shared with the calculator; the tests compare the two. A set of parts is a mask, a structure a `Vec<bool>` that has
 //! 2^n entries: whether each mask is a path set.
 
-use crate::Refusal;
+use nahokipe::Refusal;
 
 /// The most sets that a list may have.
 pub const MOST_SETS: usize = 12_870;

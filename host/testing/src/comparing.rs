@@ -2,8 +2,9 @@
 
 use crate::naive;
 use crate::naive_records::{self as by_words, Change, Reading};
-use crate::records::RecordAnswer;
-use crate::{add_part, add_set, take_out, take_out_group, Refusal};
+use nahokipe::lent::{add_part, add_set, add_set_of_parts, RecordAnswer};
+use nahokipe::lent::{take_out, take_out_group, take_out_part, take_out_parts};
+use nahokipe::Refusal;
 use std::fmt::Debug;
 
 /// What a call left: its answer, and the lent buffer afterwards.
@@ -71,6 +72,9 @@ pub fn make(change: Change, bytes: &[u8], buffer: &mut [u8]) -> Result<usize, Re
         Change::TakeOut(position) => take_out(bytes, position, buffer),
         Change::TakeOutGroup(group) => take_out_group(bytes, group, buffer),
         Change::AddSet(set) => add_set(bytes, set, buffer),
+        Change::TakeOutPart(number) => take_out_part(bytes, number, buffer),
+        Change::TakeOutParts(wanted) => take_out_parts(bytes, wanted, buffer),
+        Change::AddSetOfParts(wanted) => add_set_of_parts(bytes, wanted, buffer),
     }
 }
 

@@ -5,7 +5,7 @@
 
 use crate::naive::{has, refused, structure_of, table_verdict};
 use crate::naive_figures::{binomial, factorial, size, stops};
-use crate::Refusal;
+use nahokipe::Refusal;
 
 /// In how many of these orders the k-th failure inside the group stops the machine, k = 1..m.
 pub fn listed(works: &[bool], orders: &[Vec<usize>], group: usize) -> Vec<i64> {

@@ -5,14 +5,11 @@
 
 use crate::naive::{self, has, holds, refused, MOST_SETS};
 use crate::naive_bytes::{number_at, numbers_bytes, Field};
-use crate::Refusal;
+use nahokipe::Refusal;
 use std::collections::BTreeSet;
 
 /// The highest part number that can be issued.
 pub const TOP_NUMBER: u64 = (1 << 48) - 1;
-
-/// So many bytes are enough for every record.
-pub const MOST_RECORD: usize = 40_000;
 
 // ---- reading
 
@@ -239,6 +236,68 @@ pub fn first_record(n: usize, list: &[u16]) -> Result<Vec<u8>, Refusal> {
     }))
 }
 
+/// A record of parts that have numbers already: these, this mark, the minimal sets of the list; or the first refusal, those of the list and
+/// then 23, for the numbers one after the other and for the mark.
+pub fn entered_record(mark: u64, numbers: &[u64], list: &[u16]) -> Result<Vec<u8>, Refusal> {
+    let n = numbers.len();
+    let table = naive::table_of_list(n, list)?;
+    let is_wrong = |&i: &usize| {
+        let number = numbers[i];
+        let rises = numbers[..i].iter().all(|&earlier| earlier < number);
+        number == 0 || !rises || number > mark || number > TOP_NUMBER
+    };
+    if let Some(index) = (0..n).find(is_wrong) {
+        return refused(23, index);
+    }
+    if mark > TOP_NUMBER {
+        return refused(23, n);
+    }
+    Ok(record_bytes(&Plain {
+        mark,
+        numbers: numbers.to_vec(),
+        sets: naive::minimal_sets(n, &table)?,
+    }))
+}
+
+// ---- part numbers and positions
+
+/// The one position, from 1, whose part number this is; the record's refusal, and then 17.
+pub fn position_of(bytes: &[u8], number: u64) -> Result<usize, Refusal> {
+    let numbers = whole_record(bytes)?.plain.numbers;
+    let place = numbers.iter().position(|&one| one == number);
+    place.map_or(refused(17, 0), |place| Ok(place + 1))
+}
+
+/// The mask of the positions whose number is wanted: 1, 17 for all wanted numbers, and then 28.
+pub fn mask_of(numbers: &[u64], wanted: &[u64]) -> Result<u16, Refusal> {
+    let n = numbers.len();
+    if !(1..=16).contains(&n) {
+        return refused(1, 0);
+    }
+    if wanted.iter().any(|number| !numbers.contains(number)) {
+        return refused(17, 0);
+    }
+    let different: BTreeSet<&u64> = wanted.iter().collect();
+    if different.len() < wanted.len() {
+        return refused(28, 0);
+    }
+    let places = (0..n).filter(|&i| different.contains(&numbers[i]));
+    Ok(places.map(|i| 1 << i).sum())
+}
+
+/// The numbers at the positions of a mask, in their order: 1, 16.
+pub fn numbers_of(numbers: &[u64], mask: usize) -> Result<Vec<u64>, Refusal> {
+    let n = numbers.len();
+    if !(1..=16).contains(&n) {
+        return refused(1, 0);
+    }
+    if (n..usize::BITS as usize).any(|i| has(mask, i)) {
+        return refused(16, 0);
+    }
+    let places = (0..n).filter(|&i| has(mask, i));
+    Ok(places.map(|i| numbers[i]).collect())
+}
+
 // ---- changing
 
 /// A design: its minimal sets are sets of part numbers.
@@ -301,7 +360,7 @@ impl Design {
     }
 
     /// All parts of the group are held failed: sets naming any of them go.
-    pub fn take_out_group(mut self, group: usize) -> Result<Design, Refusal> {
+    pub fn take_out_group(self, group: usize) -> Result<Design, Refusal> {
         if group == 0 {
             return refused(15, 0);
         }
@@ -310,16 +369,48 @@ impl Design {
             return refused(16, 0);
         }
         let gone = named(&self.numbers, group as u16);
-        if self.sets.iter().all(|set| !set.is_disjoint(&gone)) {
+        self.without(&gone)
+    }
+
+    /// The part that has this number is held failed.
+    pub fn take_out_part(self, number: u64) -> Result<Design, Refusal> {
+        let gone = self.wanted(&[number])?;
+        self.without(&gone)
+    }
+
+    /// All parts that have these numbers are held failed.
+    pub fn take_out_parts(self, wanted: &[u64]) -> Result<Design, Refusal> {
+        let gone = self.wanted(wanted)?;
+        if gone.is_empty() {
+            return refused(15, 0);
+        }
+        self.without(&gone)
+    }
+
+    /// The wanted numbers: 17 where any is no part's, and then 28 where one stands twice.
+    fn wanted(&self, wanted: &[u64]) -> Result<BTreeSet<u64>, Refusal> {
+        if wanted.iter().any(|number| !self.numbers.contains(number)) {
+            return refused(17, 0);
+        }
+        let different: BTreeSet<u64> = wanted.iter().copied().collect();
+        if different.len() < wanted.len() {
+            return refused(28, 0);
+        }
+        Ok(different)
+    }
+
+    /// Sets that name any of these parts go, and there is one left.
+    fn without(mut self, gone: &BTreeSet<u64>) -> Result<Design, Refusal> {
+        self.sets.retain(|set| set.is_disjoint(gone));
+        if self.sets.is_empty() {
             return refused(18, 0);
         }
-        self.sets.retain(|set| set.is_disjoint(&gone));
         self.numbers.retain(|number| !gone.contains(number));
         Ok(self)
     }
 
-    /// The minimal sets of the old ones and the new one. No old one holds another, so the new one alone is compared.
-    pub fn add_set(mut self, set: u16) -> Result<Design, Refusal> {
+    /// One path set more, by positions.
+    pub fn add_set(self, set: u16) -> Result<Design, Refusal> {
         if (self.numbers.len()..16).any(|i| has(set as usize, i)) {
             return refused(4, 0);
         }
@@ -327,11 +418,25 @@ impl Design {
             return refused(5, 0);
         }
         let set = named(&self.numbers, set);
+        Ok(self.with(set))
+    }
+
+    /// One path set more, by part numbers.
+    pub fn add_set_of_parts(self, wanted: &[u64]) -> Result<Design, Refusal> {
+        let set = self.wanted(wanted)?;
+        if set.is_empty() {
+            return refused(5, 0);
+        }
+        Ok(self.with(set))
+    }
+
+    /// The minimal sets of the old ones and the new one. No old one holds another, so the new one alone is compared.
+    fn with(mut self, set: BTreeSet<u64>) -> Design {
         if !self.sets.iter().any(|old| old.is_subset(&set)) {
             self.sets.retain(|old| !set.is_subset(old));
             self.sets.insert(set);
         }
-        Ok(self)
+        self
     }
 }
 
@@ -341,13 +446,16 @@ pub fn named(numbers: &[u64], set: u16) -> BTreeSet<u64> {
     places.map(|i| numbers[i]).collect()
 }
 
-/// A change of a record.
+/// A change of a record: by positions, or by the part numbers that are wanted.
 #[derive(Clone, Copy, Debug, PartialEq, Eq)]
-pub enum Change {
+pub enum Change<'a> {
     AddPart,
     TakeOut(usize),
     TakeOutGroup(usize),
     AddSet(u16),
+    TakeOutPart(u64),
+    TakeOutParts(&'a [u64]),
+    AddSetOfParts(&'a [u64]),
 }
 
 /// The new record, or the first refusal: the whole record is checked, and then the change.
@@ -358,6 +466,9 @@ pub fn changed(bytes: &[u8], change: Change) -> Result<Vec<u8>, Refusal> {
         Change::TakeOut(position) => design.take_out(position),
         Change::TakeOutGroup(group) => design.take_out_group(group),
         Change::AddSet(set) => design.add_set(set),
+        Change::TakeOutPart(number) => design.take_out_part(number),
+        Change::TakeOutParts(wanted) => design.take_out_parts(wanted),
+        Change::AddSetOfParts(wanted) => design.add_set_of_parts(wanted),
     };
     Ok(record_bytes(&design?.plain()))
 }

@@ -5,14 +5,11 @@
 
 use crate::naive::{has, refused};
 use crate::naive_records::{first_record, whole_record, Plain};
-use crate::Refusal;
+use nahokipe::Refusal;
 use std::collections::BTreeSet;
 
 /// The line that is one too many, whatever stands on it.
 const LINE_TOO_MANY: usize = 12_872;
-
-/// So many bytes are enough for every text that is written, and no text that is accepted has more.
-pub const MOST_TEXT: usize = 553_419;
 
 // ---- reading
 

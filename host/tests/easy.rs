@@ -1,0 +1,240 @@
+//! The calls that lend nothing, at the crate's root: what the words say, on inputs that are given and on inputs that are refused, and on the
+//! largest machine, for which their buffers are long enough.
+
+use nahokipe::{
+    add_part, add_set, add_set_of_parts, convert, domination, drawing_of_record, figures,
+    first_record, importance, lent, minimal_sets, path_counts, read_sheet, record_of_drawing,
+    refused_line, reliability, report, sets_of_record, shares_by_both_routes,
+    shares_by_reliability, shares_by_sets, signature, table_of_list, table_of_record, tail,
+    take_out, take_out_group, take_out_part, take_out_parts, vector_verdict, write_sheet, Figures,
+    Kind, Refusal, Vector,
+};
+use nahokipe_testing::making::{damaged_drawing, damaged_record, flipped, largest_drawing};
+use nahokipe_testing::making::{largest_record, random_drawing, random_group, random_list};
+use nahokipe_testing::making::{random_record, random_set, random_table, random_wanted};
+use nahokipe_testing::making::{sets_of_size, six_of_sixteen, table_of_sets, unknown_number};
+use nahokipe_testing::naive_records::{changed, whole_record, Change};
+use nahokipe_testing::seeded::Seeded;
+use nahokipe_testing::{naive, naive_drawing, naive_figures, naive_records, naive_report};
+use nahokipe_testing::{naive_shares, naive_vectors};
+
+// ---- structures and figures
+
+/// Everything that is worked out of a table.
+fn compare_table(n: usize, table: &[u8]) {
+    let expected = naive_figures::figures(n, table);
+    let of = |part: fn(naive_figures::Figures) -> Vec<i64>| expected.clone().map(part);
+    assert_eq!(path_counts(n, table), of(|figures| figures.counts));
+    assert_eq!(tail(n, table), of(|figures| figures.tail));
+    assert_eq!(signature(n, table), of(|figures| figures.signature));
+    assert_eq!(domination(n, table), of(|figures| figures.domination));
+    let importances = expected.clone().map(|figures| figures.importance);
+    assert_eq!(importance(n, table), importances);
+    let together = expected.map(|figures| Figures {
+        path_counts: figures.counts,
+        signature: figures.signature,
+        domination: figures.domination,
+        importance: figures.importance,
+    });
+    assert_eq!(figures(n, table), together);
+    assert!(minimal_sets(n, table) == naive::minimal_sets(n, table));
+}
+
+/// Shares and coefficients of a group.
+fn compare_group(n: usize, table: &[u8], group: usize) {
+    let shares = naive_shares::shares(n, table, group);
+    assert_eq!(shares_by_sets(n, table, group), shares);
+    assert_eq!(shares_by_reliability(n, table, group), shares);
+    let both = shares.map(|shares| (shares.clone(), shares));
+    assert_eq!(shares_by_both_routes(n, table, group), both);
+    let coefficients = naive_shares::reliability(n, table, group);
+    assert_eq!(reliability(n, table, group), coefficients);
+}
+
+#[test]
+fn tables_and_groups() {
+    let mut seeded = Seeded::new(320);
+    for n in 1..=12 {
+        for _ in 0..4 {
+            let table = random_table(&mut seeded, n);
+            let broken = flipped(&table, seeded.between(0, (1 << n) - 1));
+            for table in [&table, &broken] {
+                compare_table(n, table);
+                let group = random_group(&mut seeded, n);
+                for group in [group, 0, 1 << n] {
+                    compare_group(n, table, group);
+                }
+            }
+        }
+    }
+}
+
+#[test]
+fn lists() {
+    let mut seeded = Seeded::new(321);
+    for n in 0..=18 {
+        for _ in 0..6 {
+            let mut list = random_list(&mut seeded, n.clamp(1, 16));
+            assert!(table_of_list(n, &list) == naive::table_of_list(n, &list));
+            assert!(first_record(n, &list) == naive_records::first_record(n, &list));
+            list.push(0);
+            assert!(table_of_list(n, &list) == naive::table_of_list(n, &list));
+            assert!(first_record(n, &list) == naive_records::first_record(n, &list));
+        }
+    }
+}
+
+/// 16 parts: the most sets, and the groups with the most shares and the most coefficients.
+#[test]
+fn the_largest_machine() {
+    let sets = sets_of_size(16, 8);
+    let table = table_of_sets(16, &sets);
+    assert!(table_of_list(16, &sets).as_ref() == Ok(&table));
+    for table in [&table, &six_of_sixteen()] {
+        compare_table(16, table);
+        for group in [0xFFFF, 0x00FF, 1] {
+            compare_group(16, table, group);
+        }
+    }
+    compare_record(&largest_record());
+    compare_drawing(largest_drawing().as_bytes());
+}
+
+// ---- records
+
+/// Everything that is made of a record by itself.
+fn compare_record(bytes: &[u8]) {
+    let sets = whole_record(bytes).map(|read| read.plain.sets);
+    assert!(sets_of_record(bytes) == sets);
+    assert!(table_of_record(bytes) == naive_records::table_of_record(bytes));
+    assert!(drawing_of_record(bytes) == naive_drawing::drawing_of_record(bytes));
+    let text = naive_report::report(bytes).map(|(_, text)| text.into_bytes());
+    assert!(report(bytes) == text);
+}
+
+fn compare_drawing(text: &[u8]) {
+    assert!(record_of_drawing(text) == naive_drawing::record_of_drawing(text));
+}
+
+/// A change, with nothing lent.
+fn made(bytes: &[u8], change: Change) -> Result<Vec<u8>, Refusal> {
+    match change {
+        Change::AddPart => add_part(bytes),
+        Change::TakeOut(position) => take_out(bytes, position),
+        Change::TakeOutGroup(group) => take_out_group(bytes, group),
+        Change::AddSet(set) => add_set(bytes, set),
+        Change::TakeOutPart(number) => take_out_part(bytes, number),
+        Change::TakeOutParts(wanted) => take_out_parts(bytes, wanted),
+        Change::AddSetOfParts(wanted) => add_set_of_parts(bytes, wanted),
+    }
+}
+
+/// Every kind of change of a record of these parts.
+fn compare_changes(seeded: &mut Seeded, bytes: &[u8], numbers: &[u64]) {
+    let n = numbers.len();
+    let wanted = random_wanted(seeded, numbers);
+    let changes = [
+        Change::AddPart,
+        Change::TakeOut(seeded.between(0, n + 1)),
+        Change::TakeOutGroup(random_group(seeded, n)),
+        Change::AddSet(random_set(seeded, n)),
+        Change::TakeOutPart(seeded.pick(numbers)),
+        Change::TakeOutPart(unknown_number(seeded, numbers)),
+        Change::TakeOutParts(&wanted),
+        Change::AddSetOfParts(&wanted),
+    ];
+    for change in changes {
+        assert!(made(bytes, change) == changed(bytes, change), "{change:?}");
+    }
+}
+
+#[test]
+fn records_and_changes() {
+    let mut seeded = Seeded::new(322);
+    for n in 1..=16 {
+        for _ in 0..4 {
+            let bytes = random_record(&mut seeded, n);
+            let numbers = whole_record(&bytes)
+                .expect("an accepted record")
+                .plain
+                .numbers;
+            let damaged = damaged_record(&mut seeded, n);
+            for bytes in [&bytes, &damaged] {
+                compare_record(bytes);
+                compare_changes(&mut seeded, bytes, &numbers);
+            }
+            compare_drawing(random_drawing(&mut seeded, n).as_bytes());
+            compare_drawing(damaged_drawing(&mut seeded, n).as_bytes());
+        }
+    }
+}
+
+/// Changes of the record with the most sets, and of what is left of it without a part, which has room for one.
+#[test]
+fn changes_of_the_largest_record() {
+    let mut seeded = Seeded::new(323);
+    let bytes = largest_record();
+    let numbers = whole_record(&bytes)
+        .expect("an accepted record")
+        .plain
+        .numbers;
+    compare_changes(&mut seeded, &bytes, &numbers);
+    let fewer = take_out(&bytes, 16).expect("a set left");
+    compare_changes(&mut seeded, &fewer, &numbers[..15]);
+}
+
+// ---- vectors
+
+/// Vectors of every kind, changed by one now and then: judged, turned into every other kind, and through a sheet.
+#[test]
+fn vectors() {
+    let mut seeded = Seeded::new(324);
+    for n in 1..=16 {
+        for round in 0..6 {
+            let table = random_table(&mut seeded, n);
+            let counts = path_counts(n, &table).expect("an accepted table");
+            for kind in Kind::ALL {
+                let entries = convert(Kind::PathCounts, n, &counts, kind);
+                let mut entries = entries.expect("an accepted vector");
+                entries[0] += (round % 3) / 2;
+                compare_vector(kind, n, &entries);
+            }
+        }
+    }
+}
+
+fn compare_vector(kind: Kind, n: usize, entries: &[i64]) {
+    let number = kind.number();
+    let verdict = naive_vectors::verdict(number, n, entries);
+    assert_eq!(vector_verdict(kind, n, entries), verdict);
+    for target in Kind::ALL {
+        let expected = naive_vectors::convert(number, n, entries, target.number());
+        assert_eq!(convert(kind, n, entries, target), expected);
+    }
+    let sheet = naive_vectors::write_sheet(number, n, entries);
+    assert_eq!(write_sheet(kind, n, entries), sheet);
+    if let Ok(sheet) = sheet {
+        let entries = entries.to_vec();
+        assert_eq!(read_sheet(&sheet), Ok(Vector { kind, n, entries }));
+        let cut = &sheet[..sheet.len() - 1];
+        let refusal = naive_vectors::read_sheet(cut).map(drop);
+        assert_eq!(read_sheet(cut).map(drop), refusal);
+    }
+}
+
+// ---- lines
+
+/// The line of every refusal, at places up to the highest, is what the lent call writes.
+#[test]
+fn lines_of_refusals() {
+    for number in 0..=u8::MAX {
+        for place in [0, 9, 10, 12_872, usize::MAX] {
+            let refusal = Refusal { number, place };
+            let line = refused_line(refusal);
+            assert_eq!(line, naive_report::refused_line(refusal));
+            let mut text = vec![0; line.len()];
+            assert_eq!(lent::refused_line(refusal, &mut text), Ok(line.len()));
+            assert_eq!(text, line.as_bytes());
+        }
+    }
+}

@@ -1,0 +1,314 @@
+//! The commands: their words, what each is for, and the help.
+
+use crate::arguments::Arguments;
+use crate::ending::Ending;
+use crate::{changes, diff, entering, explain, figures, page, shares, showing};
+use std::ffi::OsStr;
+
+/// A command of the program.
+pub struct Command {
+    pub name: &'static str,
+    /// The words behind it, as the usage shows them.
+    pub words: &'static str,
+    /// What it does, in a line.
+    summary: &'static str,
+    /// What its help says beyond that.
+    details: &'static str,
+    /// How many words it takes at least and, where there is a limit, at most.
+    pub fewest: usize,
+    pub most: Option<usize>,
+    /// How many of the first words are files that are read.
+    pub inputs: usize,
+    pub takes_names: bool,
+    pub takes_output: bool,
+    pub run: fn(&Arguments) -> Result<(), Ending>,
+}
+
+/// A command that takes one record and prints something of it.
+const ONE_RECORD: Command = Command {
+    name: "",
+    words: "RECORD",
+    summary: "",
+    details: "",
+    fewest: 1,
+    most: Some(1),
+    inputs: 1,
+    takes_names: false,
+    takes_output: false,
+    run: showing::report,
+};
+
+/// All commands, in the order of the help.
+static COMMANDS: [Command; 13] = [
+    Command {
+        name: "enter",
+        words: "TEXT RECORD",
+        summary: "make a record of parts that already have numbers",
+        details: "\
+TEXT says the machine by part numbers, in this order:
+
+    mark 15            the highest number ever issued, also to parts that left
+    parts 3 7 12       the numbers of the parts, rising
+    set 3 7            a set of parts that suffices to run the machine,
+    set 3 12           one line for each; comments go from # to the end of a line
+
+The mark has no default: the numbers in use do not show which ones were issued before. What
+was entered is printed back, with the number that the next part will get. RECORD is a new
+file; one that is there is not replaced.
+
+    nahokipe enter tab6.txt tab6.record
+",
+        fewest: 2,
+        most: Some(2),
+        run: entering::enter,
+        ..ONE_RECORD
+    },
+    Command {
+        name: "new",
+        words: "DRAWING RECORD",
+        summary: "make a record from a drawing's text, with numbers 1 to n",
+        details: "\
+DRAWING is the text that the drawing tool writes: `parts 5`, then `set 1 4` for each set, by
+positions. The parts are numbered 1 to n and the mark is n, whatever numbers they had
+elsewhere; parts that already have numbers are entered with `nahokipe enter`. RECORD is a new
+file; one that is there is not replaced.
+
+    nahokipe new bridge.txt bridge.record
+",
+        fewest: 2,
+        most: Some(2),
+        run: entering::new,
+        ..ONE_RECORD
+    },
+    Command {
+        name: "show",
+        words: "RECORD [--names FILE]",
+        summary: "mark, parts and sets, as the text that `enter` takes",
+        details: "\
+What it prints makes the same record again, byte for byte. Names are shown as comments.
+
+    nahokipe show tab6.record --names names.txt
+",
+        takes_names: true,
+        run: showing::show,
+        ..ONE_RECORD
+    },
+    Command {
+        name: "drawing",
+        summary: "the record as the drawing tool's text, by positions",
+        details: "\
+The text has positions and no part numbers. Where the parts are not numbered 1 to n with mark
+n, a warning says so: a record that is made from the text numbers them anew.
+
+    nahokipe drawing bridge.record
+",
+        run: showing::drawing,
+        ..ONE_RECORD
+    },
+    Command {
+        name: "report",
+        summary: "the report, as the library writes it",
+        details: "\
+The lines are made for programs: `parts`, `order`, `dom` and `part`. `nahokipe figures` says
+the same figures for people.
+
+    nahokipe report bridge.record
+",
+        ..ONE_RECORD
+    },
+    Command {
+        name: "figures",
+        words: "RECORD [--names FILE]",
+        summary: "all figures, with fractions and per cent",
+        details: "\
+Signature, tail, path counts, domination and the importance of each part, out of n! orders of
+failure, with a sentence for each that says what it is.
+
+    nahokipe figures bridge.record
+",
+        takes_names: true,
+        run: figures::figures,
+        ..ONE_RECORD
+    },
+    Command {
+        name: "shares",
+        words: "RECORD NUMBER...",
+        summary: "how often the failures inside a group stop the machine",
+        details: "\
+The group is given by the part numbers. Its shares are worked out set by set and through the
+polynomial in two variables, printed side by side and compared.
+
+    nahokipe shares bridge.record 1 2 3
+",
+        fewest: 2,
+        most: None,
+        run: shares::shares,
+        ..ONE_RECORD
+    },
+    Command {
+        name: "add-part",
+        words: "RECORD [-o NEW]",
+        summary: "add a part, with a number that was never issued",
+        details: "\
+The number is the mark and one, and becomes the mark. RECORD is replaced by the new record; with
+-o the new record is written to NEW, a new file, and RECORD stays as it is. Of two copies
+go on with one: both issue the same next number.
+
+    nahokipe add-part tab6.record
+",
+        takes_output: true,
+        run: changes::add_part,
+        ..ONE_RECORD
+    },
+    Command {
+        name: "add-set",
+        words: "RECORD NUMBER... [-o NEW]",
+        summary: "add a set of parts that suffices to run it",
+        details: "\
+The set is given by the part numbers. Sets that hold it go, since they say nothing any more.
+RECORD is replaced by the new record; with -o the new record is written to NEW, a new file.
+
+    nahokipe add-set tab6.record 3 16
+",
+        fewest: 2,
+        most: None,
+        takes_output: true,
+        run: changes::add_set,
+        ..ONE_RECORD
+    },
+    Command {
+        name: "take-out",
+        words: "RECORD NUMBER... [-o NEW]",
+        summary: "take parts out, with every set that names one",
+        details: "\
+The parts are given by their numbers; several leave together or not at all. Their numbers are
+never issued again. RECORD is replaced by the new record; with -o the new record is written
+to NEW, a new file.
+
+    nahokipe take-out tab6.record 7
+",
+        fewest: 2,
+        most: None,
+        takes_output: true,
+        run: changes::take_out,
+        ..ONE_RECORD
+    },
+    Command {
+        name: "diff",
+        words: "OLD NEW [--names FILE]",
+        summary: "parts, sets and figures that changed",
+        details: "\
+It also says where NEW cannot have come from OLD by changes, because it has a number again
+that was issued before. The status is 0 whether or not the records differ.
+
+    nahokipe diff old.record tab6.record
+",
+        fewest: 2,
+        most: Some(2),
+        inputs: 2,
+        takes_names: true,
+        run: diff::diff,
+        ..ONE_RECORD
+    },
+    Command {
+        name: "page",
+        words: "RECORD [--names FILE] [-o FILE]",
+        summary: "one HTML page: parts, sets, figures, charts",
+        details: "\
+The page needs nothing beside itself and opens in any browser. It goes to standard output, or
+with -o to a new file.
+
+    nahokipe page tab6.record --names names.txt -o tab6.html
+",
+        takes_names: true,
+        takes_output: true,
+        run: page::page,
+        ..ONE_RECORD
+    },
+    Command {
+        name: "explain",
+        words: "REFUSAL [PLACE]",
+        summary: "a refusal in words: meaning, usual cause, what to do",
+        details: "\
+REFUSAL and PLACE are the two numbers of a line `refused NUMBER PLACE`.
+
+    nahokipe explain 17 0
+",
+        most: Some(2),
+        inputs: 0,
+        run: explain::explain,
+        ..ONE_RECORD
+    },
+];
+
+impl Command {
+    /// The help of this command.
+    pub fn help(&self) -> String {
+        let Command {
+            name,
+            words,
+            summary,
+            details,
+            ..
+        } = self;
+        format!("usage: nahokipe {name} {words}\n\n{summary}\n\n{details}")
+    }
+}
+
+/// The help of the program.
+pub fn overview() -> String {
+    let line = |command: &Command| {
+        let usage = format!("{} {}", command.name, command.words);
+        format!("  {usage:<37}{}\n", command.summary)
+    };
+    let lines: String = COMMANDS.iter().map(line).collect();
+    format!(
+        "\
+Keeps the records of machines of up to 16 parts: the parts by number, the sets of parts that
+suffice to run the machine, and how likely the first, second or third failure is to stop it.
+
+usage: nahokipe COMMAND ...
+
+{lines}
+  COMMAND --help                       more about a command, with an example
+  --help, --version
+
+Parts are named by their numbers everywhere; positions stand in the drawing tool's text alone.
+`-` is standard input or output. --names FILE shows names beside the numbers: lines such as
+`12 oxygen sensor`. Exit status: 0 done, 1 refused, 2 wrong use or a file that cannot be read
+or written.
+"
+    )
+}
+
+/// The command of this name.
+pub fn named(name: &OsStr) -> Option<&'static Command> {
+    COMMANDS.iter().find(|command| name == command.name)
+}
+
+/// What is said of a command that there is not, with the nearest that there is.
+pub fn unknown(name: &str) -> String {
+    let distance = |command: &&Command| changes_between(name, command.name);
+    let nearest = COMMANDS.iter().min_by_key(distance);
+    let near = nearest.filter(|command| 2 * distance(command) <= command.name.len());
+    let hint = near.map_or(String::new(), |command| {
+        format!("; the nearest is `{}`", command.name)
+    });
+    format!("there is no command `{name}`{hint}\n`nahokipe --help` lists all commands")
+}
+
+/// How many letters have to be put in, taken out or changed to make one word of another.
+fn changes_between(from: &str, to: &str) -> usize {
+    let to: Vec<char> = to.chars().collect();
+    let mut row: Vec<usize> = (0..=to.len()).collect();
+    for (index, letter) in from.chars().enumerate() {
+        let mut before = row[0];
+        row[0] = index + 1;
+        for column in 0..to.len() {
+            let changed = before + usize::from(letter != to[column]);
+            before = row[column + 1];
+            row[column + 1] = changed.min(before + 1).min(row[column] + 1);
+        }
+    }
+    row[to.len()]
+}

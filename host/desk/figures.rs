@@ -1,0 +1,205 @@
+//! The command `figures`, and the figures of a machine as the library works them out.
+
+use crate::arguments::Arguments;
+use crate::columns::{columns, row};
+use crate::design::Design;
+use crate::ending::Ending;
+use crate::names::Names;
+use crate::numbers::{counted, listed};
+use crate::output::{self, Stream};
+use crate::share::Share;
+use nahokipe::Refusal;
+
+/// The figures of a machine, counts of failure orders out of `total`, which is n!.
+pub struct Worked {
+    pub total: u64,
+    /// In how many orders the 1st, 2nd, ... failure stops the machine.
+    pub signature: Vec<Share>,
+    /// In how many orders the machine still runs after 0, 1, 2, ... failures.
+    pub tail: Vec<Share>,
+    /// How many of the sets of 0, 1, 2, ... parts run the machine.
+    pub path_counts: Vec<Share>,
+    /// The numbers in front of x^0, x^1, x^2, ...
+    pub domination: Vec<i64>,
+    /// In how many orders the failure of a part stops the machine, in the order of the parts.
+    pub importance: Vec<Share>,
+}
+
+impl Worked {
+    /// The figures of a machine.
+    pub fn of(design: &Design) -> Result<Worked, Refusal> {
+        let n = design.size();
+        let table = nahokipe::table_of_record(&design.bytes)?;
+        let figures = nahokipe::figures(n, &table)?;
+        let total = orders(n);
+        let of_all = |count: &u64| Share {
+            count: *count,
+            total,
+        };
+        let of_signed = |count: &i64| of_all(&count.unsigned_abs());
+        let of_size = |(size, count): (usize, &i64)| Share {
+            count: count.unsigned_abs(),
+            total: total / (orders(size) * orders(n - size)),
+        };
+        Ok(Worked {
+            total,
+            signature: figures.signature.iter().map(of_signed).collect(),
+            tail: nahokipe::tail(n, &table)?.iter().map(of_signed).collect(),
+            path_counts: figures
+                .path_counts
+                .iter()
+                .enumerate()
+                .map(of_size)
+                .collect(),
+            domination: figures.domination,
+            importance: figures.importance.iter().map(of_all).collect(),
+        })
+    }
+}
+
+/// In how many orders so many parts can fail: n!, which 64 bits hold for 16 parts.
+pub fn orders(n: usize) -> u64 {
+    (1..=n as u64).product()
+}
+
+/// The command `figures`: all figures for people.
+pub fn figures(arguments: &Arguments) -> Result<(), Ending> {
+    let name = arguments.file(0);
+    let design = Design::read(&name)?;
+    let names = Names::read(arguments.names.as_ref(), &design.parts)?;
+    let worked = Worked::of(&design).map_err(|refusal| Ending::refused(refusal, &name))?;
+    let blocks = [
+        head(&design, &worked),
+        signature(&worked),
+        tail(&worked),
+        path_counts(&worked),
+        domination(&worked),
+        importance(&design, &worked, &names),
+    ];
+    output::print(&blocks.join("\n"), Stream::Output)
+}
+
+fn head(design: &Design, worked: &Worked) -> String {
+    let orders = all_orders(design.size(), worked.total);
+    format!("{}\n{orders}", design.in_short())
+}
+
+/// What all counts are out of.
+pub fn all_orders(n: usize, total: u64) -> String {
+    let orders = counted(total as usize, "order");
+    format!("{n}! = {orders} in which the parts can fail, all counted alike\n")
+}
+
+fn signature(worked: &Worked) -> String {
+    let mut rows = vec![row([&"failure", &"orders", &"fraction", &"per cent"])];
+    rows.extend((1..).zip(&worked.signature).map(share_row));
+    format!(
+        "Signature: in how many orders it is the 1st, 2nd, ... failure that stops the machine\n{}",
+        columns(&rows, false)
+    )
+}
+
+fn tail(worked: &Worked) -> String {
+    let mut rows = vec![row([&"failures", &"orders", &"fraction", &"per cent"])];
+    rows.extend((0..).zip(&worked.tail).map(share_row));
+    format!(
+        "Tail: in how many orders the machine still runs after so many failures\n{}",
+        columns(&rows, false)
+    )
+}
+
+/// A number with a share of all orders.
+fn share_row((number, share): (u64, &Share)) -> Vec<String> {
+    row([&number, &share.count, &share.fraction(), &share.per_cent()])
+}
+
+fn path_counts(worked: &Worked) -> String {
+    let mut rows = vec![row([&"parts", &"path sets", &"of", &"per cent"])];
+    let one = |(size, share): (usize, &Share)| {
+        row([&size, &share.count, &share.total, &share.per_cent()])
+    };
+    rows.extend(worked.path_counts.iter().enumerate().map(one));
+    format!(
+        "Path counts: how many of the sets of so many parts run the machine\n{}",
+        columns(&rows, false)
+    )
+}
+
+fn domination(worked: &Worked) -> String {
+    let mut rows = vec![row([&"power", &"coefficient"])];
+    let one = |(power, number): (usize, &i64)| row([&power, number]);
+    rows.extend(worked.domination.iter().enumerate().skip(1).map(one));
+    let polynomial = polynomial(&worked.domination, |power| format!("x^{power}"));
+    format!(
+        "\
+Domination: if each part works with the same probability x, the machine works with
+  {polynomial}
+{}",
+        columns(&rows, false)
+    )
+}
+
+/// A sum of powers of x, each power from the second on as it is to be written.
+pub fn polynomial(numbers: &[i64], power: impl Fn(usize) -> String) -> String {
+    let mut text = String::new();
+    for (exponent, &number) in numbers
+        .iter()
+        .enumerate()
+        .filter(|(_, &number)| number != 0)
+    {
+        let sign = match (text.is_empty(), number < 0) {
+            (true, false) => "",
+            (true, true) => "-",
+            (false, false) => " + ",
+            (false, true) => " - ",
+        };
+        let factor = match number.unsigned_abs() {
+            1 if exponent > 0 => String::new(),
+            factor => factor.to_string(),
+        };
+        let power = match exponent {
+            0 => String::new(),
+            1 => "x".to_string(),
+            _ => power(exponent),
+        };
+        text += &format!("{sign}{factor}{power}");
+    }
+    text
+}
+
+fn importance(design: &Design, worked: &Worked, names: &Names) -> String {
+    let heading = if names.is_empty() { "" } else { "name" };
+    let mut rows = vec![row([
+        &"part",
+        &"orders",
+        &"fraction",
+        &"per cent",
+        &heading,
+    ])];
+    for (&part, share) in design.parts.iter().zip(&worked.importance) {
+        let mut cells = share_row((part, share));
+        cells.push(names.name(part).to_string());
+        rows.push(cells);
+    }
+    format!(
+        "Importance: in how many orders it is this part's failure that stops the machine\n{}{}",
+        columns(&rows, true),
+        idle(design, worked)
+    )
+}
+
+/// The parts that the machine never misses, if there are any.
+fn idle(design: &Design, worked: &Worked) -> String {
+    let parts = design.parts.iter().zip(&worked.importance);
+    let idle = parts
+        .filter(|(_, share)| share.count == 0)
+        .map(|(&part, _)| part);
+    match &idle.collect::<Vec<u64>>()[..] {
+        [] => String::new(),
+        [part] => format!("The machine never misses part {part}: no set names it\n"),
+        parts => format!(
+            "The machine never misses the parts {}: no set names them\n",
+            listed(parts)
+        ),
+    }
+}

@@ -1,0 +1,22 @@
+//! The desk program, end to end on real files: each test has a folder of its own and runs the built program there.
+
+mod changing;
+mod comparing;
+mod counting;
+mod entering;
+mod explaining;
+mod folder;
+mod keeping;
+mod manual;
+mod markup;
+mod pages;
+mod refusing;
+mod script;
+#[path = "../../desk/share.rs"]
+mod share;
+mod showing;
+mod streams;
+mod users;
+mod words;
+#[path = "../../desk/writing.rs"]
+mod writing;

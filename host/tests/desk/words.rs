@@ -1,0 +1,174 @@
+//! Words of the command line: wrong use, help and version.
+
+use crate::folder::{assert_has, Folder, PUMPS};
+
+/// All commands.
+pub const COMMANDS: [&str; 13] = [
+    "enter", "new", "show", "drawing", "report", "figures", "shares", "add-part", "add-set",
+    "take-out", "diff", "page", "explain",
+];
+
+#[test]
+fn help_and_version() {
+    let folder = Folder::new();
+    let help = folder.run(&["--help"]).done();
+    assert_eq!(folder.run(&["-h"]).done(), help);
+    assert_eq!(folder.run(&["help"]).done(), help);
+    for command in COMMANDS {
+        assert_has(&help, &[&format!("\n  {command} ")]);
+        let own = folder.run(&[command, "--help"]).done();
+        assert!(
+            own.starts_with(&format!("usage: nahokipe {command} ")),
+            "{own}"
+        );
+        assert_has(&own, &[&format!("\n    nahokipe {command} ")]);
+        assert_eq!(folder.run(&[command, "a", "--help", "b"]).done(), own);
+        assert!(own.lines().all(|line| line.chars().count() <= 100), "{own}");
+    }
+    assert!(
+        help.lines().all(|line| line.chars().count() <= 100),
+        "{help}"
+    );
+    let version = format!("nahokipe {}\n", env!("CARGO_PKG_VERSION"));
+    assert_eq!(folder.run(&["--version"]).done(), version);
+}
+
+/// Each example of the help is a command line that is taken: it fails for want of its files alone.
+#[test]
+fn examples_of_the_help() {
+    let folder = Folder::new();
+    for command in COMMANDS {
+        let help = folder.run(&[command, "--help"]).done();
+        let example = help.lines().find(|line| line.starts_with("    nahokipe "));
+        let ran = folder.shell(example.expect("an example").trim());
+        match command {
+            "explain" => drop(ran.done()),
+            _ => assert_has(&ran.failed(), &[": No such file or directory\n"]),
+        }
+    }
+}
+
+#[test]
+fn no_command_and_unknown_commands() {
+    let folder = Folder::new();
+    let error = folder.run(&[]).failed();
+    assert_has(
+        &error,
+        &[
+            "no command is given",
+            "usage: nahokipe COMMAND",
+            "  take-out RECORD",
+        ],
+    );
+    let cases = [
+        ("takeout", "take-out"),
+        ("pge", "page"),
+        ("Enter", "enter"),
+        ("figure", "figures"),
+        ("add-prat", "add-part"),
+    ];
+    for (word, nearest) in cases {
+        let error = folder.run(&[word, "record"]).failed();
+        assert_has(
+            &error,
+            &[&format!(
+                "there is no command `{word}`; the nearest is `{nearest}`"
+            )],
+        );
+    }
+    let error = folder.run(&["\u{1b}[2J"]).failed();
+    assert!(!error.contains('\u{1b}'), "{error:?}");
+}
+
+/// Words that are wrong, and what is said of them.
+const WRONG_USES: [(&[&str], &str); 26] = [
+    (&["enter", "text"], "a word is missing"),
+    (
+        &["enter", "text", "record", "more"],
+        "`more` is a word too many",
+    ),
+    (&["new"], "a word is missing"),
+    (&["show"], "a word is missing"),
+    (&["show", "pumps", "pumps"], "`pumps` is a word too many"),
+    (
+        &["report", "pumps", "--names", "names"],
+        "there is no option `--names`",
+    ),
+    (
+        &["show", "pumps", "--names"],
+        "a file belongs behind `--names`",
+    ),
+    (
+        &["show", "pumps", "--names", "a", "--names", "b"],
+        "`--names` stands twice",
+    ),
+    (&["show", "pumps", "-o", "new"], "there is no option `-o`"),
+    (&["add-part", "pumps", "16"], "`16` is a word too many"),
+    (&["add-part", "pumps", "-o"], "a file belongs behind `-o`"),
+    (
+        &["add-part", "pumps", "-o", "a", "-o", "b"],
+        "`-o` stands twice",
+    ),
+    (&["add-set", "pumps"], "a word is missing"),
+    (&["take-out", "pumps"], "a word is missing"),
+    (
+        &["take-out", "pumps", "7", "12", "7"],
+        "number 7 stands twice",
+    ),
+    (&["take-out", "pumps", "seven"], "`seven` is no part number"),
+    (&["take-out", "pumps", "07"], "`07` is no part number"),
+    (&["take-out", "pumps", ""], "`` is no part number"),
+    (&["take-out", "pumps", "-7"], "there is no option `-7`"),
+    (&["take-out", "pumps", "--", "-7"], "`-7` is no part number"),
+    (&["shares", "pumps"], "a word is missing"),
+    (&["shares", "pumps", "3", "3"], "number 3 stands twice"),
+    (&["diff", "pumps"], "a word is missing"),
+    (&["diff", "-", "-"], "standard input cannot be read twice"),
+    (
+        &["show", "-", "--names", "-"],
+        "standard input cannot be read twice",
+    ),
+    (
+        &["page", "pumps", "--output", "x"],
+        "there is no option `--output`",
+    ),
+];
+
+#[test]
+fn wrong_use() {
+    let folder = Folder::with("pumps", PUMPS);
+    for (words, why) in WRONG_USES {
+        let error = folder.run(words).failed();
+        let command = words[0];
+        let usage = format!("usage: nahokipe {command} ");
+        let help = format!("`nahokipe {command} --help` tells more");
+        assert_has(
+            &error,
+            &[&format!("nahokipe: {command}: "), why, &usage, &help],
+        );
+    }
+    assert_eq!(
+        (folder.names(), folder.read("pumps")),
+        (vec!["pumps".to_string()], PUMPS.to_vec())
+    );
+}
+
+/// Behind `--` a word is no option, and a number that is longer than 64 bits may stand beside another such.
+#[test]
+fn words_behind_a_double_dash() {
+    let folder = Folder::with("-o", PUMPS);
+    assert_has(
+        &folder.run(&["show", "--", "-o"]).done(),
+        &["parts 3 7 12\n"],
+    );
+    let long = ["18446744073709551616", "18446744073709551617"];
+    folder
+        .run(&["take-out", "--", "-o", long[0], long[1]])
+        .refused(17, 0);
+    let error = folder
+        .run(&["take-out", "--", "-o", long[0], long[0]])
+        .failed();
+    assert_has(&error, &[&format!("number {} stands twice", long[0])]);
+    folder.run(&["take-out", "--", "-o", "7"]).done();
+    assert_has(&folder.run(&["show", "./-o"]).done(), &["parts 3 12\n"]);
+}

@@ -3,6 +3,7 @@
 
 use nahokipe::lent::{take_out, take_out_group};
 use nahokipe::{whole_record, Refusal};
+use nahokipe_testing::comparing::with_every_damage;
 use nahokipe_testing::comparing::{front, given, same_change, same_change_into};
 use nahokipe_testing::known::{REFUSED_RECORDS, TAKEN_OUT_GROUPS};
 use nahokipe_testing::making::sets_of_size;
@@ -12,7 +13,6 @@ use nahokipe_testing::naive_figures::{failure_orders, size};
 use nahokipe_testing::naive_records::{self as by_words, named, record_bytes, Change};
 use nahokipe_testing::naive_records::{Plain, TOP_NUMBER};
 use nahokipe_testing::seeded::Seeded;
-use std::collections::BTreeSet;
 
 const BRIDGE: [u8; 12] = [5, 5, 1, 2, 3, 4, 5, 4, 0x09, 0x0E, 0x12, 0x15];
 
@@ -323,19 +323,7 @@ fn compare_read(bytes: &[u8]) -> Option<u8> {
 /// Records cut off at every byte, and with every byte changed to each other value. All refusals of reading are seen.
 #[test]
 fn groups_of_damaged_records() {
-    let seven = [7, 0xAC, 2, 1, 2, 3, 4, 5, 6, 7, 1, 0x70];
-    let mut seen = BTreeSet::new();
-    for record in [BRIDGE, seven] {
-        for index in 0..record.len() {
-            assert_eq!(compare_read(&record[..index]), Some(21));
-            for byte in 0..=255 {
-                let mut changed = record;
-                changed[index] = byte;
-                seen.extend(compare_read(&changed));
-            }
-        }
-    }
-    assert_eq!(seen, BTreeSet::from([1, 2, 3, 4, 5, 21, 22, 23, 24, 25]));
+    with_every_damage(compare_read);
 }
 
 #[test]

@@ -3,6 +3,7 @@
 
 use nahokipe::lent;
 use nahokipe::{mask_of, numbers_of, position_of, take_out_part, whole_record, Refusal};
+use nahokipe_testing::comparing::with_every_damage;
 use nahokipe_testing::comparing::{buffers, front, make, same, same_change, same_change_into};
 use nahokipe_testing::known::{CHANGED_BY_NUMBER, REFUSED_RECORDS, WANTED_MASKS};
 use nahokipe_testing::making::{every_plain, largest_record, lists_of, random_plain};
@@ -441,19 +442,7 @@ fn compare_read(bytes: &[u8]) -> Option<u8> {
 /// Records cut off at every byte, and with every byte changed to each other value. All refusals of reading are seen.
 #[test]
 fn damaged_records() {
-    let seven = [7, 0xAC, 2, 1, 2, 3, 4, 5, 6, 7, 1, 0x70];
-    let mut seen = BTreeSet::new();
-    for record in [BRIDGE, seven] {
-        for index in 0..record.len() {
-            assert_eq!(compare_read(&record[..index]), Some(21));
-            for byte in 0..=255 {
-                let mut changed = record;
-                changed[index] = byte;
-                seen.extend(compare_read(&changed));
-            }
-        }
-    }
-    assert_eq!(seen, BTreeSet::from([1, 2, 3, 4, 5, 21, 22, 23, 24, 25]));
+    with_every_damage(compare_read);
 }
 
 #[test]

@@ -5,6 +5,7 @@ use crate::naive_records::{self as by_words, Change, Reading};
 use nahokipe::lent::{add_part, add_set, add_set_of_parts, RecordAnswer};
 use nahokipe::lent::{take_out, take_out_group, take_out_part, take_out_parts};
 use nahokipe::Refusal;
+use std::collections::BTreeSet;
 use std::fmt::Debug;
 
 /// What a call left: its answer, and the lent buffer afterwards.
@@ -130,4 +131,23 @@ pub fn handed_out(expected: &Result<Reading, Refusal>) -> RecordAnswer {
             length: 0,
         },
     }
+}
+
+/// Two records cut off at every byte, and with every byte changed to each other value. Each is compared, which gives the number that refuses
+/// it, if any; all refusals of reading are seen.
+pub fn with_every_damage(compared: impl Fn(&[u8]) -> Option<u8>) {
+    let bridge = [5, 5, 1, 2, 3, 4, 5, 4, 0x09, 0x0E, 0x12, 0x15];
+    let seven = [7, 0xAC, 2, 1, 2, 3, 4, 5, 6, 7, 1, 0x70];
+    let mut seen = BTreeSet::new();
+    for record in [bridge, seven] {
+        for index in 0..record.len() {
+            assert_eq!(compared(&record[..index]), Some(21));
+            for byte in 0..=255 {
+                let mut changed = record;
+                changed[index] = byte;
+                seen.extend(compared(&changed));
+            }
+        }
+    }
+    assert_eq!(seen, BTreeSet::from([1, 2, 3, 4, 5, 21, 22, 23, 24, 25]));
 }

@@ -2,10 +2,10 @@
 -- stay not empty when its positions are squeezed out.
 -- Assumes nothing.
 use mathlib.Core.Path.{_≡_, refl, sym, ap, ap₂, _∙_, subst}
-use mathlib.Core.Bool.{Bool, true, false, not, cond, _||_}
+use mathlib.Core.Bool.{Bool, true, false, not, cond}
 use mathlib.Core.Logic.{_⊎_, inl, inr}
 use Prim.Native.Nat.{ℕ, zero, suc, _+_, _*_, _/_, _%_, _^_, _≤_, _<_}
-use native.Mathlib.Nat.{pow-succ', div-div-eq-div-mul, lt-of-le-of-lt, le-of-suc-le-suc, not-suc-le-zero, zero-add}
+use native.Mathlib.Nat.{pow-succ', div-div-eq-div-mul, lt-of-le-of-lt, le-of-suc-le-suc, not-suc-le-zero}
 use native.Mathlib.Numerals.{add-one}
 use native.Mathlib.Omega.{arith}
 use borrow.Author.Tests.{eqb-true, eqb-false, eq-eqb, not-true}
@@ -13,22 +13,19 @@ use lib.Bits.{and-le-l}
 use lib.Dec.{eqb}
 use lib.Pow.{mod-pow-add}
 use Rattle.theory_sets.specs.Masks.{has, meet, holds}
-use Rattle.numbers.proofs.Bools.{clash, false-of, and-both, and-left, and-right, or-false, same-test}
-use Rattle.theory_sets.proofs.Masks.{has-suc, odd, even, has-odd, has-even, has-above, has-add, has-meet, holds-part, holds-of-parts, lacking}
+use Rattle.numbers.proofs.Bools.{clash, false-of, and-both, and-left, and-right, same-test}
+use Rattle.theory_sets.proofs.Masks.{has-suc, odd, even, has-odd, has-even, has-empty, has-single, has-meet, holds-part, holds-of-parts, lacking}
 use Rattle.numbers.proofs.Bounds.{below-or-above}
 use Rattle.masks.specs.Groups.{meets, squeezed}
 
 -- ---- the parts that they share
-
-no-part : (i : ℕ) → has 0 i ≡ false
-no-part i = has-above 0 0 i (omega arith) (omega arith)
 
 -- with a part that both have they share one
 pub meets-part : (group set i : ℕ) → has set i ≡ true → has group i ≡ true → meets group set ≡ true
 unfolding meets
 meets-part group set i s g =
     ap not (false-of (eqb (meet set group) 0) (λ e.
-    clash (has-meet set group i ∙ and-both s g) (ap (λ (x : ℕ). has x i) (eqb-true (meet set group) 0 e) ∙ no-part i)))
+    clash (has-meet set group i ∙ and-both s g) (ap (λ (x : ℕ). has x i) (eqb-true (meet set group) 0 e) ∙ has-empty i)))
 
 -- where they share none, a part of the set is not in the group
 pub apart-part : (group set : ℕ) → meets group set ≡ false → (i : ℕ) → has set i ≡ true → has group i ≡ false
@@ -39,7 +36,7 @@ pub shared-part : (n group set : ℕ) → set < 2 ^ n → meets group set ≡ tr
 unfolding meets
 shared-part n group set h some =
     let both = meet set group in
-    let found = lacking n both 0 (lt-of-le-of-lt (and-le-l set group) h) (holds-of-parts both 0 (λ i k. clash k (no-part i)))
+    let found = lacking n both 0 (lt-of-le-of-lt (and-le-l set group) h) (holds-of-parts both 0 (λ i k. clash k (has-empty i)))
     (eqb-false both 0 (not-true (eqb both 0) some)) in
     let i = found .0 in
     let parts = sym (has-meet set group i) ∙ found .2 in
@@ -63,17 +60,13 @@ apart-half group set none =
     clash (has-suc group i ∙ found .3) (apart-part group set none (suc i) (has-suc set i ∙ found .2)))
 
 -- the group of a single part shares it with the sets that have it
-single-part : (i j : ℕ) → has (2 ^ i) j ≡ eqb j i
-single-part i j =
-    ap (λ (x : ℕ). has x j) (sym (zero-add (2 ^ i))) ∙ has-add 0 i (no-part i) j ∙ ap (λ (p : Bool). eqb j i || p) (no-part j) ∙ or-false (eqb j i)
-
 pub meets-single : (i set : ℕ) → meets (2 ^ i) set ≡ has set i
 meets-single i set =
     same-test (meets (2 ^ i) set) (has set i)
     (λ h.
     let found = shared-part set (2 ^ i) set (below-power set) h in
-    subst (λ (j : ℕ). has set j ≡ true) (eqb-true (found .0) i (sym (single-part i (found .0)) ∙ found .3)) (found .2))
-    (λ h. meets-part (2 ^ i) set i h (single-part i i ∙ eq-eqb i i refl))
+    subst (λ (j : ℕ). has set j ≡ true) (eqb-true (found .0) i (sym (has-single i (found .0)) ∙ found .3)) (found .2))
+    (λ h. meets-part (2 ^ i) set i h (has-single i i ∙ eq-eqb i i refl))
 
 -- ---- squeezed, by the lowest position
 
@@ -116,7 +109,7 @@ unfolding squeezed
 squeezed-all zero set h = omega arith
 squeezed-all (suc n) set h =
     let rest : squeezed n 0 (set / 2) ≡ set / 2 = squeezed-all n (set / 2) (omega (arith, pow-succ' 2 n)) in
-    ap (λ (p : Bool). front p (set % 2) (squeezed n 0 (set / 2))) (no-part 0) ∙ omega arith
+    ap (λ (p : Bool). front p (set % 2) (squeezed n 0 (set / 2))) (has-empty 0) ∙ omega arith
 
 -- Without a single position the higher ones move down by one, and the lower ones stay.
 pub squeezed-single : (n i set : ℕ) → i < n → set < 2 ^ n → squeezed n (2 ^ i) set ≡ set / 2 ^ suc i * 2 ^ i + set % 2 ^ i
@@ -179,7 +172,7 @@ squeezed-some n group a ha small h = omega (arith, squeezed-none n group, squeez
 -- what one holds of another it held before
 pub squeezed-holds : (n group a b : ℕ) → meets group a ≡ false → meets group b ≡ false → b < 2 ^ n → holds (squeezed n group a) (squeezed n group b) ≡ true → holds a b ≡ true
 unfolding squeezed
-squeezed-holds zero group a b ha hb small h = let none : b ≡ 0 = omega arith in holds-of-parts a b (λ i k. clash k (ap (λ (x : ℕ). has x i) none ∙ no-part i))
+squeezed-holds zero group a b ha hb small h = let none : b ≡ 0 = omega arith in holds-of-parts a b (λ i k. clash k (ap (λ (x : ℕ). has x i) none ∙ has-empty i))
 squeezed-holds (suc n) group a b ha hb small h =
     cases (has group 0) refl
     (squeezed-holds n (group / 2) (a / 2) (b / 2) (apart-half group a ha) (apart-half group b hb) (omega (arith, pow-succ' 2 n))) h

@@ -37,6 +37,12 @@ or-false false = refl
 pub or-true : (p : Bool) → p || true ≡ true
 or-true p = or-right p refl
 
+pub or-swap : (p q : Bool) → p || q ≡ q || p
+or-swap true true = refl
+or-swap true false = refl
+or-swap false true = refl
+or-swap false false = refl
+
 pub and-swap : (p q : Bool) → p && q ≡ q && p
 and-swap true true = refl
 and-swap true false = refl

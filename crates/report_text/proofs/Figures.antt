@@ -2,25 +2,17 @@
 -- report of its design: the figures of the table are those of the listed sets, and these are counts of failure orders.
 -- Assumes nothing.
 use mathlib.Core.Path.{_≡_, sym, ap, ap₂, _∙_, fun-ext}
-use mathlib.Core.Bool.{Bool, true, false, cond, not, _&&_}
+use mathlib.Core.Bool.{Bool}
 use mathlib.Core.List.{List, _++_}
-use mathlib.Core.Logic.{_⊎_, inl, inr}
-use Prim.Native.Nat.{ℕ, suc, _+_, _-_, _*_, _^_, _≤_, _<_}
+use Prim.Native.Nat.{ℕ, suc, _+_, _-_, _^_, _≤_, _<_}
 use native.Mathlib.Omega.{arith}
-use lib.Dec.{eqb}
 use lib.IntN.{ℤ, pos}
 use lib.ListN.{length, getD, take, drop, replicate, List·getD-append}
 use lib.Seq.{getD-take, getD-drop}
-use Rattle.numbers.specs.Counts.{factorial}
 use Rattle.numbers.specs.Tables.{tabulate}
 use Rattle.numbers.proofs.Tables.{tabulate-length, tabulate-at}
-use Rattle.theory_sums.specs.Sums.{indicator}
-use Rattle.theory_sums.proofs.Sums.{sumBelow-same}
-use Rattle.theory_sets.specs.Masks.{has, size}
 use Rattle.theory_sets.specs.Structures.{Semicoherent, listed}
 use Rattle.theory_sets.specs.Tables.{inTable, tableOf}
-use Rattle.numbers.proofs.Bools.{true-or-false}
-use Rattle.theory_sets.proofs.Masks.{add-below}
 use Rattle.theory_sets.proofs.Structures.{semicoherent-same}
 use Rattle.theory_orders.specs.Counting.{count}
 use Rattle.theory_orders.specs.Formulas.{pathCount}
@@ -34,7 +26,8 @@ use Rattle.theory_figures.specs.Figures.{signature, domination, importance, sig
 use Rattle.figures.specs.All.{Buffers, buffersOf, allInFront, allFigures}
 use Rattle.figures.proofs.Rooms.{room-enough}
 use Rattle.theory_figures.proofs.Tails.{signature-is-count}
-use Rattle.theory_figures.proofs.Importances.{importance-is-count}
+use Rattle.theory_orders.proofs.Agreeing.{pathCount-same}
+use Rattle.theory_figures.proofs.Importances.{importance-is-count, importance-same}
 use Rattle.record.specs.Records.{Design}
 use Rattle.record.specs.RecordBytes.{DesignRules}
 use Rattle.record.proofs.MinimalSets.{design-table}
@@ -88,25 +81,6 @@ module _ (list : PartList) (sets : ℕ) (works : ℕ → Bool) (few : list .coun
       lines-same _ _ n (λ i low high. ap (λ (x : ℕ). figureLine "part" (getD (list .numbers) (i - 1) 0) (decimal x))
       (ap (λ (cells : List ℕ). getD cells (i - 1) 0) e3 ∙ front-cell n (λ j. importance n works (suc j)) r3 (i - 1) 0 (omega arith) ∙ ap (importance n works) (one-back i low))) in
       few-parts list sets orders (take 16 (drop 1 dominated)) parts few ∙ ap₂ (λ (x y : List ℕ). headLine n sets (list .mark) ++ (x ++ y)) one (ap₂ (λ (x y : List ℕ). x ++ y) two three)
-
--- ---- structures that agree on the sets of n parts have the same figures
-
-module _ (n : ℕ) (f g : ℕ → Bool) (same : (a : ℕ) → a < 2 ^ n → f a ≡ g a) where
-  pub pathCount-same : (j : ℕ) → pathCount n f j ≡ pathCount n g j
-  unfolding pathCount
-  pathCount-same j = sumBelow-same _ _ (2 ^ n) (λ a h. ap (λ (b : Bool). cond (b && eqb (size a) j) 1 0) (same a h))
-
-  pub importance-same : (i : ℕ) → 1 ≤ i → i ≤ n → importance n f i ≡ importance n g i
-  unfolding importance
-  importance-same i low high = sumBelow-same _ _ (2 ^ n) (λ a h. step a h (true-or-false (has a (i - 1))))
-    where
-      step : (a : ℕ) → a < 2 ^ n → (has a (i - 1) ≡ true) ⊎ (has a (i - 1) ≡ false)
-          → cond (not (has a (i - 1))) (factorial (size a) * factorial (n - size a - 1) * (indicator (f (a + 2 ^ (i - 1))) - indicator (f a))) 0
-          ≡ cond (not (has a (i - 1))) (factorial (size a) * factorial (n - size a - 1) * (indicator (g (a + 2 ^ (i - 1))) - indicator (g a))) 0
-      step a h (inl here) = rw here
-      step a h (inr lacks) =
-          ap₂ (λ (p q : Bool). cond (not (has a (i - 1))) (factorial (size a) * factorial (n - size a - 1) * (indicator p - indicator q)) 0)
-          (same (a + 2 ^ (i - 1)) (add-below n a (i - 1) h (omega arith) lacks)) (same a h)
 
 -- ---- the report of a design
 

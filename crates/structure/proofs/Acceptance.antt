@@ -179,7 +179,8 @@ list-accepted n list l =
 
 -- ---- lists, tables and minimal sets
 
-listed-coherent : (n : ℕ) (list : List ℕ) → AcceptedList n list → Semicoherent n (listed list)
+-- an accepted list gives a semicoherent structure
+pub listed-coherent : (n : ℕ) (list : List ℕ) → AcceptedList n list → Semicoherent n (listed list)
 listed-coherent n [] l = absurd (lt-irrefl 0 (l .any-set))
 listed-coherent n (x ∷ xs) l = listed-semicoherent n x xs (l .sets)
 
@@ -196,6 +197,22 @@ list-works n list a h = tableOf-works n (listed list) a h
 -- repeats, nesting and order in a list do not matter
 pub list-same : (n : ℕ) (xs ys : List ℕ) → Covers xs ys → Covers ys xs → tableOf n (listed xs) ≡ tableOf n (listed ys)
 list-same n xs ys there back = ap (tableOf n) (fun-ext (listed-same xs ys there back))
+
+-- an accepted table of bytes is the table of every structure that has its path sets
+pub table-back : (n : ℕ) (table : List ℕ) (works : ℕ → Bool) → ((b : ℕ) → getD table b 0 < 256) → tableRefusal n table ≡ Accepted
+    → ((a : ℕ) → a < 2 ^ n → works a ≡ inTable table a) → tableOf n works ≡ table
+unfolding tableOf
+table-back n table works bytes h same =
+    sym (tabulate-unique (tableLength n) (λ b. packed 8 (λ i. ltb (8 * b + i) (2 ^ n) && works (8 * b + i))) table 0 (t .long) (λ b l.
+    packed-unique 8 (λ i. ltb (8 * b + i) (2 ^ n) && works (8 * b + i)) (getD table b 0) (bytes b) (λ i k.
+    sym (inTable-at table b i k) ∙ bit (8 * b + i) (below-or-above (8 * b + i) (2 ^ n)))))
+  where
+    t : AcceptedTable n table
+    t = accepted-table n table h
+
+    bit : (a : ℕ) → (a < 2 ^ n) ⊎ (2 ^ n ≤ a) → inTable table a ≡ ltb a (2 ^ n) && works a
+    bit a (inl below) = sym (rw (lt-ltb a (2 ^ n) below) (same a below))
+    bit a (inr above) = table-beyond n table (t .long) (t .clear) a above ∙ sym (rw (le-ltb a (2 ^ n) above))
 
 -- the minimal sets of an accepted table are an accepted list
 pub minimal-accepted : (n : ℕ) (table : List ℕ) → tableRefusal n table ≡ Accepted → listRefusal n (minimalSets n (inTable table)) ≡ Accepted
@@ -224,21 +241,8 @@ minimal-accepted n table h =
 -- and they give back the same table
 pub minimal-table : (n : ℕ) (table : List ℕ) → ((b : ℕ) → getD table b 0 < 256) → tableRefusal n table ≡ Accepted
     → tableOf n (listed (minimalSets n (inTable table))) ≡ table
-unfolding tableOf
 minimal-table n table bytes h =
-    sym (tabulate-unique (tableLength n) (λ b. packed 8 (λ i. ltb (8 * b + i) (2 ^ n) && back (8 * b + i))) table 0 (t .long) (λ b l.
-    packed-unique 8 (λ i. ltb (8 * b + i) (2 ^ n) && back (8 * b + i)) (getD table b 0) (bytes b) (λ i k.
-    sym (inTable-at table b i k) ∙ bit (8 * b + i) (below-or-above (8 * b + i) (2 ^ n)))))
-  where
-    t : AcceptedTable n table
-    t = accepted-table n table h
-
-    back : ℕ → Bool
-    back = listed (minimalSets n (inTable table))
-
-    bit : (a : ℕ) → (a < 2 ^ n) ⊎ (2 ^ n ≤ a) → inTable table a ≡ ltb a (2 ^ n) && back a
-    bit a (inl below) = sym (rw (lt-ltb a (2 ^ n) below) (minimal-listed n (inTable table) (t .semicoherent) a below))
-    bit a (inr above) = table-beyond n table (t .long) (t .clear) a above ∙ sym (rw (le-ltb a (2 ^ n) above))
+    table-back n table (listed (minimalSets n (inTable table))) bytes h (minimal-listed n (inTable table) (accepted-table n table h .semicoherent))
 
 -- a rising list of sets none of which holds another is the minimal sets of its table
 pub list-minimal : (n : ℕ) (list : List ℕ) → listRefusal n list ≡ Accepted → Rising list

@@ -14,7 +14,7 @@ use borrow.Author.Tests.{lt-ltb, le-ltb}
 use Rattle.numbers.specs.Tables.{tabulate}
 use Rattle.numbers.proofs.Tables.{tabulate-unique, tabulate-length, tabulate-at}
 use Rattle.theory_sets.specs.Masks.{has, any, those, least}
-use Rattle.theory_sets.specs.Structures.{broken, listed, minimal, minimalSets}
+use Rattle.theory_sets.specs.Structures.{Semicoherent, broken, listed, minimal, minimalSets}
 use Rattle.theory_sets.specs.Tables.{packed, inTable, tableOf, tableLength}
 use Rattle.numbers.proofs.Bools.{true-or-false}
 use Rattle.theory_sets.proofs.Masks.{add-below}
@@ -112,16 +112,20 @@ irredundant-beyond : (n : ℕ) (works : ℕ → Bool) (a : ℕ) → works a ≡ 
 unfolding irredundant
 irredundant-beyond n works a h = rw h
 
-pub minimal-walk : (n : ℕ) (table : List ℕ) → AcceptedTable n table
-    → those (inWords (wordsOf (irredundant (min n 16) (inWords (wordsOf (inTable table)))))) 65536 ≡ minimalSets n (inTable table)
-minimal-walk n table t =
-    let works = inTable table in
-    let few = t .few in
+-- the minimal sets of a semicoherent structure that has no mask beyond those of n parts
+pub minimal-words : (n : ℕ) (works : ℕ → Bool) → n ≤ 16 → Semicoherent n works → ((a : ℕ) → 2 ^ n ≤ a → works a ≡ false)
+    → those (inWords (wordsOf (irredundant (min n 16) (inWords (wordsOf works))))) 65536 ≡ minimalSets n works
+minimal-words n works few coherent beyond =
     ap (λ (k : ℕ). those (inWords (wordsOf (irredundant k (inWords (wordsOf works))))) 65536) (min-eq-left few)
     ∙ those-same (inWords (wordsOf (irredundant n (inWords (wordsOf works))))) (irredundant n works) 65536 (λ a h.
     inWords-wordsOf (irredundant n (inWords (wordsOf works))) a h ∙ irredundant-same (inWords (wordsOf works)) works (inWords-wordsOf works) n a h)
-    ∙ those-near n (irredundant n works) few (λ a h. irredundant-beyond n works a (table-beyond n table (t .long) (t .clear) a h))
-    ∙ those-same (irredundant n works) (minimal n works) (2 ^ n) (irredundant-minimal n works (t .semicoherent))
+    ∙ those-near n (irredundant n works) few (λ a h. irredundant-beyond n works a (beyond a h))
+    ∙ those-same (irredundant n works) (minimal n works) (2 ^ n) (irredundant-minimal n works coherent)
+
+-- of a table
+pub minimal-walk : (n : ℕ) (table : List ℕ) → AcceptedTable n table
+    → those (inWords (wordsOf (irredundant (min n 16) (inWords (wordsOf (inTable table)))))) 65536 ≡ minimalSets n (inTable table)
+minimal-walk n table t = minimal-words n (inTable table) (t .few) (t .semicoherent) (table-beyond n table (t .long) (t .clear))
 
 -- ---- the words and the bytes of a structure
 

@@ -1,20 +1,24 @@
--- Walks over the parts and over the words: one part more carried, and the first set of a kind, looked for word by word.
+-- Walks over the parts and over the words: one part more carried, a broken set told part by part, and the first set of a kind, looked for word
+-- by word.
 -- Assumes nothing.
 use mathlib.Core.Path.{_≡_, sym, ap, ap₂, _∙_}
-use mathlib.Core.Bool.{Bool, false, _&&_, _||_}
+use mathlib.Core.Bool.{Bool, true, false, not, _&&_, _||_}
 use mathlib.Core.Logic.{_⊎_, inl, inr}
-use Prim.Native.Nat.{ℕ, suc, _+_, _-_, _*_, _^_, _≤_, _<_, zero-le}
-use native.Mathlib.Nat.{le-of-lt, le-refl, lt-of-lt-of-le, lt-of-le-of-lt, zero-lt-suc, add-sub-of-le, sub-le}
+use Prim.Native.Nat.{ℕ, suc, _+_, _-_, _*_, _^_, _≤_, _<_}
+use native.Mathlib.Nat.{le-of-lt, le-refl, lt-of-lt-of-le, lt-of-le-of-lt, add-sub-of-le, sub-le}
 use native.Mathlib.Numerals.{add-one}
 use native.Mathlib.Omega.{arith}
-use Rattle.theory_sets.specs.Masks.{has, least}
-use Rattle.theory_sets.proofs.Masks.{has-above}
+use Rattle.theory_sets.specs.Masks.{has, any, least}
+use Rattle.theory_sets.specs.Structures.{broken}
+use Rattle.theory_sets.proofs.Masks.{has-empty}
+use Rattle.numbers.proofs.Bools.{true-or-false}
 use Rattle.numbers.proofs.Bounds.{below-or-above}
-use Rattle.theory_sets.proofs.Ranges.{least-found}
+use Rattle.theory_sets.proofs.Ranges.{any-same, least-found}
 use Rattle.structure_words.specs.Words.{inWords, wordOf, wordsOf}
 use Rattle.structure_words.proofs.Words.{inWords-wordsOf, has-wordOf, wordsOf-same}
 use Rattle.structure_words.proofs.Runs.{Lowest}
 use Rattle.structure_closure.specs.Closure.{without, spread}
+use Rattle.structure_closure.specs.Inside.{with, failingAbove}
 
 -- ---- one part more carried
 
@@ -25,6 +29,24 @@ spread-more works n =
     ap₂ (λ (p q : Bool). p || (has a n && q)) (inWords-wordsOf (spread n works) a h)
     (inWords-wordsOf (spread n works) (a - 2 ^ n) (lt-of-le-of-lt (sub-le a (2 ^ n)) h)))
     ∙ ap (λ (m : ℕ). wordsOf (spread m works)) (sym (add-one n))
+
+-- ---- broken sets
+
+-- a path set that does not work with some single part is a broken one
+pub failing-broken : (n : ℕ) (works : ℕ → Bool) (a : ℕ) → works a && failingAbove n works a ≡ broken n works a
+unfolding broken
+failing-broken n works a = cases (true-or-false (works a))
+  where
+    lost : ℕ → Bool
+    lost i = not (has a i) && not (works (a + 2 ^ i))
+
+    one : (i : ℕ) → works a ≡ true → (has a i ≡ true) ⊎ (has a i ≡ false) → not (with i works a) ≡ lost i
+    one i runs (inl t) = rw (t, runs)
+    one i runs (inr f) = rw f
+
+    cases : (works a ≡ true) ⊎ (works a ≡ false) → works a && failingAbove n works a ≡ works a && any lost n
+    cases (inl runs) = ap (λ (t : Bool). works a && t) (any-same (λ i. not (with i works a)) lost n (λ i l. one i runs (true-or-false (has a i))))
+    cases (inr stopped) = rw stopped
 
 -- ---- looking for the first set of a kind, word by word
 
@@ -47,7 +69,7 @@ module _ (test : ℕ → Bool) (at w : ℕ) (is : w ≡ wordOf test at) (none : 
   -- an empty word: the next word is looked at
   pub none-more : w ≡ 0 → (a : ℕ) → a < 64 * (at + 1) → test a ≡ false
   none-more e a l =
-      so-far 64 (le-refl 64) (λ i h. ap (λ (x : ℕ). has x i) e ∙ has-above 0 0 i (zero-lt-suc 0) zero-le) a (omega arith)
+      so-far 64 (le-refl 64) (λ i h. ap (λ (x : ℕ). has x i) e ∙ has-empty i) a (omega arith)
 
   -- any other word: its lowest bit is the first set
   pub found-first : (i : ℕ) → at < 1024 → Lowest w i → 64 * at + i ≡ least test 65536

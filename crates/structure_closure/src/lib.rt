@@ -1,11 +1,10 @@
 // What follows upwards from a set function, and what of it is minimal, a word of 64 sets at a time: the sets that hold a given one, the
 // path sets that are none without any single part, and the first set that breaks the rule.
 ghost use mathlib.Core.Path.{_≡_};
-ghost use mathlib.Core.Bool.{not, _||_};
+ghost use mathlib.Core.Bool.{_||_};
 ghost use Prim.Native.Nat.{_<_, min};
-ghost use Rattle.theory_sets.specs.Masks.{has, least};
+ghost use Rattle.theory_sets.specs.Masks.{least};
 ghost use Rattle.theory_sets.specs.Structures.{broken};
-ghost use Rattle.theory_sets.specs.Tables.{packed};
 ghost use Rattle.structure_words.specs.Words.{inWords, wordOf, wordsOf};
 ghost use Rattle.structure_closure.specs.Closure.{without as withoutPart, spare as spareSet, spread as spreadSet, irredundant as irredundantSet};
 ghost use Rattle.structure_closure.specs.Inside.{with as withPart, failingAbove as failingAboveSet};
@@ -46,28 +45,14 @@ pub fn first_broken(words: &[u64], parts: usize) -> usize
     65536
 }
 
-// The bits of a word whose index lacks the part, for the six parts that an index within a word has.
-fn lacking(part: usize) -> u64
-    requires { ⌜ part < 6 ⌝ }
-    ensures { λ r. ⌜ r ≡ packed 64 (λ k. not (has k part)) ⌝ }
-{
-    match part {
-        0 => 0x5555_5555_5555_5555,
-        1 => 0x3333_3333_3333_3333,
-        2 => 0x0F0F_0F0F_0F0F_0F0F,
-        3 => 0x00FF_00FF_00FF_00FF,
-        4 => 0x0000_FFFF_0000_FFFF,
-        _ => 0x0000_0000_FFFF_FFFF,
-    }
-}
-
 // Word `at` of the sets that have the part and work without it.
 fn without(words: &[u64], at: usize, part: usize) -> u64
     requires { ⌜ part < 16 ⌝ }
     ensures { λ r. ⌜ r ≡ wordOf (withoutPart part (inWords (now (words .entry)))) at ⌝ }
 {
     if part < 6 {
-        return (numbers::cell(words, at) & lacking(part)) << numbers::power_of_two(part);
+        return (numbers::cell(words, at) & structure_words::lacking(part))
+            << numbers::power_of_two(part);
     }
     let high = part - 6;
     if (at >> high) % 2 == 1 {
@@ -77,21 +62,17 @@ fn without(words: &[u64], at: usize, part: usize) -> u64
     }
 }
 
-// Word `at` of the sets that have the part or work with it.
+// Word `at` of the sets that work with the part, which they may have already: no branch asks whether they have it.
 fn with(words: &[u64], at: usize, part: usize) -> u64
-    requires { ⌜ at < 1024 ⌝ }
     requires { ⌜ part < 16 ⌝ }
     ensures { λ r. ⌜ r ≡ wordOf (withPart part (inWords (now (words .entry)))) at ⌝ }
 {
     if part < 6 {
-        return (numbers::cell(words, at) >> numbers::power_of_two(part)) | !lacking(part);
+        let word = numbers::cell(words, at);
+        let lower = structure_words::lacking(part);
+        return ((word >> numbers::power_of_two(part)) & lower) | (word & !lower);
     }
-    let high = part - 6;
-    if (at >> high) % 2 == 1 {
-        0xFFFF_FFFF_FFFF_FFFF
-    } else {
-        numbers::cell(words, at + numbers::power_of_two(high))
-    }
+    numbers::cell(words, at | numbers::power_of_two(part - 6))
 }
 
 // Word `at` of the sets that work, or have the part and work without it.
@@ -129,9 +110,8 @@ fn spare(words: &[u64], at: usize, parts: usize) -> u64
     some
 }
 
-// Word `at` of the sets that some single one of the first parts leads to a set that does not work.
+// Word `at` of the sets that do not work with some single one of the first parts.
 fn failing_above(words: &[u64], at: usize, parts: usize) -> u64
-    requires { ⌜ at < 1024 ⌝ }
     ensures { λ r. ⌜ r ≡ wordOf (failingAboveSet (min parts 16) (inWords (now (words .entry)))) at ⌝ }
 {
     let mut some: u64 = 0;

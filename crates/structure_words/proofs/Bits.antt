@@ -1,34 +1,39 @@
--- What the machine's shifts and its complement do to a word's bits.
+-- What the machine's shifts do to a word's bits.
 -- Assumes nothing.
-use mathlib.Core.Path.{_≡_, sym, ap, _∙_}
-use mathlib.Core.Bool.{true, false, not}
-use mathlib.Core.Logic.{_⊎_, inl, inr}
-use Prim.Native.Nat.{ℕ, zero, suc, _+_, _-_, _*_, _/_, _^_, _<_, zero-le}
-use native.Mathlib.Nat.{zero-lt-suc, not-suc-le-zero, le-of-suc-le-suc, pow-succ', mul-mod-left}
-use native.Mathlib.Omega.{arith}
-use lib.Pow.{shl-shr}
-use Rattle.theory_sets.specs.Masks.{has}
-use Rattle.numbers.proofs.Bools.{true-or-false}
-use Rattle.theory_sets.proofs.Masks.{odd, even, has-odd, has-even, has-suc, has-shift, has-low, has-above}
+use mathlib.Core.Path.{_≡_, sym, ap, ap₂, _∙_}
+use mathlib.Core.Bool.{Bool, false, not, _&&_}
+use Prim.Native.Nat.{ℕ, _+_, _-_, _*_, _/_, _^_, _≤_, _<_}
+use native.Mathlib.Nat.{add-sub-of-le, lt-of-le-of-lt, mul-mod-left, sub-le}
+use lib.Pow.{pow-add, shl-shr}
+use Rattle.theory_sets.specs.Masks.{has, meet}
+use Rattle.theory_sets.proofs.Masks.{has-empty, has-meet, has-shift, has-low}
+use Rattle.theory_sets.proofs.Tables.{has-packed}
+use Rattle.structure_words.specs.Words.{lacks}
 
 -- a shift to the left by s clears the s lowest bits
 pub has-shl-below : (a s i : ℕ) → i < s → has (a * 2 ^ s) i ≡ false
 has-shl-below a s i h =
-    sym (has-low (a * 2 ^ s) s i h) ∙ ap (λ (x : ℕ). has x i) (mul-mod-left a (2 ^ s)) ∙ has-above 0 0 i (zero-lt-suc 0) zero-le
+    sym (has-low (a * 2 ^ s) s i h) ∙ ap (λ (x : ℕ). has x i) (mul-mod-left a (2 ^ s)) ∙ has-empty i
 
 -- and moves bit i to bit s + i
 pub has-shl : (a s i : ℕ) → has (a * 2 ^ s) (s + i) ≡ has a i
 has-shl a s i = sym (has-shift (a * 2 ^ s) s i) ∙ ap (λ (x : ℕ). has x i) (shl-shr a s)
 
--- the complement in k bits turns every one of them over
-pub has-complement : (k w : ℕ) → w < 2 ^ k → (i : ℕ) → i < k → has (2 ^ k - 1 - w) i ≡ not (has w i)
-has-complement zero w h i l = absurd (not-suc-le-zero l)
-has-complement (suc k) w h zero l = cases (true-or-false (has w 0))
-  where
-    cases : (has w 0 ≡ true) ⊎ (has w 0 ≡ false) → has (2 ^ suc k - 1 - w) 0 ≡ not (has w 0)
-    cases (inl t) = rw t (has-even (2 ^ suc k - 1 - w) (omega (arith, pow-succ' 2 k, odd w t)))
-    cases (inr f) = rw f (has-odd (2 ^ suc k - 1 - w) (omega (arith, pow-succ' 2 k, even w f)))
-has-complement (suc k) w h (suc i) l =
-    let half : (2 ^ suc k - 1 - w) / 2 ≡ 2 ^ k - 1 - w / 2 = omega (arith, pow-succ' 2 k) in
-    has-suc (2 ^ suc k - 1 - w) i ∙ ap (λ (x : ℕ). has x i) half
-    ∙ has-complement k (w / 2) (omega (arith, pow-succ' 2 k)) i (le-of-suc-le-suc l) ∙ ap not (sym (has-suc w i))
+-- ---- the bits whose index lacks a part, moved to the index that has it, and the other way round
+
+module _ (word part k : ℕ) (h : k < 64) where
+  pub has-moved-down : has (meet (word / 2 ^ (2 ^ part)) (lacks part)) k ≡ has word (2 ^ part + k) && not (has k part)
+  has-moved-down =
+      has-meet (word / 2 ^ (2 ^ part)) (lacks part) k
+      ∙ ap₂ (λ (p q : Bool). p && q) (has-shift word (2 ^ part) k) (has-packed 64 (λ k. not (has k part)) k h)
+
+  pub has-moved-up : 2 ^ part ≤ k → has (meet word (lacks part) * 2 ^ (2 ^ part)) k ≡ has word (k - 2 ^ part) && not (has (k - 2 ^ part) part)
+  has-moved-up large =
+      let t : ℕ = k - 2 ^ part in
+      ap (has (meet word (lacks part) * 2 ^ (2 ^ part))) (sym (add-sub-of-le large)) ∙ has-shl (meet word (lacks part)) (2 ^ part) t
+      ∙ has-meet word (lacks part) t
+      ∙ ap (λ (q : Bool). has word t && q) (has-packed 64 (λ k. not (has k part)) t (lt-of-le-of-lt (sub-le k (2 ^ part)) h))
+
+-- a part from the seventh on makes a step of whole words
+pub whole-words : (part step : ℕ) → 6 ≤ part → step ≡ 2 ^ (part - 6) → 2 ^ part ≡ 64 * step
+whole-words part step h e = ap (λ (x : ℕ). 2 ^ x) (sym (add-sub-of-le h)) ∙ pow-add 2 6 (part - 6) ∙ ap (λ (x : ℕ). 64 * x) (sym e)

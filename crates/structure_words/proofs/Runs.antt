@@ -16,7 +16,7 @@ use Rattle.answer.proofs.Outcomes.{InFront, in-front-none, in-front-one}
 use Rattle.theory_sets.specs.Masks.{has, those, least}
 use Rattle.theory_sets.specs.Tables.{packed, inTable}
 use Rattle.numbers.proofs.Bools.{true-or-false, clash}
-use Rattle.theory_sets.proofs.Masks.{odd, even, has-suc, has-low, has-above, has-block, has-shift, quotient-odd, quotient-even}
+use Rattle.theory_sets.proofs.Masks.{odd, even, has-suc, has-low, has-above, has-empty, has-block, has-shift, quotient-odd, quotient-even}
 use Rattle.numbers.proofs.Bounds.{below-or-above}
 use Rattle.theory_sets.proofs.Ranges.{least-none, least-found, those-skip, those-take, those-fewer}
 use Rattle.theory_sets.proofs.Tables.{packed-unique, packed-same, inTable-at}
@@ -79,7 +79,7 @@ lowest-least w h = cases (ℕ-discrete w 0)
     cases : Dec (w ≡ 0) → trailingZeros 64 w ≡ least (has w) 64
     cases (yes e) =
         ap (trailingZeros 64) e
-        ∙ sym (least-none (has w) 64 (λ i l. ap (λ (x : ℕ). has x i) e ∙ has-above 0 0 i (zero-lt-suc 0) zero-le))
+        ∙ sym (least-none (has w) 64 (λ i l. ap (λ (x : ℕ). has x i) e ∙ has-empty i))
     cases (no some) =
         let low = lowest-bit w h some in
         sym (least-found (has w) 64 (trailingZeros 64 w) (low .within) (low .stands) (low .clear))
@@ -220,7 +220,7 @@ module _ (words buffer : List ℕ) where
       let split : mask + k ≡ i = add-sub-of-le l in
       ap (inWords words) (sym split)
       ∙ later at mask rest (w .low) (w .bits) k (omega (arith, split, whole))
-      ∙ ap (λ (x : ℕ). has x k) empty ∙ has-above 0 0 k (zero-lt-suc 0) zero-le) in
+      ∙ ap (λ (x : ℕ). has x k) empty ∙ has-empty k) in
       record {
         inside = omega arith;
         low = le-refl (64 * (at + 1));

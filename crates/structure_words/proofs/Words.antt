@@ -3,9 +3,9 @@
 use mathlib.Core.Path.{_≡_, sym, ap, ap₂, _∙_, subst}
 use mathlib.Core.Bool.{Bool, false, not, _&&_, _||_}
 use mathlib.Core.List.{List}
-use Prim.Native.Nat.{ℕ, _+_, _-_, _*_, _/_, _%_, _^_, _<_, zero-le}
+use Prim.Native.Nat.{ℕ, _+_, _-_, _*_, _/_, _%_, _^_, _<_}
 use native.Mathlib.Decide.{ℕ-discrete}
-use native.Mathlib.Nat.{mod-lt, div-add-mod, zero-lt-suc, zero-add}
+use native.Mathlib.Nat.{mod-lt, div-add-mod, zero-lt-suc}
 use native.Mathlib.Numerals.{add-one}
 use native.Mathlib.Omega.{arith}
 use lib.Bits.{or-lt, and-lt}
@@ -17,10 +17,9 @@ use borrow.Author.Tests.{eqb-true, eq-eqb, ne-eqb}
 use Rattle.numbers.proofs.Tables.{tabulate-at, tabulate-length, tabulate-unique}
 use Rattle.theory_sets.specs.Masks.{has, meet, any}
 use Rattle.numbers.proofs.Bools.{same-test, or-false}
-use Rattle.theory_sets.proofs.Masks.{join, has-above, has-add, has-meet, has-join}
+use Rattle.theory_sets.proofs.Masks.{join, has-empty, has-single, has-meet, has-join, has-complement}
 use Rattle.theory_sets.proofs.Tables.{has-packed, packed-below, packed-unique}
 use Rattle.structure_words.specs.Words.{inWords, wordOf, wordsOf}
-use Rattle.structure_words.proofs.Bits.{has-complement}
 
 -- ---- a mask's word and bit
 
@@ -96,14 +95,9 @@ pub wordsOf-none : (f : ℕ → Bool) → ((a : ℕ) → f a ≡ false) → repl
 wordsOf-none f none =
     tabulate-unique 1024 (wordOf f) (replicate 1024 0) 0 (length-replicate {A = ℕ} 1024 0) (λ j h.
     getD-replicate 1024 j 0 0 h
-    ∙ wordOf-unique f j 0 (pow-pos 64) (λ k l. has-above 0 0 k (zero-lt-suc 0) zero-le ∙ sym (none (64 * j + k))))
+    ∙ wordOf-unique f j 0 (pow-pos 64) (λ k l. has-empty k ∙ sym (none (64 * j + k))))
 
 -- ---- one set more
-
-pow-bits : (r k : ℕ) → has (2 ^ r) k ≡ eqb k r
-pow-bits r k =
-    let none : (i : ℕ) → has 0 i ≡ false = λ i. has-above 0 0 i (zero-lt-suc 0) zero-le in
-    ap (λ (x : ℕ). has x k) (sym (zero-add (2 ^ r))) ∙ has-add 0 r (none r) k ∙ rw (none k) (or-false (eqb k r))
 
 same-eqb : (a b c d : ℕ) → (a ≡ b → c ≡ d) → (c ≡ d → a ≡ b) → eqb a b ≡ eqb c d
 same-eqb a b c d there back = same-test (eqb a b) (eqb c d) (λ h. eq-eqb c d (there (eqb-true a b h))) (λ h. eq-eqb a b (back (eqb-true c d h)))
@@ -120,7 +114,7 @@ module _ (f : ℕ → Bool) (m : ℕ) (h : m < 65536) where
       (or-lt 64 (wordOf f (m / 64)) (2 ^ (m % 64)) (wordOf-below f (m / 64)) (pow-lt (mod-lt m (zero-lt-suc 63)))) (λ k l.
       has-join (wordOf f (m / 64)) (2 ^ (m % 64)) k
       ∙ ap₂ (λ (p q : Bool). p || q) (has-wordOf f (m / 64) k l)
-      (pow-bits (m % 64) k ∙ same-eqb k (m % 64) m (64 * (m / 64) + k) (λ e. omega arith) (λ e. omega arith)))
+      (has-single (m % 64) k ∙ same-eqb k (m % 64) m (64 * (m / 64) + k) (λ e. omega arith) (λ e. omega arith)))
 
   miss : (j : ℕ) → (j ≡ m / 64 → ⊥) → wordOf f j ≡ wordOf more j
   unfolding more
@@ -155,7 +149,7 @@ module _ (f : ℕ → Bool) (m : ℕ) (h : m < 65536) where
 module _ (family : ℕ → ℕ → Bool) (at : ℕ) where
   pub any-word-none : 0 ≡ wordOf (λ a. any (λ i. family i a) 0) at
   unfolding any
-  any-word-none = wordOf-unique (λ a. any (λ i. family i a) 0) at 0 (pow-pos 64) (λ k h. has-above 0 0 k (zero-lt-suc 0) zero-le)
+  any-word-none = wordOf-unique (λ a. any (λ i. family i a) 0) at 0 (pow-pos 64) (λ k h. has-empty k)
 
   pub any-word-more : (n some next : ℕ) → some ≡ wordOf (λ a. any (λ i. family i a) n) at → next ≡ wordOf (family n) at
       → join some next ≡ wordOf (λ a. any (λ i. family i a) (n + 1)) at

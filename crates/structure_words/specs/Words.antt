@@ -1,5 +1,5 @@
 -- A set function of 16 parts in 1,024 words of 64 bits: mask a stands at word a/64 rounded down, bit a mod 64.
-use mathlib.Core.Bool.{Bool}
+use mathlib.Core.Bool.{Bool, not}
 use mathlib.Core.List.{List}
 use Prim.Native.Nat.{ℕ, _+_, _*_, _/_, _%_}
 use lib.Dec.{eqb}
@@ -18,6 +18,10 @@ wordOf works at = packed 64 (λ k. works (64 * at + k))
 
 abbrev pub wordsOf : (ℕ → Bool) → List ℕ
 wordsOf works = tabulate 1024 (wordOf works)
+
+-- the bits of a word whose index lacks the part: an index within a word has six parts
+abbrev pub lacks : ℕ → ℕ
+lacks part = packed 64 (λ k. not (has k part))
 
 -- the first bytes of words, in each the bits of eight masks
 abbrev pub bytesIn : ℕ → List ℕ → List ℕ

@@ -8,7 +8,7 @@ ghost use lib.ListN.{length, getD};
 ghost use Rattle.answer.specs.Outcome.{outcome, delivered};
 ghost use Rattle.theory_sets.specs.Masks.{has, those, least};
 ghost use Rattle.theory_sets.specs.Tables.{packed, inTable};
-ghost use Rattle.structure_words.specs.Words.{inWords, wordOf, wordsOf, bytesIn, among};
+ghost use Rattle.structure_words.specs.Words.{inWords, wordOf, wordsOf, lacks, bytesIn, among};
 
 // The set function of a table.
 pub fn load(table: &[u8]) -> [u64; 1024]
@@ -122,6 +122,21 @@ pub fn lowest(word: u64) -> usize
     ensures { λ r. ⌜ r ≡ least (has word) 64 ⌝ }
 {
     wide(u64::trailing_zeros(word))
+}
+
+// The bits of a word whose index lacks the part: an index within a word has six parts, so it lacks every further one.
+pub fn lacking(part: usize) -> u64
+    ensures { λ r. ⌜ r ≡ lacks part ⌝ }
+{
+    match part {
+        0 => 0x5555_5555_5555_5555,
+        1 => 0x3333_3333_3333_3333,
+        2 => 0x0F0F_0F0F_0F0F_0F0F,
+        3 => 0x00FF_00FF_00FF_00FF,
+        4 => 0x0000_FFFF_0000_FFFF,
+        5 => 0x0000_0000_FFFF_FFFF,
+        _ => 0xFFFF_FFFF_FFFF_FFFF,
+    }
 }
 
 fn wide(count: u32) -> usize

@@ -1,10 +1,10 @@
 -- Laws of the importances: each is the count of failure orders for that part alone, together they total n!, and each comes from the path counts
 -- of the sets with the part and of those without it. Assumes nothing.
 use mathlib.Core.Path.{_≡_, refl, sym, ap, ap₂, _∙_}
-use mathlib.Core.Bool.{Bool, true, false, cond, not, _&&_, _||_, and-true, and-false}
+use mathlib.Core.Bool.{Bool, true, false, cond, not, _&&_, and-true, and-false}
 use mathlib.Core.Logic.{_⊎_, inl, inr}
-use Prim.Native.Nat.{ℕ, zero, suc, zero-le, _+_, _-_, _*_, _^_, _≤_, _<_}
-use native.Mathlib.Nat.{zero-add, add-zero, zero-mul, zero-lt-suc, le-of-eq}
+use Prim.Native.Nat.{ℕ, zero, suc, _+_, _-_, _*_, _^_, _≤_, _<_}
+use native.Mathlib.Nat.{zero-add, add-zero, zero-mul, le-of-eq}
 use native.Mathlib.Numerals.{sub-one}
 use native.Mathlib.Omega.{arith}
 use lib.Count.{ones, onesIn, ones-ones}
@@ -16,10 +16,11 @@ use Rattle.theory_sums.specs.Sums.{indicator, sumBelow, sumSets}
 use Rattle.theory_sums.proofs.Sums.{sumBelow-same, sumBelow-zero, sumBelow-add, sumBelow-exchange}
 use Rattle.theory_sets.specs.Masks.{has, size, meet}
 use Rattle.theory_sets.specs.Structures.{Semicoherent}
-use Rattle.numbers.proofs.Bools.{and-left, and-right, clash, false-of, true-or-false, or-false}
-use Rattle.theory_sets.proofs.Masks.{has-add, has-above, has-full}
+use Rattle.numbers.proofs.Bools.{and-left, and-right, clash, false-of, true-or-false}
+use Rattle.theory_sets.proofs.Masks.{has-empty, has-single, has-full}
 use Rattle.theory_orders.specs.Counting.{count}
 use Rattle.theory_orders.specs.Formulas.{pathCount, added, taken, byParts}
+use Rattle.theory_orders.proofs.Agreeing.{difference-same}
 use Rattle.theory_orders.proofs.Counting.{count-is-byParts, count-and-taken}
 use Rattle.theory_orders.proofs.Sizes.{size-add, size-meet, size-lacking}
 use Rattle.theory_orders.proofs.Totals.{counts-total}
@@ -27,13 +28,6 @@ use Rattle.theory_figures.specs.Figures.{importance}
 use Rattle.theory_figures.proofs.Sizes.{sumBelow-only, sum-by-size, size-none, size-meet-all}
 
 -- ---- the group of one part
-
-has-empty : (i : ℕ) → has 0 i ≡ false
-has-empty i = has-above 0 0 i (zero-lt-suc 0) zero-le
-
-has-single : (j i : ℕ) → has (2 ^ j) i ≡ eqb i j
-has-single j i =
-    ap (λ (x : ℕ). has x i) (sym (zero-add (2 ^ j))) ∙ has-add 0 j (has-empty j) i ∙ ap (λ (b : Bool). eqb i j || b) (has-empty i) ∙ or-false (eqb i j)
 
 pub size-single : (j : ℕ) → size (2 ^ j) ≡ 1
 unfolding ones onesIn
@@ -207,3 +201,17 @@ module _ (n : ℕ) (works : ℕ → Bool) (j : ℕ) (l : j < n) where
       (importance-is-count n works coherent (suc j) (omega arith) l ∙ ap (λ (x : ℕ). count n works (2 ^ x) 1) (sub-one (suc j)))
       (sym taken-by-size)
       ∙ count-and-taken n works coherent (2 ^ j) (pow-lt l) 1 (le-of-eq (sym (size-single j))) ∙ added-by-size
+
+-- ---- structures that agree on the sets of n parts have the same importances
+
+pub importance-same : (n : ℕ) (f g : ℕ → Bool) → ((a : ℕ) → a < 2 ^ n → f a ≡ g a) → (i : ℕ) → 1 ≤ i → i ≤ n → importance n f i ≡ importance n g i
+unfolding importance
+importance-same n f g same i low high = sumBelow-same _ _ (2 ^ n) (λ a h. step a h (true-or-false (has a (i - 1))))
+  where
+    step : (a : ℕ) → a < 2 ^ n → (has a (i - 1) ≡ true) ⊎ (has a (i - 1) ≡ false)
+        → cond (not (has a (i - 1))) (factorial (size a) * factorial (n - size a - 1) * (indicator (f (a + 2 ^ (i - 1))) - indicator (f a))) 0
+        ≡ cond (not (has a (i - 1))) (factorial (size a) * factorial (n - size a - 1) * (indicator (g (a + 2 ^ (i - 1))) - indicator (g a))) 0
+    step a h (inl here) = rw here
+    step a h (inr lacks) =
+        ap (λ (d : ℕ). cond (not (has a (i - 1))) (factorial (size a) * factorial (n - size a - 1) * d) 0)
+        (difference-same n f g same a (i - 1) h (omega arith) lacks)

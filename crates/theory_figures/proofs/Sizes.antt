@@ -1,22 +1,25 @@
--- Sums over sets by their size: what goes by the size alone is summed over the path counts. Assumes nothing.
+-- Sums over sets by their size: what goes by the size alone is summed over the path counts; and how many sets of a size there are.
+-- Assumes nothing.
 use mathlib.Core.Path.{_≡_, refl, sym, ap, ap₂, _∙_}
 use mathlib.Core.Bool.{Bool, true, false, cond, not, _&&_, and-true}
 use mathlib.Core.Logic.{_⊎_, inl, inr}
-use Prim.Native.Nat.{ℕ, zero, suc, zero-le, suc-le-suc, _+_, _-_, _*_, _^_, _≤_, _<_}
-use native.Mathlib.Nat.{not-suc-le-zero, le-of-suc-le-suc, eq-or-lt-of-le, le-step, lt-suc-self, le-trans, le-of-eq, zero-add, add-zero, mul-comm, zero-mul, zero-lt-suc, sub-add-cancel}
+use Prim.Native.Nat.{ℕ, zero, suc, suc-le-suc, _+_, _-_, _*_, _^_, _≤_, _<_}
+use native.Mathlib.Nat.{not-suc-le-zero, le-of-suc-le-suc, eq-or-lt-of-le, le-step, lt-suc-self, le-refl, le-trans, le-of-eq, zero-add, add-zero, mul-comm, zero-mul, sub-add-cancel, add-comm}
 use native.Mathlib.Omega.{arith}
-use lib.Count.{ones, ones-le}
-use lib.Dec.{eqb}
+use lib.Count.{ones, onesIn, ones-le}
+use lib.Dec.{eqb, eqb·zero-suc, eqb·suc-zero, eqb·suc-suc}
 use lib.IntN.{ℤ, pos, _*ℤ_, *ℤ-comm, *ℤ-zero}
 use borrow.Author.Tests.{eq-eqb, ne-eqb}
+use Rattle.numbers.specs.Counts.{choose}
+use Rattle.numbers.proofs.Counts.{choose-none}
 use Rattle.theory_sums.specs.Sums.{indicator, sumBelow, sumSets, sumBelowℤ}
-use Rattle.theory_sums.proofs.Sums.{sumBelow-same, sumBelow-le, sumBelow-zero, sumBelow-ones, sumBelow-mul, sumBelow-exchange}
+use Rattle.theory_sums.proofs.Sums.{sumBelow-same, sumBelow-le, sumBelow-zero, sumBelow-ones, sumBelow-mul, sumBelow-exchange, sumBelow-masks}
 use Rattle.theory_sums.proofs.IntegerSums.{sumBelowℤ-same, sumBelowℤ-mul, sumBelowℤ-exchange}
 use Rattle.theory_sets.specs.Masks.{has, size, meet}
 use Rattle.numbers.proofs.Bools.{false-of}
-use Rattle.theory_sets.proofs.Masks.{has-full, has-le, has-sub, has-above, same-bits}
+use Rattle.theory_sets.proofs.Masks.{has-full, has-le, has-sub, has-empty, same-bits}
 use Rattle.theory_orders.specs.Formulas.{pathCount}
-use Rattle.theory_orders.proofs.Sizes.{size-add, size-bits, size-meet}
+use Rattle.theory_orders.proofs.Sizes.{size-add, size-bits, size-meet, size-last}
 use Rattle.theory_sums.proofs.IntegerSums.{sumBelowℤ-only, sumBelow-pos}
 
 -- ---- a sum of which a single term is left
@@ -37,7 +40,7 @@ sumBelow-only f x (suc k) h none = cases (eq-or-lt-of-le (le-of-suc-le-suc h)) (
 
 -- only the empty set has no part
 pub size-none : (a : ℕ) → size a ≡ 0 → a ≡ 0
-size-none a h = same-bits a 0 (λ i. lacks i ∙ sym (has-above 0 0 i (zero-lt-suc 0) zero-le))
+size-none a h = same-bits a 0 (λ i. lacks i ∙ sym (has-empty i))
   where
     lacks : (i : ℕ) → has a i ≡ false
     lacks i =
@@ -107,3 +110,32 @@ module _ (n : ℕ) (test : ℕ → Bool) where
       one-most : (t : Bool) → cond t 1 0 ≤ 1
       one-most true = omega arith
       one-most false = omega arith
+
+-- ---- all sets
+
+-- there are C(n,j) sets of size j
+pub sets-of-size : (n j : ℕ) → pathCount n (λ a. true) j ≡ choose n j
+unfolding pathCount sumBelow choose ones onesIn
+sets-of-size zero zero = omega arith
+sets-of-size zero (suc j) = rw (eqb·zero-suc j) (omega arith)
+sets-of-size (suc n) zero =
+    sumBelow-masks (λ a. cond (eqb (size a) 0) 1 0) n
+    ∙ ap₂ (λ (u v : ℕ). u + v) (sets-of-size n zero)
+    (sumBelow-same _ (λ a. 0) (2 ^ n) (λ a h. rw (size-last n a h, eqb·suc-zero (size a))) ∙ sumBelow-zero (2 ^ n))
+    ∙ ap (λ (u : ℕ). u + 0) (choose-none n)
+sets-of-size (suc n) (suc j) =
+    sumBelow-masks (λ a. cond (eqb (size a) (suc j)) 1 0) n
+    ∙ ap₂ (λ (u v : ℕ). u + v) (sets-of-size n (suc j))
+    (sumBelow-same _ (λ a. cond (eqb (size a) j) 1 0) (2 ^ n) (λ a h. rw (size-last n a h, eqb·suc-suc (size a) j)) ∙ sets-of-size n j)
+    ∙ add-comm (choose n (suc j)) (choose n j)
+
+-- and no more path sets of that size
+pub pathCount-most : (n : ℕ) (works : ℕ → Bool) (j : ℕ) → pathCount n works j ≤ choose n j
+unfolding pathCount
+pathCount-most n works j =
+    le-trans (sumBelow-le _ (λ a. cond (eqb (size a) j) 1 0) (2 ^ n) (λ a h. one-most (works a) (eqb (size a) j))) (le-of-eq (sets-of-size n j))
+  where
+    one-most : (p q : Bool) → cond (p && q) 1 0 ≤ cond q 1 0
+    one-most true q = le-refl _
+    one-most false true = omega arith
+    one-most false false = omega arith

@@ -12,7 +12,7 @@ use lib.IntN.{ℤ, pos, _+ℤ_, _-ℤ_, pos-+ℤ-pos, +ℤ-negℤ-cancel}
 use lib.Pow.{ones-lt}
 use borrow.Author.Tests.{eqb-true}
 use Rattle.numbers.specs.Counts.{factorial, choose}
-use Rattle.numbers.proofs.Counts.{factorial-pos, factor-same, factor-le, factorial-suc, choose-factorials, choose-mirror, choose-next}
+use Rattle.numbers.proofs.Counts.{factorial-pos, factor-same, factor-le, factorial-suc, choose-factorials, choose-next}
 use Rattle.theory_sums.specs.Sums.{sumBelow, sumSets, sumBelowℤ}
 use Rattle.theory_sums.proofs.Sums.{sumBelow-same, sumBelow-zero, sumBelow-mul}
 use Rattle.theory_sums.proofs.IntegerSums.{sumBelowℤ-same}
@@ -151,28 +151,6 @@ module _ (n : ℕ) (works : ℕ → Bool) (coherent : Semicoherent n works) wher
   pathCount-full =
       factor-same (pathCount n works n) 1 (factorial n) (factorial-pos n)
       (sym (ap (λ (x : ℕ). pathCount n works x * factorial x * 1) (sub-zero n) ∙ omega arith) ∙ tail-first ∙ omega arith)
-
-  -- no entry of the tail is over n!, so there are no more path sets of a size than sets
-  pub pathCount-most : (j : ℕ) → j ≤ n → pathCount n works j ≤ choose n j
-  pathCount-most j h =
-      factor-le (pathCount n works j) (choose n j) (factorial n) (factorial-pos n)
-      (le-trans (le-of-eq (mul-comm (pathCount n works j) (factorial n) ∙ sym whole))
-      (le-trans (mul-le-mul-right (choose n (n - j)) fewer)
-      (le-of-eq (mul-comm (factorial n) (choose n (n - j)) ∙ ap (λ (u : ℕ). u * factorial n) (choose-mirror n (n - j) j (sub-add-cancel h))))))
-    where
-      whole : tail n (pathCount n works) (n - j) * choose n (n - j) ≡ factorial n * pathCount n works j
-      whole =
-          tail-proportion n (pathCount n works) (n - j) (omega arith)
-          ∙ (let back : n - (n - j) ≡ j = omega arith in ap (λ (x : ℕ). factorial n * pathCount n works x) back)
-
-      fewer : tail n (pathCount n works) (n - j) ≤ factorial n
-      fewer =
-          omega (
-            arith,
-            tail-first,
-            telescope (λ k. count n works (2 ^ n - 1) (suc k)) (tail n (pathCount n works)) (n - j)
-                (λ k l. tail-step k (omega arith)),
-          )
 
   -- the proportion φ(j)/C(n,j) never falls
   pub proportions-rise : (j : ℕ) → j < n → pathCount n works j * choose n (j + 1) ≤ pathCount n works (j + 1) * choose n j

@@ -1,28 +1,27 @@
 -- The counting theorem: the count is 001's eq. 2 times n!, and with 001's second sum of eq. 1 it is the first. Assumes nothing.
 use mathlib.Core.Path.{_≡_, refl, sym, ap, ap₂, _∙_}
-use mathlib.Core.Bool.{Bool, true, false, cond, not, _&&_, _||_, and-false, true≢false, false≢true}
+use mathlib.Core.Bool.{Bool, true, false, cond, not, _&&_, and-false, true≢false, false≢true}
 use mathlib.Core.List.{_∷_}
 use mathlib.Core.Logic.{_⊎_, inl, inr}
 use Prim.Native.Nat.{ℕ, suc, _+_, _-_, _*_, _^_, _≤_, _<_}
-use native.Mathlib.Nat.{zero-add, zero-mul, one-mul, mul-assoc, add-comm, le-of-eq}
+use native.Mathlib.Nat.{zero-mul, one-mul, mul-assoc, add-comm, le-of-eq}
 use native.Mathlib.Omega.{arith}
-use native.Mathlib.Numerals.{sub-one, one-add}
+use native.Mathlib.Numerals.{sub-one}
 use lib.Dec.{eqb}
-use borrow.Author.Tests.{eqb-true, eq-eqb, lt-ltb}
+use borrow.Author.Tests.{eqb-true, eq-eqb}
 use Rattle.numbers.specs.Counts.{factorial}
 use Rattle.theory_sums.specs.Sums.{indicator, sum, howMany, sumBelow}
-use Rattle.theory_sums.proofs.Sums.{sum-same, some-is-howMany, sumBelow-same, sumBelow-add, sumBelow-mul, sumBelow-once, sumBelow-weights}
+use Rattle.theory_sums.proofs.Sums.{sum-same, some-is-howMany, sumBelow-same, sumBelow-add, sumBelow-mul, sumBelow-weights}
 use Rattle.theory_sets.specs.Masks.{has, size, inside}
 use Rattle.theory_sets.specs.Structures.{Semicoherent}
 use Rattle.numbers.proofs.Bools.{true-or-false, same-test}
-use Rattle.theory_sets.proofs.Masks.{has-add}
 use Rattle.theory_sets.proofs.Structures.{upward-by-parts}
 use Rattle.theory_orders.specs.Orders.{orders, mask}
 use Rattle.theory_orders.specs.Counting.{Entry, entries, stops, inGroup, stopsAsKth, count}
 use Rattle.theory_orders.specs.Formulas.{added, taken, byParts}
-use Rattle.theory_orders.proofs.Orders.{orders-only, eqb-comm}
+use Rattle.theory_orders.proofs.Orders.{orders-only}
 use Rattle.theory_orders.proofs.Stopping.{one-stop}
-use Rattle.theory_orders.proofs.Sizes.{missing, missing-inside, size-meet, size-add, part-more}
+use Rattle.theory_orders.proofs.Sizes.{missing, missing-inside, missing-add, size-meet, size-add, part-more}
 use Rattle.theory_orders.proofs.Divisions.{AtPlace, met, leavingAfter, sum-entries}
 
 -- ---- eq. 2
@@ -107,20 +106,6 @@ stop-is-difference x true false true false true h = omega arith
 stop-is-difference x true false true false false h = omega arith
 
 module _ (n : ℕ) (works : ℕ → Bool) (coherent : Semicoherent n works) (group : ℕ) (within : group < 2 ^ n) (k : ℕ) where
-  -- a part of the group that a set lacks is not lacked by the set with it
-  missing-add : (i a : ℕ) → i < n → has a i ≡ false → has group i ≡ true → missing n group a ≡ suc (missing n group (a + 2 ^ i))
-  missing-add i a l lacks belongs =
-      sumBelow-same (λ j. indicator (has group j && not (has a j))) (λ j. indicator (eqb i j) + indicator (has group j && not (has (a + 2 ^ i) j))) n
-      (λ j m. rw (has-add a i lacks j, eqb-comm j i) (cases j (eqb i j) refl))
-      ∙ sumBelow-add (λ j. indicator (eqb i j)) (λ j. indicator (has group j && not (has (a + 2 ^ i) j))) n
-      ∙ ap (λ (u : ℕ). u + missing n group (a + 2 ^ i)) (sumBelow-once i n ∙ ap indicator (lt-ltb i n l))
-      ∙ one-add (missing n group (a + 2 ^ i))
-    where
-      cases : (j : ℕ) (b : Bool) → eqb i j ≡ b
-          → indicator (has group j && not (has a j)) ≡ indicator b + indicator (has group j && not (b || has a j))
-      cases j true e = rw (← (eqb-true i j e), lacks, belongs)
-      cases j false e = sym (zero-add _)
-
   -- the two sums of eq. 1 before they are put in order: over the parts of the group and the sets without them that leave k of the group,
   -- |A|! × (n-|A|-1)! for each path set A, and for each path set that A is with the part
   ways : ℕ → ℕ
@@ -172,7 +157,7 @@ module _ (n : ℕ) (works : ℕ → Bool) (coherent : Semicoherent n works) (gro
         cases (inl g) (inr b) =
             let less : suc (size a) - 1 ≡ size a = omega arith in
             let rest : n - suc (size a) ≡ n - size a - 1 = omega arith in
-            rw (g, b, missing-add i a l b g, size-add a i b, less, rest) (sym (one-mul _))
+            rw (g, b, missing-add n group i a l b g, size-add a i b, less, rest) (sym (one-mul _))
 
     with-is-added : sumBelow (λ i. sumBelow (with-part i) (2 ^ n)) n ≡ added n works group k
     unfolding added reached

@@ -8,3 +8,4 @@ pub mod Sperner
 pub mod Pairs
 pub mod Totals
 pub mod Examples
+pub mod Agreeing

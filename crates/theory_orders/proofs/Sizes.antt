@@ -1,20 +1,22 @@
 -- Sizes of sets, by their bits: one part more, a lacking part, the parts of a group inside and outside a set, and the sets without a part
 -- against those with it. Assumes nothing.
 use mathlib.Core.Path.{_≡_, refl, sym, ap, ap₂, _∙_, subst}
-use mathlib.Core.Bool.{Bool, true, false, not, _&&_, and-true, and-false}
+use mathlib.Core.Bool.{Bool, true, false, not, _&&_, _||_, and-true, and-false}
 use mathlib.Core.Logic.{_⊎_, inl, inr}
 use Prim.Native.Nat.{ℕ, zero, suc, _+_, _*_, _/_, _%_, _^_, _<_}
-use native.Mathlib.Nat.{add-zero, zero-mul, add-comm, add-right-comm, not-suc-le-zero, le-of-suc-le-suc, le-refl, lt-irrefl, lt-of-le-of-lt, mod-lt, zero-lt-suc, pow-succ', two-pow-succ, eq-or-lt-of-le}
+use native.Mathlib.Nat.{zero-add, add-zero, zero-mul, add-comm, add-right-comm, not-suc-le-zero, le-of-suc-le-suc, le-refl, lt-irrefl, lt-of-le-of-lt, mod-lt, zero-lt-suc, pow-succ', two-pow-succ, eq-or-lt-of-le}
+use native.Mathlib.Numerals.{one-add}
 use native.Mathlib.Omega.{arith}
 use lib.Arith.{lt-one}
 use lib.Bits.{and-le-l}
 use lib.Count.{ones, onesIn, ones-step, ones-le}
 use lib.Dec.{eqb}
-use borrow.Author.Tests.{eq-eqb, ne-eqb}
+use borrow.Author.Tests.{eqb-true, eq-eqb, ne-eqb, lt-ltb}
 use Rattle.theory_sums.specs.Sums.{indicator, sumBelow}
-use Rattle.theory_sums.proofs.Sums.{sumBelow-same, sumBelow-add, sumBelow-ones, sumBelow-masks, sumBelow-first}
+use Rattle.theory_sums.proofs.Sums.{sumBelow-same, sumBelow-add, sumBelow-ones, sumBelow-once, sumBelow-masks, sumBelow-first}
 use Rattle.theory_sets.specs.Masks.{has, size, meet, inside}
 use Rattle.theory_sets.proofs.Masks.{has-zero, has-suc, has-add, has-above, has-meet, add-below}
+use Rattle.theory_orders.proofs.Orders.{eqb-comm}
 
 low-bit : (a : ℕ) → indicator (has a 0) ≡ a % 2
 low-bit a = ap indicator (has-zero a) ∙ cases (a % 2) (mod-lt a (zero-lt-suc 1))
@@ -89,6 +91,20 @@ missing-inside n group a hg ha =
     missing-or-inside true false = refl
     missing-or-inside false true = refl
     missing-or-inside false false = refl
+
+-- a part of the group that a set lacks is not lacked by the set with it
+pub missing-add : (n group i a : ℕ) → i < n → has a i ≡ false → has group i ≡ true → missing n group a ≡ suc (missing n group (a + 2 ^ i))
+missing-add n group i a l lacks belongs =
+    sumBelow-same (λ j. indicator (has group j && not (has a j))) (λ j. indicator (eqb i j) + indicator (has group j && not (has (a + 2 ^ i) j))) n
+    (λ j m. rw (has-add a i lacks j, eqb-comm j i) (cases j (eqb i j) refl))
+    ∙ sumBelow-add (λ j. indicator (eqb i j)) (λ j. indicator (has group j && not (has (a + 2 ^ i) j))) n
+    ∙ ap (λ (u : ℕ). u + missing n group (a + 2 ^ i)) (sumBelow-once i n ∙ ap indicator (lt-ltb i n l))
+    ∙ one-add (missing n group (a + 2 ^ i))
+  where
+    cases : (j : ℕ) (b : Bool) → eqb i j ≡ b
+        → indicator (has group j && not (has a j)) ≡ indicator b + indicator (has group j && not (b || has a j))
+    cases j true e = rw (← (eqb-true i j e), lacks, belongs)
+    cases j false e = sym (zero-add _)
 
 -- ---- the last part
 

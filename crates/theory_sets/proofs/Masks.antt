@@ -1,10 +1,10 @@
 -- Laws of masks: what bits a sum, a difference and an intersection have, that the bits decide the mask, and that `holds` is inclusion.
 -- Bits are read lowest first: bit 0 is the number's remainder by 2, and bit i + 1 is bit i of its half. Assumes nothing.
 use mathlib.Core.Path.{_≡_, refl, sym, ap, _∙_, subst}
-use mathlib.Core.Bool.{true, false, not, _&&_, _||_}
+use mathlib.Core.Bool.{Bool, true, false, not, _&&_, _||_}
 use mathlib.Core.Logic.{_⊎_, inl, inr}
 use Prim.Native.Nat.{ℕ, zero, suc, _+_, _-_, _*_, _/_, _%_, _^_, _≤_, _<_, min, max, zero-le}
-use native.Mathlib.Nat.{div-one, div-div-eq-div-mul, pow-succ', div-eq-of-lt, mod-lt, zero-lt-suc, zero-min, zero-max, add-div-right, le-of-suc-le-suc, not-suc-le-zero, le-antisymm, lt-of-lt-of-le, pow-suc, add-zero}
+use native.Mathlib.Nat.{div-one, div-div-eq-div-mul, pow-succ', div-eq-of-lt, mod-lt, zero-lt-suc, zero-min, zero-max, add-div-right, le-of-suc-le-suc, not-suc-le-zero, le-antisymm, lt-of-lt-of-le, pow-suc, add-zero, zero-add}
 use native.Mathlib.Numerals.{add-one}
 use native.Mathlib.Omega.{arith}
 use lib.Arith.{bin-ind}
@@ -13,7 +13,7 @@ use lib.Dec.{eqb, eqb·suc-suc, eqb·zero-suc, eqb·suc-zero}
 use lib.Pow.{pow-mono, pow-pos, shr-shr, high, field, mod-mod-pow}
 use borrow.Author.Tests.{eqb-true, eqb-false, eq-eqb, ne-eqb, not-true, not-false}
 use Rattle.theory_sets.specs.Masks.{has, holds, meet, any}
-use Rattle.numbers.proofs.Bools.{and-left, and-right, and-both, or-cases, or-right, true-or-false, same-test, clash}
+use Rattle.numbers.proofs.Bools.{and-left, and-right, and-both, or-cases, or-right, or-false, or-swap, true-or-false, same-test, clash}
 use Rattle.numbers.proofs.Bounds.{below-or-above}
 use Rattle.theory_sets.proofs.Ranges.{any-elim, any-none}
 
@@ -198,6 +198,19 @@ full-holds n a h = holds-of-parts (2 ^ n - 1) a (λ i k. cases i k (below-or-abo
     cases i k (inl below) = has-full n i below
     cases i k (inr above) = clash k (has-above a n i h above)
 
+-- what is left of the full set without a set: the complement in k bits, which turns every one of them over
+pub has-complement : (k w : ℕ) → w < 2 ^ k → (i : ℕ) → i < k → has (2 ^ k - 1 - w) i ≡ not (has w i)
+has-complement zero w h i l = absurd (not-suc-le-zero l)
+has-complement (suc k) w h zero l = cases (true-or-false (has w 0))
+  where
+    cases : (has w 0 ≡ true) ⊎ (has w 0 ≡ false) → has (2 ^ suc k - 1 - w) 0 ≡ not (has w 0)
+    cases (inl t) = rw t (has-even (2 ^ suc k - 1 - w) (omega (arith, pow-succ' 2 k, odd w t)))
+    cases (inr f) = rw f (has-odd (2 ^ suc k - 1 - w) (omega (arith, pow-succ' 2 k, even w f)))
+has-complement (suc k) w h (suc i) l =
+    let half : (2 ^ suc k - 1 - w) / 2 ≡ 2 ^ k - 1 - w / 2 = omega (arith, pow-succ' 2 k) in
+    has-suc (2 ^ suc k - 1 - w) i ∙ ap (λ (x : ℕ). has x i) half
+    ∙ has-complement k (w / 2) (omega (arith, pow-succ' 2 k)) i (le-of-suc-le-suc l) ∙ ap not (sym (has-suc w i))
+
 pub has-shift : (a k i : ℕ) → has (a / 2 ^ k) i ≡ has a (k + i)
 unfolding has
 has-shift a k i = ap (λ (x : ℕ). eqb (x % 2) 1) (shr-shr a k i)
@@ -243,6 +256,28 @@ has-low a (suc k) (suc i) h =
     has-suc (a % 2 ^ suc k) i
     ∙ ap (λ (x : ℕ). has x i) (ap (λ (m : ℕ). a % 2 ^ m / 2) (sym (add-one k)) ∙ field a k 1)
     ∙ has-low (a / 2 ^ 1) k i (le-of-suc-le-suc h) ∙ sym (has-suc a i)
+
+-- the empty set has no part, and the set of a single part that one alone
+pub has-empty : (i : ℕ) → has 0 i ≡ false
+has-empty i = has-above 0 0 i (zero-lt-suc 0) zero-le
+
+pub has-single : (i j : ℕ) → has (2 ^ i) j ≡ eqb j i
+has-single i j =
+    ap (λ (x : ℕ). has x j) (sym (zero-add (2 ^ i))) ∙ has-add 0 i (has-empty i) j
+    ∙ ap (λ (b : Bool). eqb j i || b) (has-empty j) ∙ or-false (eqb j i)
+
+-- joined with a part that it has, a set stays as it is, and with one that it lacks it has that part more
+pub join-held : (a i : ℕ) → has a i ≡ true → join a (2 ^ i) ≡ a
+join-held a i t = same-bits (join a (2 ^ i)) a (λ j. has-join a (2 ^ i) j ∙ ap (λ (b : Bool). has a j || b) (has-single i j) ∙ cases j (true-or-false (eqb j i)))
+  where
+    cases : (j : ℕ) → (eqb j i ≡ true) ⊎ (eqb j i ≡ false) → has a j || eqb j i ≡ has a j
+    cases j (inl e) = let own : has a j ≡ true = ap (has a) (eqb-true j i e) ∙ t in rw (own)
+    cases j (inr f) = rw f (or-false (has a j))
+
+pub join-more : (a i : ℕ) → has a i ≡ false → join a (2 ^ i) ≡ a + 2 ^ i
+join-more a i f =
+    same-bits (join a (2 ^ i)) (a + 2 ^ i) (λ j.
+    has-join a (2 ^ i) j ∙ ap (λ (b : Bool). has a j || b) (has-single i j) ∙ or-swap (has a j) (eqb j i) ∙ sym (has-add a i f j))
 
 -- ---- a set between two others
 

@@ -4,17 +4,17 @@ use mathlib.Core.Path.{_≡_, refl, sym, ap, _∙_}
 use mathlib.Core.Bool.{Bool, true, false, cond, _&&_}
 use mathlib.Core.List.{List}
 use mathlib.Core.Logic.{_⊎_, inl, inr}
-use Prim.Native.Nat.{ℕ, zero, suc, _+_, _*_, _/_, _%_, _^_, _≤_, _<_, zero-le, _-_}
+use Prim.Native.Nat.{ℕ, zero, suc, _+_, _*_, _/_, _%_, _^_, _≤_, _<_, _-_}
 use native.Mathlib.Nat.{not-suc-le-zero, le-of-suc-le-suc, zero-lt-suc, pow-succ', mod-lt, div-add-mod, add-sub-of-le, le-of-eq, lt-of-lt-of-le}
 use native.Mathlib.Omega.{arith}
 use lib.Dec.{eqb, ltb}
 use lib.ListN.{length, getD, List·getD-eq-default}
 use lib.Pow.{pow-mono, pow-add, pow-pos}
-use borrow.Author.Tests.{lt-ltb}
-use Rattle.numbers.proofs.Tables.{tabulate-length, tabulate-at}
+use borrow.Author.Tests.{lt-ltb, le-ltb}
+use Rattle.numbers.proofs.Tables.{tabulate-length, tabulate-at, tabulate-same}
 use Rattle.theory_sets.specs.Masks.{has}
 use Rattle.theory_sets.specs.Tables.{packed, inTable, tableLength, tableOf}
-use Rattle.theory_sets.proofs.Masks.{has-zero, has-suc, has-above, same-bits}
+use Rattle.theory_sets.proofs.Masks.{has-zero, has-suc, has-above, has-empty, same-bits}
 use Rattle.numbers.proofs.Bounds.{below-or-above}
 
 -- ---- packed bits
@@ -71,7 +71,7 @@ inTable-at table b k h =
 pub inTable-beyond : (table : List ℕ) (a : ℕ) → length table ≤ a / 8 → inTable table a ≡ false
 unfolding inTable
 inTable-beyond table a h =
-    ap (λ (byte : ℕ). has byte (a % 8)) (List·getD-eq-default table 0 h) ∙ has-above 0 0 (a % 8) (zero-lt-suc 0) zero-le
+    ap (λ (byte : ℕ). has byte (a % 8)) (List·getD-eq-default table 0 h) ∙ has-empty (a % 8)
 
 pub tableOf-length : (n : ℕ) (works : ℕ → Bool) → length (tableOf n works) ≡ tableLength n
 unfolding tableOf
@@ -111,3 +111,13 @@ tableLength-holds n = cases (below-or-above n 3)
 pub tableOf-works : (n : ℕ) (works : ℕ → Bool) (a : ℕ) → a < 2 ^ n → inTable (tableOf n works) a ≡ works a
 tableOf-works n works a h =
     tableOf-at n works a (lt-of-lt-of-le h (tableLength-holds n)) ∙ ap (λ (t : Bool). t && works a) (lt-ltb a (2 ^ n) h)
+
+-- structures that agree on the sets of n parts have the same table
+pub tableOf-same : (n : ℕ) (f g : ℕ → Bool) → ((a : ℕ) → a < 2 ^ n → f a ≡ g a) → tableOf n f ≡ tableOf n g
+unfolding tableOf
+tableOf-same n f g same =
+    tabulate-same (tableLength n) _ _ (λ b l. packed-same 8 _ _ (λ i k. cases (8 * b + i) (below-or-above (8 * b + i) (2 ^ n))))
+  where
+    cases : (a : ℕ) → (a < 2 ^ n) ⊎ (2 ^ n ≤ a) → ltb a (2 ^ n) && f a ≡ ltb a (2 ^ n) && g a
+    cases a (inl below) = ap (λ (t : Bool). ltb a (2 ^ n) && t) (same a below)
+    cases a (inr above) = rw (le-ltb a (2 ^ n) above)

@@ -1,8 +1,8 @@
 -- The laws of the integers that the library lacks: the product is distributive and associative, and a sign moves out of it. `ring` has them
 -- as a set for simp, which multiplies out, sorts and cancels both sides of an equation between variables. Assumes nothing.
 use mathlib.Core.Path.{_≡_, refl, sym, ap, ap₂, _∙_}
-use Prim.Native.Nat.{zero, suc, _*_}
-use lib.IntN.{ℤ, pos, negsuc, sucℤ, predℤ, negℤ, _+ℤ_, _-ℤ_, _*ℤ_, +ℤ-idl, +ℤ-idr, +ℤ-assoc, +ℤ-comm, +ℤ-invr, sucℤ-+ℤ, predℤ-+ℤ, zero-*ℤ, *ℤ-zero, sucℤ-*ℤ, predℤ-*ℤ, *ℤ-comm, negℤ-negℤ, negℤ-+ℤ, one, *ℤ-one}
+use Prim.Native.Nat.{ℕ, zero, suc, _+_, _*_}
+use lib.IntN.{ℤ, pos, negsuc, sucℤ, predℤ, negℤ, _+ℤ_, _-ℤ_, _*ℤ_, +ℤ-idl, +ℤ-idr, +ℤ-assoc, +ℤ-comm, +ℤ-invr, sucℤ-+ℤ, predℤ-+ℤ, zero-*ℤ, *ℤ-zero, sucℤ-*ℤ, predℤ-*ℤ, *ℤ-comm, negℤ-negℤ, negℤ-+ℤ, one, *ℤ-one, pos-+ℤ-pos, +ℤ-negℤ-cancel}
 
 pub +ℤ-left-comm : (a b c : ℤ) → a +ℤ (b +ℤ c) ≡ b +ℤ (a +ℤ c)
 +ℤ-left-comm a b c = sym (+ℤ-assoc a b c) ∙ ap (λ (x : ℤ). x +ℤ c) (+ℤ-comm a b) ∙ +ℤ-assoc b a c
@@ -84,3 +84,10 @@ pub ruleset products = (*ℤ-assoc, *ℤ-comm, *ℤ-left-comm, *ℤ-unit, unit-*
 pub ruleset signs = (negℤ-*ℤ, *ℤ-negℤ, negℤ-+ℤ, negℤ-negℤ)
 
 pub ruleset ring = (sums, cancelling, products, signs)
+
+-- of two equal sums of natural numbers the differences across are equal
+pub differences-across : (a b c d : ℕ) → a + d ≡ b + c → pos a -ℤ pos b ≡ pos c -ℤ pos d
+differences-across a b c d e =
+    ap (λ (u : ℤ). u -ℤ pos b) (sym (+ℤ-negℤ-cancel (pos a) (pos d)))
+    ∙ ap (λ (u : ℤ). u -ℤ pos d -ℤ pos b) (pos-+ℤ-pos a d ∙ ap pos e ∙ sym (pos-+ℤ-pos b c))
+    ∙ simp ring

@@ -4,8 +4,8 @@ use mathlib.Core.Path.{_≡_, refl, sym, ap, ap₂, _∙_}
 use mathlib.Core.Bool.{Bool, true, false, _&&_, _||_}
 use mathlib.Core.List.{List, [], _∷_, _++_, map, flatMap, List·Memᴰ, List·Memᴰ·head, List·Memᴰ·tail}
 use mathlib.Core.Logic.{_⊎_, inl, inr}
-use Prim.Native.Nat.{ℕ, zero, suc, _+_, _*_, _^_, _≤_, _<_}
-use native.Mathlib.Nat.{le-trans, le-of-eq, le-of-suc-le-suc, eq-or-lt-of-le, add-zero, zero-add, add-suc, add-assoc, mul-zero, mul-add, mul-comm, two-pow-succ, le-refl, le-step, lt-suc-self, add-le-add, add-comm}
+use Prim.Native.Nat.{ℕ, zero, suc, _+_, _-_, _*_, _^_, _≤_, _<_}
+use native.Mathlib.Nat.{le-trans, le-of-eq, le-of-suc-le-suc, eq-or-lt-of-le, add-zero, zero-add, add-suc, add-assoc, mul-zero, mul-add, mul-comm, two-pow-succ, le-refl, le-step, lt-suc-self, add-le-add, add-comm, sub-zero, suc-sub-suc}
 use native.Mathlib.Numerals.{add-one}
 use native.Mathlib.Omega.{arith}
 use lib.Arith.{le-zero}
@@ -132,6 +132,16 @@ pub sumBelow-first : (f : ℕ → ℕ) (k : ℕ) → sumBelow f (suc k) ≡ f 0 
 unfolding sumBelow
 sumBelow-first f zero = omega arith
 sumBelow-first f (suc k) = ap (λ (u : ℕ). u + f (suc k)) (sumBelow-first f k) ∙ omega arith
+
+-- the terms in the opposite order
+pub sumBelow-reversed : (f : ℕ → ℕ) (d : ℕ) → sumBelow (λ i. f (d - i)) (suc d) ≡ sumBelow f (suc d)
+unfolding sumBelow
+sumBelow-reversed f zero = ap (λ (u : ℕ). 0 + u) (ap f (sub-zero 0))
+sumBelow-reversed f (suc d) =
+    sumBelow-first (λ i. f (suc d - i)) (suc d)
+    ∙ ap₂ (λ (u v : ℕ). u + v) (ap f (sub-zero (suc d)))
+    (sumBelow-same _ (λ i. f (d - i)) (suc d) (λ i l. ap f (suc-sub-suc d i)) ∙ sumBelow-reversed f d)
+    ∙ add-comm (f (suc d)) (sumBelow f (suc d))
 
 pub sumBelow-exchange : (f : ℕ → ℕ → ℕ) (k l : ℕ) → sumBelow (λ i. sumBelow (f i) l) k ≡ sumBelow (λ j. sumBelow (λ i. f i j) k) l
 unfolding sumBelow

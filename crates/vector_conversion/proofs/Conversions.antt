@@ -16,7 +16,8 @@ use Rattle.theory_sums.proofs.IntegerSums.{sumBelowℤ-same}
 use Rattle.theory_orders.specs.Formulas.{pathCount}
 use Rattle.theory_sets.specs.Structures.{Semicoherent}
 use Rattle.theory_figures.specs.Figures.{tail, signature, domination, sign}
-use Rattle.theory_figures.proofs.Tails.{tail-proportion, pathCount-empty, pathCount-full, pathCount-most, proportions-rise}
+use Rattle.theory_figures.proofs.Sizes.{pathCount-most}
+use Rattle.theory_figures.proofs.Tails.{tail-proportion, pathCount-empty, pathCount-full, proportions-rise}
 use Rattle.vector_kind.specs.Kinds.{lengthOf}
 use Rattle.vector_conversion.specs.Vectors.{entryAt, unitOf, countsOf, vectorRefusal, figure, vectorOf, converted, figuresOf}
 use Rattle.vector_kind.specs.declared.Kind.{Kind}
@@ -136,7 +137,7 @@ module _ (n : ℕ) (some : 1 ≤ n) (few : n ≤ 16) (works : ℕ → Bool) (coh
       record {
         none = pathCount-empty n works coherent;
         all = pathCount-full n works coherent;
-        most = pathCount-most n works coherent;
+        most = λ j h. pathCount-most n works j;
         rises = λ j h.
             subst (λ (x : ℕ). pathCount n works j * choose n x ≤ pathCount n works x * choose n j) (add-one j) (proportions-rise n works coherent j h);
       }

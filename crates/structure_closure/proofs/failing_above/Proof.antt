@@ -1,16 +1,14 @@
--- `structure_closure::failing_above` meets its contract: the words of the sets that one part leads to a set that does not work, joined part by part.
+-- `structure_closure::failing_above` meets its contract: the words of the sets that do not work with one part, joined part by part.
 -- Assumes nothing.
 use mathlib.Core.Path.{_≡_, ap, _∙_}
-use mathlib.Core.Bool.{not, _&&_}
-use Rattle.theory_sets.specs.Masks.{has}
-use Prim.Native.Nat.{ℕ, _-_, _≤_, min, _+_, _^_}
+use mathlib.Core.Bool.{not}
+use Prim.Native.Nat.{ℕ, _-_, _≤_, min, _^_}
 use native.Mathlib.Omega.{arith}
 use native.Mathlib.Nat.{le-antisymm}
 use denote.Ref.{now}
 use Rattle.structure_words.specs.Words.{inWords, wordOf}
-use Rattle.structure_closure.specs.Inside.{failingAbove}
-use Rattle.structure_closure.proofs.Parts.{lost-part}
-use Rattle.structure_words.proofs.Words.{any-word-none, any-word-more}
+use Rattle.structure_closure.specs.Inside.{with, failingAbove}
+use Rattle.structure_words.proofs.Words.{wordOf-not, any-word-none, any-word-more}
 use borrow.Author.Needs.{needs}
 use Rattle.structure_closure.proofs.failing_above.Statement.{statement}
 use Rattle.structure_closure.proofs.failing_above.Tie as tie
@@ -25,7 +23,7 @@ at-most-16-requires : tie.Need-at-most-16-requires Inv-loop μ-loop
 at-most-16-requires c κs = search needs
 
 loop-holds : tie.Need-loop-holds Inv-loop μ-loop
-loop-holds c = (omega arith, (c .at-most-16 .ensures, any-word-none (λ p a. not (has a p) && not (inWords (now (c .before .before .args .words)) (a + 2 ^ p))) _))
+loop-holds c = (omega arith, (c .at-most-16 .ensures, any-word-none (λ p a. not (with p (inWords (now (c .before .before .args .words))) a)) _))
 
 with-requires : tie.Need-with-requires Inv-loop μ-loop
 with-requires c κs = search needs
@@ -45,8 +43,8 @@ loop-again c =
       omega arith,
       (
         head .loop .inv .1 .0,
-        any-word-more (λ p m. not (has m p) && not (works (m + 2 ^ p))) _ part (head .loop .some) _ (head .loop .inv .1 .1)
-            (lost-part works (a .at) part (c .with .result) (c .with .ensures)),
+        any-word-more (λ p m. not (with p works m)) _ part (head .loop .some) _ (head .loop .inv .1 .1)
+            (ap (λ (w : ℕ). 2 ^ 64 - 1 - w) (c .with .ensures) ∙ wordOf-not (with part works) (a .at)),
       ),
     )
 

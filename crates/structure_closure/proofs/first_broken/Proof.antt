@@ -2,7 +2,7 @@
 -- the smallest broken set.
 -- Assumes nothing.
 use mathlib.Core.Path.{_≡_, sym, ap₂, _∙_}
-use mathlib.Core.Bool.{false}
+use mathlib.Core.Bool.{false, _&&_}
 use Prim.Native.Nat.{ℕ, _-_, _*_, _≤_, _<_, min}
 use native.Mathlib.Nat.{not-suc-le-zero}
 use native.Mathlib.Omega.{arith}
@@ -13,9 +13,9 @@ use Rattle.theory_sets.specs.Structures.{broken}
 use Rattle.theory_sets.proofs.Ranges.{least-none}
 use Rattle.structure_words.specs.Words.{inWords, wordOf}
 use Rattle.structure_closure.specs.Inside.{failingAbove}
-use Rattle.structure_words.proofs.Words.{word-is, wordOf-and}
+use Rattle.structure_words.proofs.Words.{word-is, wordOf-and, wordOf-same}
 use Rattle.structure_words.proofs.Runs.{Lowest, lowest-of}
-use Rattle.structure_closure.proofs.Walks.{none-more, found-first}
+use Rattle.structure_closure.proofs.Walks.{failing-broken, none-more, found-first}
 use borrow.Author.Needs.{needs}
 use Rattle.structure_closure.proofs.first_broken.Statement.{statement}
 use Rattle.structure_closure.proofs.first_broken.Tie as tie
@@ -29,7 +29,6 @@ abbrev μ-loop : tie.MeasureT-loop
 -- the word that is looked at is that of the broken sets
 bad-word : (c : tie.After-failing-above Inv-loop μ-loop) → meet (c .before .cell .result) (c .failing-above .result)
     ≡ wordOf (broken (min (c .before .before .before .before .before .args .parts) 16) (inWords (now (c .before .before .before .before .before .args .words)))) (c .before .before .before .loop .at)
-unfolding broken
 bad-word c =
     let head = c .before .before .before in
     let a = head .before .before .args in
@@ -38,6 +37,7 @@ bad-word c =
     ap₂ (λ (x y : ℕ). meet x y) (word-is (now (a .words)) at (c .before .cell .result) (c .before .cell .ensures) (omega (arith, c .before .cell .ok)))
     (c .failing-above .ensures)
     ∙ wordOf-and works (failingAbove (min (a .parts) 16) works) at
+    ∙ wordOf-same (λ m. works m && failingAbove (min (a .parts) 16) works m) (broken (min (a .parts) 16) works) at (failing-broken (min (a .parts) 16) works)
 
 loop-holds : tie.Need-loop-holds Inv-loop μ-loop
 loop-holds c = (omega arith, λ a h. absurd (not-suc-le-zero h))

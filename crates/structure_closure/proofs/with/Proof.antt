@@ -1,18 +1,16 @@
--- `structure_closure::with` meets its contract: below 6 the part is a shift inside the word, and from 6 on it leads to a higher word, where the word's
--- index lacks it.
+-- `structure_closure::with` meets its contract: below 6 the part is a shift inside the word, and from 6 on it leads to the word whose index has it.
 -- Assumes nothing.
-use mathlib.Core.Path.{_≡_, refl, sym, ap, ap₂, _∙_, subst}
-use mathlib.Core.Bool.{not}
-use Prim.Native.Nat.{ℕ, _+_, _-_, _/_, _^_, _<_}
+use mathlib.Core.Path.{_≡_, sym, ap, ap₂, _∙_, subst}
+use Prim.Native.Nat.{ℕ, _-_, _/_, _^_, _<_}
 use native.Mathlib.Omega.{arith}
 use denote.Ref.{now}
 use lib.ListN.{getD}
 use lib.Pow.{pow-lt}
 use Rattle.numbers.proofs.Counts.{upTo16-given}
-use Rattle.theory_sets.specs.Masks.{has}
+use Rattle.theory_sets.specs.Masks.{meet}
 use Rattle.theory_sets.proofs.Masks.{join}
-use Rattle.theory_sets.specs.Tables.{packed}
-use Rattle.structure_closure.proofs.Parts.{with-low, with-high, with-all, step-below}
+use Rattle.structure_words.specs.Words.{lacks}
+use Rattle.structure_closure.proofs.Parts.{with-low, with-high}
 use borrow.Author.Needs.{needs}
 use Rattle.structure_closure.proofs.with.Statement.{statement}
 use Rattle.structure_closure.proofs.with.Tie as tie
@@ -20,21 +18,21 @@ use Rattle.structure_closure.proofs.with.Tie as tie
 cell-requires : tie.Need-cell-requires
 cell-requires c κs = search needs
 
+lacking-requires : tie.Need-lacking-requires
+lacking-requires c κs = search needs
+
 power-of-two-requires : tie.Need-power-of-two-requires
 power-of-two-requires c κs = search needs
 
 -- what the part weighs, within a word and among the words
-weight : (c : tie.After-power-of-two) → c .power-of-two .result ≡ 2 ^ (c .before .before .before .before .args .part)
-weight c = c .power-of-two .ensures ∙ upTo16-given (c .before .before .before .before .args .part) _ (omega arith)
+weight : (c : tie.After-power-of-two) → c .power-of-two .result ≡ 2 ^ (c .before .before .before .before .before .args .part)
+weight c = c .power-of-two .ensures ∙ upTo16-given (c .before .before .before .before .before .args .part) _ (omega arith)
 
-step-weight : (c : tie.After-power-of-two2) → c .power-of-two2 .result ≡ 2 ^ (c .before .before .before .before .args .part - 6)
-step-weight c = c .power-of-two2 .ensures ∙ upTo16-given (c .before .before .before .before .args .part - 6) _ (omega arith)
+step-weight : (c : tie.After-power-of-two2) → c .power-of-two2 .result ≡ 2 ^ (c .before .before .before .args .part - 6)
+step-weight c = c .power-of-two2 .ensures ∙ upTo16-given (c .before .before .before .args .part - 6) _ (omega arith)
 
 shr-result : tie.Need-shr-result
-shr-result c = subst (λ (x : ℕ). x < 64) (sym (weight c)) (pow-lt (c .before .before .if1 .taken))
-
-lacking-requires : tie.Need-lacking-requires
-lacking-requires c κs = search needs
+shr-result c = subst (λ (x : ℕ). x < 64) (sym (weight c)) (pow-lt (c .before .before .before .if1 .taken))
 
 returns : tie.Need-returns
 returns c =
@@ -42,39 +40,22 @@ returns c =
     let words = now (a .words) in
     let got = c .before .before .cell in
     let fits : getD words (a .at) 0 < 2 ^ 64 = subst (λ (w : ℕ). w < 2 ^ 64) (got .ensures) (omega (arith, got .ok)) in
-    ap₂ (λ (s lacks : ℕ). join (got .result / 2 ^ s) (2 ^ 64 - 1 - lacks)) (weight (c .before)) (c .lacking .ensures)
-    ∙ ap (λ (w : ℕ). join (w / 2 ^ (2 ^ (a .part))) (2 ^ 64 - 1 - packed 64 (λ k. not (has k (a .part))))) (got .ensures)
+    ap₂ (λ (s lacks : ℕ). join (meet (got .result / 2 ^ s) lacks) (meet (got .result) (2 ^ 64 - 1 - lacks))) (weight c) (c .before .lacking .ensures)
+    ∙ ap (λ (w : ℕ). join (meet (w / 2 ^ (2 ^ (a .part))) (lacks (a .part))) (meet w (2 ^ 64 - 1 - lacks (a .part)))) (got .ensures)
     ∙ with-low words (a .at) (a .part) (c .before .before .before .if1 .taken) fits
-
-shr-if2 : tie.Need-shr-if2
-shr-if2 c = search needs
 
 power-of-two-requires-2 : tie.Need-power-of-two-requires-2
 power-of-two-requires-2 c κs = search needs
-
-add-cell : tie.Need-add-cell
-add-cell c =
-    let start = c .before .before .before .before in
-    let a = start .args in
-    let above : a .at + c .power-of-two2 .result < 1024 =
-    step-below (now (a .words)) (a .at) (a .part) (c .power-of-two2 .result) (c .before .before .if1 .left) (step-weight c)
-    (c .before .if2 .left) (start .pre .0) (start .pre .1) in
-    omega arith
 
 cell-requires-2 : tie.Need-cell-requires-2
 cell-requires-2 c κs = search needs
 
 returns-2 : tie.Need-returns-2
 returns-2 c =
-    let a = c .before .before .before .args in
-    with-all (now (a .words)) (a .at) (a .part) (2 ^ (a .part - 6)) (c .before .if1 .left) refl (c .if2 .taken)
-
-returns-3 : tie.Need-returns-3
-returns-3 c =
-    let a = c .before .before .before .before .before .args in
+    let a = c .before .before .before .before .args in
     let step = c .before .power-of-two2 in
     c .cell2 .ensures
-    ∙ with-high (now (a .words)) (a .at) (a .part) (step .result) (c .before .before .before .if1 .left) (step-weight (c .before)) (c .before .before .if2 .left)
+    ∙ with-high (now (a .words)) (a .at) (a .part) (step .result) (c .before .before .if1 .left) (step-weight (c .before))
     (subst (λ (w : ℕ). w < 2 ^ 64) (c .cell2 .ensures) (omega (arith, c .cell2 .ok)))
 
 pub with-spec : {M : Type 1} → statement M
@@ -82,13 +63,10 @@ with-spec =
     tie.close
     (tie.spec
     cell-requires
+    lacking-requires
     power-of-two-requires
     shr-result
-    lacking-requires
     returns
-    shr-if2
     power-of-two-requires-2
-    add-cell
     cell-requires-2
-    returns-2
-    returns-3)
+    returns-2)

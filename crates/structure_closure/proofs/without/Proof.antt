@@ -2,15 +2,14 @@
 -- word's index has it.
 -- Assumes nothing.
 use mathlib.Core.Path.{_≡_, refl, sym, ap, ap₂, _∙_, subst}
-use mathlib.Core.Bool.{not}
 use Prim.Native.Nat.{ℕ, _-_, _*_, _%_, _^_, _<_}
 use native.Mathlib.Omega.{arith}
 use denote.Ref.{now}
 use lib.ListN.{getD}
 use lib.Pow.{pow-lt}
 use Rattle.numbers.proofs.Counts.{upTo16-given}
-use Rattle.theory_sets.specs.Masks.{has, meet}
-use Rattle.theory_sets.specs.Tables.{packed}
+use Rattle.theory_sets.specs.Masks.{meet}
+use Rattle.structure_words.specs.Words.{lacks}
 use Rattle.structure_closure.proofs.Parts.{without-low, without-high, without-none, step-le}
 use borrow.Author.Needs.{needs}
 use Rattle.structure_closure.proofs.without.Statement.{statement}
@@ -42,7 +41,7 @@ returns c =
     let got = c .before .before .cell in
     let fits : getD words (a .at) 0 < 2 ^ 64 = subst (λ (w : ℕ). w < 2 ^ 64) (got .ensures) (omega (arith, got .ok)) in
     ap₂ (λ (lacks s : ℕ). meet (got .result) lacks * 2 ^ s % 2 ^ 64) (c .before .lacking .ensures) (weight c)
-    ∙ ap (λ (w : ℕ). meet w (packed 64 (λ k. not (has k (a .part)))) * 2 ^ (2 ^ (a .part)) % 2 ^ 64) (got .ensures)
+    ∙ ap (λ (w : ℕ). meet w (lacks (a .part)) * 2 ^ (2 ^ (a .part)) % 2 ^ 64) (got .ensures)
     ∙ without-low words (a .at) (a .part) (c .before .before .before .if1 .taken) fits
 
 shr-if2 : tie.Need-shr-if2

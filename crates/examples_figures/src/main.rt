@@ -1,4 +1,4 @@
-// Runs worked examples of 01 on machines and vectors and prints what the calculator answers; the file stdout beside this one's folder holds what
+// Runs worked examples of 01 and 02 on machines and vectors and prints what the calculator answers; the file stdout beside this one's folder holds what
 // it must print.
 use answer::Verdict;
 use answer::Written;
@@ -8,6 +8,7 @@ use vector_kind::Kind;
 fn main() {
     tables();
     lists();
+    cut_sets();
     figures();
     shares();
     vectors();
@@ -79,6 +80,37 @@ fn refused_lists() {
     list(b"n = 2, {1} {3}", 2, &[1, 4]);
     list(b"n = 2, {1} and the empty set", 2, &[1, 0]);
     list(b"n = 17, {1}", 17, &[1]);
+}
+
+// Lists of cut sets to tables, to their minimal path sets and cut sets, and to their duals (02, §3).
+fn cut_sets() {
+    say(b"cut sets\n");
+    small_cuts();
+    bridge_by_cuts();
+    refused_cuts();
+}
+
+fn small_cuts() {
+    cuts(b"n = 1, cut {1}", 1, &[1]);
+    cuts(b"n = 2, cut {1,2}", 2, &[3]);
+    cuts(b"n = 2, cuts {1} {2}", 2, &[1, 2]);
+    cuts(b"n = 2, cut {1}", 2, &[1]);
+}
+
+fn bridge_by_cuts() {
+    cuts(b"the bridge by its cuts", 5, &[3, 14, 21, 24]);
+    cuts(
+        b"the bridge by its cuts, with repeats and nested sets",
+        5,
+        &[24, 31, 3, 3, 14, 7, 21],
+    );
+}
+
+fn refused_cuts() {
+    cuts(b"n = 2, no cut", 2, &[]);
+    cuts(b"n = 2, cuts {1} {3}", 2, &[1, 4]);
+    cuts(b"n = 2, cut {1} and the empty set", 2, &[1, 0]);
+    cuts(b"n = 0, cut {1}", 0, &[1]);
 }
 
 // The figures of the papers' systems.
@@ -336,6 +368,54 @@ fn minimal_of_table(n: usize, bytes: &[u8]) {
     match wrote {
         Written::Refused(refusal) => refused(refusal.number, refusal.place),
         Written::Length(count) => show_sets(&sets, count),
+    }
+}
+
+fn cuts(name: &[u8], n: usize, masks: &[u16]) {
+    say(name);
+    say(b": ");
+    table_cuts_and_dual(n, masks);
+    say(b"\n");
+}
+
+fn table_cuts_and_dual(n: usize, masks: &[u16]) {
+    let mut bytes = [0u8; 4];
+    let wrote = structure_cuts::table_of_cuts(n, masks, &mut bytes);
+    match wrote {
+        Written::Refused(refusal) => refused(refusal.number, refusal.place),
+        Written::Length(length) => {
+            show_bytes(&bytes, length);
+            minimal(n, &bytes, length);
+            cuts_and_dual(n, &bytes, length);
+        }
+    }
+}
+
+// The minimal cut sets and the dual of the table in front of a buffer.
+fn cuts_and_dual(n: usize, bytes: &[u8], length: usize) {
+    say(b"; cuts");
+    if length <= bytes.len() {
+        cuts_of_table(n, &bytes[..length]);
+    }
+}
+
+fn cuts_of_table(n: usize, bytes: &[u8]) {
+    let mut sets = [0u16; 8];
+    let wrote = structure_cuts::minimal_cuts(n, bytes, &mut sets);
+    match wrote {
+        Written::Refused(refusal) => refused(refusal.number, refusal.place),
+        Written::Length(count) => show_sets(&sets, count),
+    }
+    dual_of_table(n, bytes);
+}
+
+fn dual_of_table(n: usize, bytes: &[u8]) {
+    say(b"; dual ");
+    let mut turned = [0u8; 4];
+    let wrote = structure_cuts::dual(n, bytes, &mut turned);
+    match wrote {
+        Written::Refused(refusal) => refused(refusal.number, refusal.place),
+        Written::Length(length) => show_bytes(&turned, length),
     }
 }
 

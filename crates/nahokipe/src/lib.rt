@@ -10,6 +10,7 @@ ghost use mathlib.Core.Path.{_≡_};
 ghost use Rattle.answer.specs.Outcome.{at, outcome, retold, delivered};
 ghost use Rattle.theory_sets.specs.Structures.{listed, minimalSets};
 ghost use Rattle.theory_sets.specs.Tables.{inTable, tableOf};
+ghost use Rattle.theory_cuts.specs.Cuts.{minimalCuts, byCuts, dualTable};
 ghost use Rattle.structure.specs.Checks.{listRefusal, tableRefusal};
 ghost use Rattle.theory_figures.specs.Figures.{pathCounts, tails, signatures, dominations, importances};
 ghost use Rattle.figures.specs.All.{buffersOf, allFigures};
@@ -104,6 +105,30 @@ pub extern "C" fn nahokipe_minimal_sets(n: usize, table: &[u8], sets: &mut [u16]
     ensures { λ r. ⌜ outcome r (now (sets .exit)) ≡ retold ofWritten (delivered (tableRefusal n (now (table .entry))) (minimalSets n (inTable (now (table .entry)))) (now (sets .entry))) ⌝ }
 {
     of_written(structure_forms::minimal_sets(n, table, sets))
+}
+
+// The table of a list of cut sets.
+#[no_mangle]
+pub extern "C" fn nahokipe_table_of_cuts(n: usize, cuts: &[u16], table: &mut [u8]) -> Answer
+    ensures { λ r. ⌜ outcome r (now (table .exit)) ≡ retold ofWritten (delivered (listRefusal n (now (cuts .entry))) (tableOf n (byCuts n (now (cuts .entry)))) (now (table .entry))) ⌝ }
+{
+    of_written(structure_cuts::table_of_cuts(n, cuts, table))
+}
+
+// The minimal cut sets of a table.
+#[no_mangle]
+pub extern "C" fn nahokipe_minimal_cuts(n: usize, table: &[u8], cuts: &mut [u16]) -> Answer
+    ensures { λ r. ⌜ outcome r (now (cuts .exit)) ≡ retold ofWritten (delivered (tableRefusal n (now (table .entry))) (minimalCuts n (inTable (now (table .entry)))) (now (cuts .entry))) ⌝ }
+{
+    of_written(structure_cuts::minimal_cuts(n, table, cuts))
+}
+
+// The dual of a table.
+#[no_mangle]
+pub extern "C" fn nahokipe_dual(n: usize, table: &[u8], buffer: &mut [u8]) -> Answer
+    ensures { λ r. ⌜ outcome r (now (buffer .exit)) ≡ retold ofWritten (delivered (tableRefusal n (now (table .entry))) (dualTable n (now (table .entry))) (now (buffer .entry))) ⌝ }
+{
+    of_written(structure_cuts::dual(n, table, buffer))
 }
 
 // The path counts φ(0) to φ(n) of a table.

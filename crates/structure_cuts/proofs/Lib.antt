@@ -1,0 +1,4 @@
+pub mod Reversal
+pub mod CutWords
+pub mod Walks
+pub mod Claims

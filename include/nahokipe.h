@@ -3,8 +3,12 @@
  * tool.
  *
  * A set of parts is a 16-bit mask: the part at position i, 1 to n, is bit i - 1. A structure says on which sets the machine runs, its
- * path sets. A list gives 1 to 12,870 sets, and a set is a path set exactly if it holds a listed one. A table has a bit for each of the
- * 2^n masks, mask A at byte A / 8, bit A % 8, bit 0 the lowest: 2^n / 8 bytes, and one byte for n = 1 and 2, its unused bits zero.
+ * path sets. A list has 1 to 12,870 sets; of a list of path sets, a set is a path set exactly if it holds a listed one. A table has a bit
+ * for each of the 2^n masks, mask A at byte A / 8, bit A % 8, bit 0 the lowest: 2^n / 8 bytes, and one byte for n = 1 and 2, its unused
+ * bits zero.
+ *
+ * A cut set is a set whose joint failure stops the machine: the parts that are left are no path set. The cut sets of a structure are the
+ * path sets of its dual. A list of cut sets is read by nahokipe_table_of_cuts alone.
  *
  * Every function takes every input. A call that is refused leaves what was lent to it as it was; one that is given writes its result's
  * length and not one cell more.
@@ -123,9 +127,9 @@ typedef struct nahokipe_answer {
 
 /*
  * Lengths that are always enough. In cells: the most parts, which bound a signature, importances, shares and part numbers; the most sets of
- * a list and minimal sets of a machine; the most entries of a vector; the most coefficients of h(x,z). In bytes: no table, record or sheet
- * and no drawing's text that is written or accepted is longer than these, and the last two are enough for every report and for the line of
- * every refusal.
+ * a list, and minimal sets and minimal cut sets of a machine; the most entries of a vector; the most coefficients of h(x,z). In bytes: no
+ * table, record or sheet and no drawing's text that is written or accepted is longer than these, and the last two are enough for every
+ * report and for the line of every refusal.
  */
 #define NAHOKIPE_MOST_PARTS 16
 #define NAHOKIPE_MOST_SETS 12870
@@ -141,7 +145,7 @@ typedef struct nahokipe_answer {
 /* Writes the table of a list, the greater of 1 and 2^n / 8 bytes: NAHOKIPE_LONGEST_TABLE is enough for every n. Refused: 1 to 5, 11. */
 nahokipe_answer nahokipe_table_of_list(size_t n, const uint16_t *list, size_t list_len, uint8_t *table, size_t table_len);
 
-/* Whether a list is one of n parts. Writes nothing. Refused: 1 to 5. */
+/* Whether a list, of path sets or of cut sets, is one of n parts. Writes nothing. Refused: 1 to 5. */
 nahokipe_answer nahokipe_list_verdict(size_t n, const uint16_t *list, size_t list_len);
 
 /*
@@ -155,6 +159,27 @@ nahokipe_answer nahokipe_table_verdict(size_t n, const uint8_t *table, size_t ta
  * table. Refused: 1, 6 to 11.
  */
 nahokipe_answer nahokipe_minimal_sets(size_t n, const uint8_t *table, size_t table_len, uint16_t *sets, size_t sets_len);
+
+/*
+ * Writes the table of the machine that a list of cut sets describes: it is stopped exactly if the failed parts hold a listed set. That is
+ * the greater of 1 and 2^n / 8 bytes: NAHOKIPE_LONGEST_TABLE is enough for every n. The list has to be whole: failures that hold no listed
+ * set do not stop the machine. nahokipe_minimal_sets of the table is a list for nahokipe_entered_record. Masks are of positions;
+ * nahokipe_mask_of makes them of part numbers. Refused: 1 to 5, 11.
+ */
+nahokipe_answer nahokipe_table_of_cuts(size_t n, const uint16_t *cuts, size_t cuts_len, uint8_t *table, size_t table_len);
+
+/*
+ * Writes the minimal cut sets of a table, the cut sets that hold no other, ascending by mask: NAHOKIPE_MOST_SETS cells are enough for every
+ * table. nahokipe_table_of_cuts makes the same table of them again. Of a record's table they are sets of positions; nahokipe_numbers_of
+ * gives the part numbers. Refused: 1, 6 to 11.
+ */
+nahokipe_answer nahokipe_minimal_cuts(size_t n, const uint8_t *table, size_t table_len, uint16_t *cuts, size_t cuts_len);
+
+/*
+ * Writes the table of the dual, whose path sets are the cut sets of the given table. It has as many bytes: NAHOKIPE_LONGEST_TABLE is enough
+ * for every n. The dual's dual is that table again, and the dual's signature is that of the given table reversed. Refused: 1, 6 to 11.
+ */
+nahokipe_answer nahokipe_dual(size_t n, const uint8_t *table, size_t table_len, uint8_t *dual, size_t dual_len);
 
 /*
  * The figures of a table. Orders in which the n parts fail are counted, n! in all, so 16! at most.

@@ -107,6 +107,30 @@ extern "C" {
         sets_len: usize,
     ) -> Answer;
 
+    pub(crate) fn nahokipe_table_of_cuts(
+        n: usize,
+        cuts: *const u16,
+        cuts_len: usize,
+        table: *mut u8,
+        table_len: usize,
+    ) -> Answer;
+
+    pub(crate) fn nahokipe_minimal_cuts(
+        n: usize,
+        table: *const u8,
+        table_len: usize,
+        cuts: *mut u16,
+        cuts_len: usize,
+    ) -> Answer;
+
+    pub(crate) fn nahokipe_dual(
+        n: usize,
+        table: *const u8,
+        table_len: usize,
+        dual: *mut u8,
+        dual_len: usize,
+    ) -> Answer;
+
     pub(crate) fn nahokipe_path_counts(
         n: usize,
         table: *const u8,

@@ -54,6 +54,7 @@
 //! `./check` runs the tests, and `cargo bench --manifest-path host/Cargo.toml` the benchmarks.
 
 mod changes;
+mod cuts;
 mod declared;
 mod drawings;
 mod figures;
@@ -69,6 +70,7 @@ mod vectors;
 
 pub use changes::{add_part, add_set_of_parts, take_out_part, take_out_parts};
 pub use changes::{add_set, take_out, take_out_group};
+pub use cuts::{dual, minimal_cuts, table_of_cuts};
 pub use drawings::{drawing_of_record, record_of_drawing};
 pub use figures::{domination, figures, importance, path_counts, signature, tail, Figures};
 pub use kind::Kind;

@@ -2,12 +2,12 @@
 //! largest machine, for which their buffers are long enough.
 
 use nahokipe::{
-    add_part, add_set, add_set_of_parts, convert, domination, drawing_of_record, figures,
-    first_record, importance, lent, minimal_sets, path_counts, read_sheet, record_of_drawing,
-    refused_line, reliability, report, sets_of_record, shares_by_both_routes,
-    shares_by_reliability, shares_by_sets, signature, table_of_list, table_of_record, tail,
-    take_out, take_out_group, take_out_part, take_out_parts, vector_verdict, write_sheet, Figures,
-    Kind, Refusal, Vector,
+    add_part, add_set, add_set_of_parts, convert, domination, drawing_of_record, dual, figures,
+    first_record, importance, lent, minimal_cuts, minimal_sets, path_counts, read_sheet,
+    record_of_drawing, refused_line, reliability, report, sets_of_record, shares_by_both_routes,
+    shares_by_reliability, shares_by_sets, signature, table_of_cuts, table_of_list,
+    table_of_record, tail, take_out, take_out_group, take_out_part, take_out_parts, vector_verdict,
+    write_sheet, Figures, Kind, Refusal, Vector,
 };
 use nahokipe_testing::making::{damaged_drawing, damaged_record, flipped, largest_drawing};
 use nahokipe_testing::making::{largest_record, random_drawing, random_group, random_list};
@@ -15,8 +15,8 @@ use nahokipe_testing::making::{random_record, random_set, random_table, random_w
 use nahokipe_testing::making::{sets_of_size, six_of_sixteen, table_of_sets, unknown_number};
 use nahokipe_testing::naive_records::{changed, whole_record, Change};
 use nahokipe_testing::seeded::Seeded;
-use nahokipe_testing::{naive, naive_drawing, naive_figures, naive_records, naive_report};
-use nahokipe_testing::{naive_shares, naive_vectors};
+use nahokipe_testing::{naive, naive_cuts, naive_drawing, naive_figures, naive_records};
+use nahokipe_testing::{naive_report, naive_shares, naive_vectors};
 
 // ---- structures and figures
 
@@ -38,6 +38,15 @@ fn compare_table(n: usize, table: &[u8]) {
     });
     assert_eq!(figures(n, table), together);
     assert!(minimal_sets(n, table) == naive::minimal_sets(n, table));
+    assert!(minimal_cuts(n, table) == naive_cuts::minimal_cuts(n, table));
+    assert!(dual(n, table) == naive_cuts::dual(n, table));
+}
+
+/// Everything that is made of a list.
+fn compare_list(n: usize, list: &[u16]) {
+    assert!(table_of_list(n, list) == naive::table_of_list(n, list));
+    assert!(table_of_cuts(n, list) == naive_cuts::table_of_cuts(n, list));
+    assert!(first_record(n, list) == naive_records::first_record(n, list));
 }
 
 /// Shares and coefficients of a group.
@@ -75,22 +84,20 @@ fn lists() {
     for n in 0..=18 {
         for _ in 0..6 {
             let mut list = random_list(&mut seeded, n.clamp(1, 16));
-            assert!(table_of_list(n, &list) == naive::table_of_list(n, &list));
-            assert!(first_record(n, &list) == naive_records::first_record(n, &list));
+            compare_list(n, &list);
             list.push(0);
-            assert!(table_of_list(n, &list) == naive::table_of_list(n, &list));
-            assert!(first_record(n, &list) == naive_records::first_record(n, &list));
+            compare_list(n, &list);
         }
     }
 }
 
-/// 16 parts: the most sets, and the groups with the most shares and the most coefficients.
+/// 16 parts: the most sets, the most cut sets, where nine are needed, and the groups with the most shares and the most coefficients.
 #[test]
 fn the_largest_machine() {
-    let sets = sets_of_size(16, 8);
-    let table = table_of_sets(16, &sets);
-    assert!(table_of_list(16, &sets).as_ref() == Ok(&table));
-    for table in [&table, &six_of_sixteen()] {
+    let [eight, nine] = [8, 9].map(|size| sets_of_size(16, size));
+    compare_list(16, &eight);
+    let [eight, nine] = [eight, nine].map(|sets| table_of_sets(16, &sets));
+    for table in [&eight, &nine, &six_of_sixteen()] {
         compare_table(16, table);
         for group in [0xFFFF, 0x00FF, 1] {
             compare_group(16, table, group);

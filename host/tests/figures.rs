@@ -3,13 +3,12 @@
 
 use nahokipe::lent::{domination, figures, importance, path_counts, signature, tail};
 use nahokipe::Refusal;
-use nahokipe_testing::comparing::{buffers, front, same};
+use nahokipe_testing::comparing::{about_table, front, same_of_table, OfTable};
 use nahokipe_testing::making::{flipped, machines, random_table, sets_of_size, table_of_sets};
 use nahokipe_testing::naive::{self, refused, structure_of};
 use nahokipe_testing::naive_figures::{self as by_formulas, all_delivered, binomial, factorial};
 use nahokipe_testing::naive_figures::{failure_orders, listed, Buffers, Figures, Listed};
 use nahokipe_testing::seeded::Seeded;
-use std::fmt::Debug;
 
 /// What buffers are filled with: a pattern and its opposite.
 const SIGNED: [i64; 2] = [0x5A5A_5A5A_5A5A_5A5A, !0x5A5A_5A5A_5A5A_5A5A];
@@ -21,51 +20,16 @@ const UNSIGNED: [u64; 2] = [0x5A5A_5A5A_5A5A_5A5A, !0x5A5A_5A5A_5A5A_5A5A];
 fn compare(n: usize, table: &[u8]) {
     let expected = by_formulas::figures(n, table);
     let of = |figure: fn(Figures) -> Vec<i64>| expected.clone().map(figure);
-    let most = n.min(16);
-    compare_cells(
-        (n, table),
-        path_counts,
-        of(|all| all.counts),
-        most + 1,
-        SIGNED,
-    );
-    compare_cells((n, table), tail, of(|all| all.tail), most + 1, SIGNED);
-    compare_cells(
-        (n, table),
-        signature,
-        of(|all| all.signature),
-        most.max(1),
-        SIGNED,
-    );
-    compare_cells(
-        (n, table),
-        domination,
-        of(|all| all.domination),
-        most + 1,
-        SIGNED,
-    );
+    let (cells, one_more) = (n.clamp(1, 16), (n.min(16) + 1, SIGNED));
+    same_of_table(path_counts, (n, table), &of(|all| all.counts), one_more);
+    same_of_table(tail, (n, table), &of(|all| all.tail), one_more);
+    let counts = of(|all| all.signature);
+    same_of_table(signature, (n, table), &counts, (cells, SIGNED));
+    same_of_table(domination, (n, table), &of(|all| all.domination), one_more);
     let counts = expected.clone().map(|all| all.importance);
-    compare_cells((n, table), importance, counts, most.max(1), UNSIGNED);
+    same_of_table(importance, (n, table), &counts, (cells, UNSIGNED));
     for more in AROUND {
         compare_all((n, table), &expected, around(n, more));
-    }
-}
-
-/// A call that fills one buffer.
-type Call<T> = fn(usize, &[u8], &mut [T]) -> Result<usize, Refusal>;
-
-fn compare_cells<T: Copy + PartialEq + Debug>(
-    (n, table): (usize, &[u8]),
-    call: Call<T>,
-    expected: Result<Vec<T>, Refusal>,
-    enough: usize,
-    patterns: [T; 2],
-) {
-    let about = || format!("n = {n}, table of {}: {:02X?}", table.len(), front(table));
-    for before in buffers(&expected, enough, patterns) {
-        let mut after = before.clone();
-        let answer = call(n, table, &mut after);
-        same((answer, after), naive::delivered(&expected, &before), about);
     }
 }
 
@@ -101,9 +65,8 @@ fn compare_all(
         assert_eq!(
             (answer, after),
             all_delivered(expected, &before),
-            "n = {n}, lengths {lengths:?}, table of {}: {:02X?}",
-            table.len(),
-            front(table)
+            "lengths {lengths:?}, {}",
+            about_table(n, table)
         );
     }
 }
@@ -139,7 +102,7 @@ fn given(n: usize, table: &[u8]) -> Figures {
     }
 }
 
-fn given_by<T>(call: Call<T>, (n, table): (usize, &[u8]), mut cells: Vec<T>) -> Vec<T> {
+fn given_by<T>(call: OfTable<T>, (n, table): (usize, &[u8]), mut cells: Vec<T>) -> Vec<T> {
     assert_eq!(call(n, table, &mut cells), Ok(cells.len()));
     cells
 }

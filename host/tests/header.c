@@ -31,6 +31,7 @@ static void test_structures(void)
     const uint16_t wrong_list[2] = {0x15, 0x20};
     const uint8_t written[6] = {0x00, 0xEA, 0xEC, 0xEE, 0xA5, 0xA5};
     const uint16_t minimal[6] = {0x09, 0x0E, 0x12, 0x15, 0xA5A5, 0xA5A5};
+    const uint16_t untouched[6] = {0xA5A5, 0xA5A5, 0xA5A5, 0xA5A5, 0xA5A5, 0xA5A5};
     uint8_t table[6] = {0xA5, 0xA5, 0xA5, 0xA5, 0xA5, 0xA5};
     uint16_t sets[6] = {0xA5A5, 0xA5A5, 0xA5A5, 0xA5A5, 0xA5A5, 0xA5A5};
 
@@ -42,10 +43,41 @@ static void test_structures(void)
     expect("list_verdict, wrong list", nahokipe_list_verdict(5, wrong_list, 2), 4, 1);
     expect("table_verdict", nahokipe_table_verdict(5, bridge, 4), 0, 0);
     expect("table_verdict, broken table", nahokipe_table_verdict(3, broken, 1), 10, 2);
+    expect("minimal_sets, short buffer", nahokipe_minimal_sets(5, bridge, 4, sets, 3), 11, 4);
+    expect_bytes("minimal_sets, short buffer", sets, untouched, sizeof sets);
     expect("minimal_sets", nahokipe_minimal_sets(5, bridge, 4, sets, 6), 0, 4);
     expect_bytes("minimal_sets", sets, minimal, sizeof sets);
-    expect("minimal_sets, short buffer", nahokipe_minimal_sets(5, bridge, 4, sets, 3), 11, 4);
-    expect_bytes("minimal_sets, short buffer", sets, minimal, sizeof sets);
+}
+
+/* The bridge from its cut sets, its minimal cut sets and its dual, each refused first, which leaves the buffer as it was. */
+static void test_cuts(void)
+{
+    static const uint16_t list[6] = {0x18, 0x1F, 0x03, 0x15, 0x0E, 0x03}, wrong_list[2] = {0x03, 0x20};
+    static const uint8_t written[6] = {0x00, 0xEA, 0xEC, 0xEE, 0xA5, 0xA5}, turned[6] = {0x88, 0xC8, 0xA8, 0xFF, 0xA5, 0xA5};
+    static const uint16_t minimal[6] = {0x03, 0x0E, 0x15, 0x18, 0xA5A5, 0xA5A5};
+    uint8_t untouched[12], table[6], dual[6];
+    uint16_t cuts[6];
+
+    memset(untouched, 0xA5, sizeof untouched);
+    memset(table, 0xA5, sizeof table);
+    memset(dual, 0xA5, sizeof dual);
+    memset(cuts, 0xA5, sizeof cuts);
+    expect("table_of_cuts, no cut sets", nahokipe_table_of_cuts(5, list, 0, table, 6), NAHOKIPE_EMPTY_LIST, 0);
+    expect("table_of_cuts, wrong list", nahokipe_table_of_cuts(5, wrong_list, 2, table, 6), NAHOKIPE_UNKNOWN_PART, 1);
+    expect("table_of_cuts, short buffer", nahokipe_table_of_cuts(5, list, 6, table, 3), NAHOKIPE_SHORT_BUFFER, 4);
+    expect_bytes("table_of_cuts, refused", table, untouched, sizeof table);
+    expect("table_of_cuts", nahokipe_table_of_cuts(5, list, 6, table, 6), 0, 4);
+    expect_bytes("table_of_cuts", table, written, sizeof table);
+    expect("minimal_cuts, broken table", nahokipe_minimal_cuts(3, broken, 1, cuts, 6), NAHOKIPE_BROKEN_SET, 2);
+    expect("minimal_cuts, short buffer", nahokipe_minimal_cuts(5, bridge, 4, cuts, 3), NAHOKIPE_SHORT_BUFFER, 4);
+    expect_bytes("minimal_cuts, refused", cuts, untouched, sizeof cuts);
+    expect("minimal_cuts", nahokipe_minimal_cuts(5, bridge, 4, cuts, 6), 0, 4);
+    expect_bytes("minimal_cuts", cuts, minimal, sizeof cuts);
+    expect("dual, broken table", nahokipe_dual(3, broken, 1, dual, 6), NAHOKIPE_BROKEN_SET, 2);
+    expect("dual, short buffer", nahokipe_dual(5, bridge, 4, dual, 3), NAHOKIPE_SHORT_BUFFER, 4);
+    expect_bytes("dual, refused", dual, untouched, sizeof dual);
+    expect("dual", nahokipe_dual(5, bridge, 4, dual, 6), 0, 4);
+    expect_bytes("dual", dual, turned, sizeof dual);
 }
 
 /* What the figures write: seven cells each, of which those behind the result stay 99. */
@@ -445,6 +477,7 @@ static void test_report(void)
 int main(void)
 {
     test_structures();
+    test_cuts();
     test_vector("path_counts", nahokipe_path_counts, counts, 6);
     test_vector("tail", nahokipe_tail, tail, 6);
     test_vector("signature", nahokipe_signature, signature, 5);

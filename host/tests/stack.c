@@ -18,41 +18,54 @@ static uint8_t table[NAHOKIPE_LONGEST_TABLE], other[NAHOKIPE_LONGEST_TABLE], rec
 static uint8_t text[NAHOKIPE_ENOUGH_FOR_REPORT], sheet[NAHOKIPE_LONGEST_SHEET];
 static int64_t counts[17], first[17], second[17], cells[81];
 static uint64_t parts[16], numbers[16];
-static size_t length, sheet_length, drawing_length, read_length, entered_length;
+static size_t length, sheet_length, drawing_length, read_length, entered_length, set_count, cut_count;
+static unsigned refusals;
 static unsigned char *ground;
 
+/* The value of an answer; refusals are counted, since a call that is refused ends before it has taken its stack. */
+static size_t given(nahokipe_answer answer) {
+    refusals += answer.number != 0;
+    return answer.value;
+}
+
 static void nothing(void) {}
-static void table_of_list(void) { nahokipe_table_of_list(16, sets, SETS, table, sizeof table); }
-static void table_verdict(void) { nahokipe_table_verdict(16, table, sizeof table); }
-static void minimal_sets(void) { nahokipe_minimal_sets(16, table, sizeof table, found, SETS); }
-static void figures(void) { nahokipe_figures(16, table, sizeof table, counts, 17, first, 17, second, 17, parts, 16); }
-static void both_routes(void) { nahokipe_shares_by_both_routes(16, table, sizeof table, 0xFF, first, 17, second, 17); }
-static void reliability(void) { nahokipe_reliability(16, table, sizeof table, 0xFF, cells, 81); }
-static void convert(void) { nahokipe_convert(1, 16, counts, 17, 4, second, 17); }
-static void write_sheet(void) { sheet_length = nahokipe_write_sheet(1, 16, counts, 17, sheet, sizeof sheet).value; }
-static void read_sheet(void) { nahokipe_read_sheet(sheet, sheet_length, first, 17); }
-static void first_record(void) { length = nahokipe_first_record(16, sets, SETS, record, BYTES).value; }
-static void entered_record(void) { entered_length = nahokipe_entered_record(numbers[15], numbers, 16, sets, SETS, written, BYTES).value; }
-static void whole_record(void) { nahokipe_whole_record(record, length); }
-static void table_of_record(void) { nahokipe_table_of_record(record, length, other, sizeof other); }
-static void drawing_of_record(void) { drawing_length = nahokipe_drawing_of_record(record, length, drawing, DRAWN).value; }
-static void record_of_drawing(void) { read_length = nahokipe_record_of_drawing(drawing, drawing_length, written, BYTES).value; }
-static void position_of(void) { nahokipe_position_of(written, entered_length, numbers[15]); }
-static void mask_of(void) { nahokipe_mask_of(numbers, 16, numbers, 16); }
-static void numbers_of(void) { nahokipe_numbers_of(numbers, 16, 0xFFFF, parts, 16); }
-static void take_out_part(void) { nahokipe_take_out_part(written, entered_length, numbers[2], record, BYTES); }
-static void take_out_parts(void) { nahokipe_take_out_parts(written, entered_length, numbers + 2, 2, record, BYTES); }
-static void add_set_of_parts(void) { nahokipe_add_set_of_parts(written, entered_length, numbers, 7, record, BYTES); }
-static void take_out(void) { nahokipe_take_out(record, length, 3, written, BYTES); }
-static void take_out_group(void) { nahokipe_take_out_group(record, length, 0x0C, written, BYTES); }
-static void add_set(void) { nahokipe_add_set(record, length, 0x7F, written, BYTES); }
-static void add_part(void) { nahokipe_add_part(written, nahokipe_take_out(record, length, 3, written, BYTES).value, record, BYTES); }
-static void report(void) { nahokipe_report(record, length, other, sizeof other, text, sizeof text); }
+static void table_of_list(void) { given(nahokipe_table_of_list(16, sets, SETS, table, sizeof table)); }
+static void table_verdict(void) { given(nahokipe_table_verdict(16, table, sizeof table)); }
+static void minimal_sets(void) { set_count = given(nahokipe_minimal_sets(16, table, sizeof table, found, SETS)); }
+static void table_of_cuts(void) { given(nahokipe_table_of_cuts(16, sets, SETS, other, sizeof other)); }
+static void minimal_cuts(void) { cut_count = given(nahokipe_minimal_cuts(16, other, sizeof other, found, SETS)); }
+static void dual(void) { given(nahokipe_dual(16, table, sizeof table, other, sizeof other)); }
+static void figures(void) { given(nahokipe_figures(16, table, sizeof table, counts, 17, first, 17, second, 17, parts, 16)); }
+static void both_routes(void) { given(nahokipe_shares_by_both_routes(16, table, sizeof table, 0xFF, first, 17, second, 17)); }
+static void reliability(void) { given(nahokipe_reliability(16, table, sizeof table, 0xFF, cells, 81)); }
+static void convert(void) { given(nahokipe_convert(1, 16, counts, 17, 4, second, 17)); }
+static void write_sheet(void) { sheet_length = given(nahokipe_write_sheet(1, 16, counts, 17, sheet, sizeof sheet)); }
+static void read_sheet(void) { refusals += nahokipe_read_sheet(sheet, sheet_length, first, 17).number != 0; }
+static void first_record(void) { length = given(nahokipe_first_record(16, sets, SETS, record, BYTES)); }
+static void entered_record(void) { entered_length = given(nahokipe_entered_record(numbers[15], numbers, 16, sets, SETS, written, BYTES)); }
+static void whole_record(void) { refusals += nahokipe_whole_record(record, length).number != 0; }
+static void table_of_record(void) { given(nahokipe_table_of_record(record, length, other, sizeof other)); }
+static void drawing_of_record(void) { drawing_length = given(nahokipe_drawing_of_record(record, length, drawing, DRAWN)); }
+static void record_of_drawing(void) { read_length = given(nahokipe_record_of_drawing(drawing, drawing_length, written, BYTES)); }
+static void position_of(void) { given(nahokipe_position_of(written, entered_length, numbers[15])); }
+static void mask_of(void) { given(nahokipe_mask_of(numbers, 16, numbers, 16)); }
+static void numbers_of(void) { given(nahokipe_numbers_of(numbers, 16, 0xFFFF, parts, 16)); }
+static void take_out_part(void) { given(nahokipe_take_out_part(written, entered_length, numbers[2], record, BYTES)); }
+static void take_out_parts(void) { given(nahokipe_take_out_parts(written, entered_length, numbers + 2, 2, record, BYTES)); }
+static void add_set_of_parts(void) { given(nahokipe_add_set_of_parts(written, entered_length, numbers, 7, record, BYTES)); }
+static void take_out(void) { given(nahokipe_take_out(record, length, 3, written, BYTES)); }
+static void take_out_group(void) { given(nahokipe_take_out_group(record, length, 0x0C, written, BYTES)); }
+static void add_set(void) { given(nahokipe_add_set(record, length, 0x7F, written, BYTES)); }
+static void add_part(void) {
+    size_t left = given(nahokipe_take_out(record, length, 3, written, BYTES));
+    given(nahokipe_add_part(written, left, record, BYTES));
+}
+static void report(void) { given(nahokipe_report(record, length, other, sizeof other, text, sizeof text)); }
 
 typedef void (*call)(void);
 
-static void *run(void *given) {
-    (*(call *)given)();
+static void *run(void *made) {
+    (*(call *)made)();
     return NULL;
 }
 
@@ -74,7 +87,8 @@ static size_t used(call made) {
 
 int main(void) {
     static const struct { const char *name; call made; } calls[] = {
-        {"table_of_list", table_of_list}, {"table_verdict", table_verdict}, {"minimal_sets", minimal_sets}, {"figures", figures},
+        {"table_of_list", table_of_list}, {"table_verdict", table_verdict}, {"minimal_sets", minimal_sets},
+        {"table_of_cuts", table_of_cuts}, {"minimal_cuts", minimal_cuts}, {"dual", dual}, {"figures", figures},
         {"shares_by_both_routes", both_routes}, {"reliability", reliability}, {"convert", convert}, {"write_sheet", write_sheet},
         {"read_sheet", read_sheet}, {"entered_record", entered_record}, {"position_of", position_of}, {"mask_of", mask_of},
         {"numbers_of", numbers_of}, {"take_out_part", take_out_part}, {"take_out_parts", take_out_parts},
@@ -98,6 +112,7 @@ int main(void) {
         if (taken > most) most = taken, largest = calls[count].name;
     }
     printf("stack: the largest call is %s with %zu bytes\n", largest, most);
-    if (length == 0 || entered_length == 0 || sheet_length == 0 || read_length != length || most > PROMISED) return 1;
+    if (refusals != 0) fprintf(stderr, "stack: refused calls: %u\n", refusals);
+    if (refusals != 0 || set_count != SETS || cut_count != SETS || read_length != length || most > PROMISED) return 1;
     return 0;
 }

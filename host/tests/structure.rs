@@ -1,63 +1,40 @@
-//! Structures: the calculator against the naive implementation, answers, places and every cell of the lent buffers.
+//! Structures, by path sets and by cut sets: the calculator against the naive implementation, answers, places and every cell of the lent
+//! buffers.
 
-use nahokipe::lent::{minimal_sets, table_of_list};
+use nahokipe::lent::{dual, minimal_cuts, minimal_sets, table_of_cuts, table_of_list};
 use nahokipe::{list_verdict, table_verdict};
-use nahokipe_testing::comparing::{buffers, front, same};
-use nahokipe_testing::making::{flipped, random_list, random_set, random_table, sets_of_size};
+use nahokipe_testing::comparing::{about_list, about_table};
+use nahokipe_testing::comparing::{same_of_list, same_sets_of_table, same_table_of_table};
+use nahokipe_testing::making::{damaged_list, flipped, lists_of, random_list, random_set};
+use nahokipe_testing::making::{random_table, sets_of_size, tables_turned_over};
 use nahokipe_testing::naive::{self, refused, table_length, MOST_SETS};
+use nahokipe_testing::naive_cuts as by_failures;
 use nahokipe_testing::seeded::Seeded;
 
 // ---- comparing
 
-/// A list's verdict and its table, into buffers of every length that matters.
+/// A list's verdict, and its tables as path sets and as cut sets, into buffers of every length that matters.
 fn compare_list(n: usize, list: &[u16]) {
-    let about = || format!("n = {n}, list of {}: {:?}", list.len(), front(list));
-    assert_eq!(
-        list_verdict(n, list),
-        naive::list_verdict(n, list),
-        "{}",
-        about()
-    );
-    let expected = naive::table_of_list(n, list);
-    let enough = table_length(n.min(16));
-    for before in buffers(&expected, enough, [0xA5, 0x5A]) {
-        let mut after = before.clone();
-        let answer = table_of_list(n, list, &mut after);
-        same((answer, after), naive::delivered(&expected, &before), about);
-    }
+    let verdict = naive::list_verdict(n, list);
+    assert_eq!(list_verdict(n, list), verdict, "{}", about_list(n, list));
+    same_of_list(table_of_list, (n, list), &naive::table_of_list(n, list));
+    let stopped = by_failures::table_of_cuts(n, list);
+    same_of_list(table_of_cuts, (n, list), &stopped);
 }
 
-/// A table's verdict and its minimal sets, into buffers of every length that matters.
+/// A table's verdict, its minimal sets, its minimal cut sets and its dual, into buffers of every length that matters.
 fn compare_table(n: usize, table: &[u8]) {
-    let about = || format!("n = {n}, table of {}: {:02X?}", table.len(), front(table));
+    let verdict = naive::table_verdict(n, table);
     assert_eq!(
         table_verdict(n, table),
-        naive::table_verdict(n, table),
+        verdict,
         "{}",
-        about()
+        about_table(n, table)
     );
-    let expected = naive::minimal_sets(n, table);
-    let enough = MOST_SETS.min(1 << n.min(16));
-    for before in buffers(&expected, enough, [0xA5A5, 0x5A5A]) {
-        let mut after = before.clone();
-        let answer = minimal_sets(n, table, &mut after);
-        same((answer, after), naive::delivered(&expected, &before), about);
-    }
-}
-
-/// A list with something wrong in it, in one or two places.
-fn damaged_list(seeded: &mut Seeded, n: usize) -> Vec<u16> {
-    let mut list = random_list(seeded, n);
-    for _ in 0..seeded.between(1, 2) {
-        let index = seeded.between(0, list.len() - 1);
-        let part = seeded.between(n.min(15), 15);
-        list[index] = if n < 16 && seeded.between(0, 1) == 1 {
-            list[index] | 1 << part
-        } else {
-            0
-        };
-    }
-    list
+    same_sets_of_table(minimal_sets, (n, table), &naive::minimal_sets(n, table));
+    let cuts = by_failures::minimal_cuts(n, table);
+    same_sets_of_table(minimal_cuts, (n, table), &cuts);
+    same_table_of_table(dual, (n, table), &by_failures::dual(n, table));
 }
 
 // ---- tables
@@ -109,46 +86,31 @@ fn length_is_judged(n: usize, length: usize) {
     for byte in [0x00, 0x80, 0xFF] {
         let table = vec![byte; length];
         assert_eq!(table_verdict(n, &table), refused(number, 0));
-        let mut sets = [0xA5A5; 8];
-        assert_eq!(minimal_sets(n, &table, &mut sets), refused(number, 0));
-        assert_eq!(sets, [0xA5A5; 8]);
+        compare_table(n, &table);
     }
 }
 
 #[test]
 fn numbers_of_parts_far_outside() {
+    let table = [0x80; 8192];
     for n in [31, 32, 64, 80, 1 << 32, (1 << 32) + 3, usize::MAX] {
-        let mut table = [0xA5; 8192];
-        let mut sets = [0xA5A5; 8];
         assert_eq!(list_verdict(n, &[1]), refused(1, 0));
-        assert_eq!(table_of_list(n, &[1], &mut table), refused(1, 0));
-        assert_eq!(table, [0xA5; 8192]);
+        compare_list(n, &[1]);
         for length in [0, 1, 8, 8192] {
             assert_eq!(table_verdict(n, &table[..length]), refused(1, 0));
-            assert_eq!(minimal_sets(n, &table[..length], &mut sets), refused(1, 0));
+            compare_table(n, &table[..length]);
         }
-        assert_eq!(sets, [0xA5A5; 8]);
     }
 }
 
-/// A valid table with one bit turned over, each bit for up to 8 parts: 8, 9, 10 at its place, or another valid table.
+/// A valid table with one bit turned over: 8, 9, 10 at its place, or another valid table.
 #[test]
 fn tables_with_one_bit_turned_over() {
     let mut seeded = Seeded::new(10);
-    for n in 1..=8 {
-        for _ in 0..4 {
-            let table = random_table(&mut seeded, n);
-            for set in 0..1 << n {
-                compare_table(n, &flipped(&table, set));
-            }
-        }
-    }
-    for n in 9..=16 {
+    for n in 1..=16 {
         for _ in 0..8 {
-            let table = random_table(&mut seeded, n);
-            for _ in 0..12 {
-                let set = seeded.between(0, (1 << n) - 1);
-                compare_table(n, &flipped(&table, set));
+            for table in tables_turned_over(&mut seeded, n) {
+                compare_table(n, &table);
             }
         }
     }
@@ -164,6 +126,7 @@ fn a_step_by_each_part_can_fail() {
             for low in 0..high {
                 let broken = flipped(&table, (1 << high) + (1 << low));
                 assert_eq!(table_verdict(n, &broken), refused(10, 1 << low));
+                compare_table(n, &broken);
             }
         }
     }
@@ -208,10 +171,9 @@ fn tables_of_random_bytes() {
 #[test]
 fn every_short_list_of_few_parts() {
     for (n, masks, longest) in [(1, 5, 4), (2, 9, 4), (3, 17, 3)] {
+        let masks: Vec<u16> = (0..masks).collect();
         for length in 0..=longest {
-            for number in 0..usize::pow(masks, length) {
-                let digit = |i| (number / usize::pow(masks, i) % masks) as u16;
-                let list: Vec<u16> = (0..length).map(digit).collect();
+            for list in lists_of(&masks, length) {
                 compare_list(n, &list);
             }
         }
@@ -306,18 +268,34 @@ fn there_and_back() {
     }
 }
 
-/// A rising list of sets none of which holds another comes back as it was.
+/// A rising list of sets none of which holds another comes back as it was. Among these machines are the one with the most sets, 8 of 16
+/// parts, and the one with the most cut sets, 9 of 16.
 #[test]
 fn all_sets_of_one_size_come_back() {
     for n in 1..=16 {
         for size in 1..=n {
             let list = sets_of_size(n, size as u32);
+            compare_list(n, &list);
             let table = given_table(n, &list);
             assert!(given_sets(n, &table) == list, "{size} of {n}");
             compare_table(n, &table);
         }
     }
     assert_eq!(sets_of_size(16, 8).len(), 12_870);
+}
+
+/// Machines that a random list of cut sets stops: they have few cut sets and many path sets, where a random list of path sets has it the
+/// other way round.
+#[test]
+fn machines_of_random_cut_sets() {
+    let mut seeded = Seeded::new(31);
+    for n in 1..=16 {
+        for _ in 0..25 {
+            let cuts = random_list(&mut seeded, n);
+            let table = by_failures::table_of_cuts(n, &cuts);
+            compare_table(n, &table.expect("an accepted list"));
+        }
+    }
 }
 
 fn given_table(n: usize, list: &[u16]) -> Vec<u8> {

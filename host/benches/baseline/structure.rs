@@ -1,7 +1,7 @@
 //! What a good Rust program does with structures: the same answers, with 64 sets to a word.
 
 use super::closing::{carry, store, trimmed};
-use super::table::{accepted, refused, table_length, word_count};
+use super::table::{accepted, refused, table_length, word_count, Words};
 use nahokipe::Refusal;
 
 /// The table of a list.
@@ -11,13 +11,18 @@ pub fn table_of_list(n: usize, list: &[u16], table: &mut [u8]) -> Result<usize, 
     if table.len() < needed {
         return refused(11, needed);
     }
+    store(&closed(n, list), &mut table[..needed]);
+    Ok(needed)
+}
+
+/// The sets that hold a listed one.
+pub fn closed(n: usize, list: &[u16]) -> Words {
     let mut works = [0; 1024];
     for &set in list {
         works[set as usize / 64] |= 1 << (set % 64);
     }
     carry(n, &mut works);
-    store(&works, &mut table[..needed]);
-    Ok(needed)
+    works
 }
 
 /// The verdict on a table.
@@ -27,8 +32,12 @@ pub fn table_verdict(n: usize, table: &[u8]) -> Result<(), Refusal> {
 
 /// The minimal sets of a table, ascending.
 pub fn minimal_sets(n: usize, table: &[u8], sets: &mut [u16]) -> Result<usize, Refusal> {
-    let works = accepted(n, table)?;
-    let minimal = trimmed(n, &works);
+    list_minimal(n, &accepted(n, table)?, sets)
+}
+
+/// The minimal ones among the sets of an accepted table's words, ascending.
+pub fn list_minimal(n: usize, works: &Words, sets: &mut [u16]) -> Result<usize, Refusal> {
+    let minimal = trimmed(n, works);
     let needed = minimal.iter().map(|word| word.count_ones() as usize).sum();
     if sets.len() < needed {
         return refused(11, needed);
@@ -38,7 +47,7 @@ pub fn minimal_sets(n: usize, table: &[u8], sets: &mut [u16]) -> Result<usize, R
 }
 
 /// Refusals 1 to 5. The entries are looked at one by one only where some entry is wrong.
-fn judge_list(n: usize, list: &[u16]) -> Result<(), Refusal> {
+pub fn judge_list(n: usize, list: &[u16]) -> Result<(), Refusal> {
     if !(1..=16).contains(&n) {
         return refused(1, 0);
     }

@@ -1,4 +1,4 @@
-//! Times of the calculator beside the baseline's, printed in microseconds.
+//! Times of two sides, the calculator and a baseline or two calls of the calculator, printed beside each other in microseconds.
 
 use std::hint::black_box;
 use std::time::Instant;
@@ -10,43 +10,47 @@ pub fn timed<T>(work: impl FnOnce() -> T) -> (T, u128) {
     (result, began.elapsed().as_nanos())
 }
 
-/// Both programs once in each round, who goes first changing from round to round: their times, the calculator's first. What they give is
-/// handed to `compare` in every round.
+/// Both sides once in each round, and in every other round the second before the first: the times of the first and of the second. What they
+/// give is handed to `compare` in every round.
 pub fn side_by_side<R, T>(
     rounds: usize,
-    calculator: impl Fn() -> (R, T),
-    baseline: impl Fn() -> (R, T),
+    first: impl Fn() -> (R, T),
+    second: impl Fn() -> (R, T),
     compare: impl Fn(&R, &R),
 ) -> (Vec<T>, Vec<T>) {
-    let (mut our_times, mut their_times) = (Vec::new(), Vec::new());
+    let (mut first_times, mut second_times) = (Vec::new(), Vec::new());
     for number in 0..rounds {
-        let ((ours, our_time), (theirs, their_time)) = if number % 2 == 0 {
-            let ours = calculator();
-            (ours, baseline())
+        let (one, other) = if number % 2 == 0 {
+            let one = first();
+            (one, second())
         } else {
-            let theirs = baseline();
-            (calculator(), theirs)
+            let other = second();
+            (first(), other)
         };
-        compare(&ours, &theirs);
-        our_times.push(our_time);
-        their_times.push(their_time);
+        compare(&one.0, &other.0);
+        first_times.push(one.1);
+        second_times.push(other.1);
     }
-    (our_times, their_times)
+    (first_times, second_times)
 }
 
+/// The head of the calculator's times beside the baseline's.
 pub fn print_head(what: &str, rounds: usize) {
+    print_columns(what, rounds, ["calculator", "baseline"]);
+}
+
+/// The head of two columns of times and their ratio.
+pub fn print_columns(what: &str, rounds: usize, [first, second]: [&str; 2]) {
     println!("{what}; microseconds, median of {rounds} rounds each");
     println!("buffers not cleared first: filled with a pattern before each call, outside its time");
-    println!(
-        "{:<14}{:>12}{:>12}{:>8}",
-        "", "calculator", "baseline", "ratio"
-    );
+    println!("{:<14}{first:>12}{second:>12}{:>8}", "", "ratio");
 }
 
-/// A step's medians, from its nanoseconds in all rounds.
-pub fn print_row(name: &str, calculator: Vec<u128>, baseline: Vec<u128>) {
-    let (ours, theirs) = (median(calculator), median(baseline));
-    println!("{name:<14}{ours:>12.1}{theirs:>12.1}{:>8.2}", ours / theirs);
+/// A step's medians and the first by the second, from its nanoseconds in all rounds.
+pub fn print_row(name: &str, first: Vec<u128>, second: Vec<u128>) {
+    let (first, second) = (median(first), median(second));
+    let ratio = first / second;
+    println!("{name:<14}{first:>12.1}{second:>12.1}{ratio:>8.2}");
 }
 
 /// In microseconds.

@@ -17,6 +17,7 @@
 //! ```
 
 mod changes;
+mod cuts;
 mod drawings;
 mod figures;
 mod part_numbers;
@@ -30,6 +31,7 @@ pub use crate::declared::{RecordAnswer, SheetAnswer, StepAnswer};
 pub use changes::{
     add_part, add_set, add_set_of_parts, take_out, take_out_group, take_out_part, take_out_parts,
 };
+pub use cuts::{dual, minimal_cuts, table_of_cuts};
 pub use drawings::{drawing_of_record, record_of_drawing};
 pub use figures::{domination, figures, importance, path_counts, signature, tail};
 pub use part_numbers::numbers_of;
@@ -46,7 +48,7 @@ use crate::Refusal;
 /// The most parts that a machine has, and the most cells of a signature, of importances, of shares and of part numbers.
 pub const MOST_PARTS: usize = 16;
 
-/// The most sets of a list, and the most minimal sets of a machine.
+/// The most sets of a list, and the most minimal sets and minimal cut sets of a machine.
 pub const MOST_SETS: usize = 12_870;
 
 /// The most entries of a vector: n + 1 of 16 parts.

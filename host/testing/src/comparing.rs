@@ -34,6 +34,68 @@ pub fn buffers<T: Copy>(
     lengths.into_iter().flat_map(filled).collect()
 }
 
+/// What a call leaves of buffers of every length that matters, around `enough` cells where it is refused.
+fn same_in_buffers<T: Copy + PartialEq + Debug>(
+    call: impl Fn(&mut [T]) -> Result<usize, Refusal>,
+    expected: &Result<Vec<T>, Refusal>,
+    (enough, patterns): (usize, [T; 2]),
+    about: impl Fn() -> String,
+) {
+    for before in buffers(expected, enough, patterns) {
+        let mut after = before.clone();
+        let answer = call(&mut after);
+        let expected = naive::delivered(expected, &before);
+        same((answer, after), expected, &about);
+    }
+}
+
+/// A call that makes a table of a list of sets.
+pub type OfList = fn(usize, &[u16], &mut [u8]) -> Result<usize, Refusal>;
+
+/// A call on a list, into buffers of every length that matters.
+pub fn same_of_list(call: OfList, (n, list): (usize, &[u16]), expected: &Result<Vec<u8>, Refusal>) {
+    let call = |table: &mut [u8]| call(n, list, table);
+    same_in_buffers(call, expected, table_cells(n), || about_list(n, list));
+}
+
+/// As many bytes as a table of n parts has, and the patterns that they are filled with.
+fn table_cells(n: usize) -> (usize, [u8; 2]) {
+    (naive::table_length(n.min(16)), [0xA5, 0x5A])
+}
+
+/// A call that works on a table and fills one buffer.
+pub type OfTable<T> = fn(usize, &[u8], &mut [T]) -> Result<usize, Refusal>;
+
+/// A call on a table, into buffers of every length that matters.
+pub fn same_of_table<T: Copy + PartialEq + Debug>(
+    call: OfTable<T>,
+    (n, table): (usize, &[u8]),
+    expected: &Result<Vec<T>, Refusal>,
+    cells: (usize, [T; 2]),
+) {
+    let call = |buffer: &mut [T]| call(n, table, buffer);
+    same_in_buffers(call, expected, cells, || about_table(n, table));
+}
+
+/// A call that lists some sets of a table, which are at most as many as a list can have.
+pub fn same_sets_of_table(
+    call: OfTable<u16>,
+    (n, table): (usize, &[u8]),
+    expected: &Result<Vec<u16>, Refusal>,
+) {
+    let enough = naive::MOST_SETS.min(1 << n.min(16));
+    same_of_table(call, (n, table), expected, (enough, [0xA5A5, 0x5A5A]));
+}
+
+/// A call that makes another table of a table.
+pub fn same_table_of_table(
+    call: OfTable<u8>,
+    (n, table): (usize, &[u8]),
+    expected: &Result<Vec<u8>, Refusal>,
+) {
+    same_of_table(call, (n, table), expected, table_cells(n));
+}
+
 /// A call that works on bytes and writes into a buffer.
 pub type Call = fn(&[u8], &mut [u8]) -> Result<usize, Refusal>;
 
@@ -105,6 +167,16 @@ pub fn same_change(bytes: &[u8], change: Change) -> Result<Vec<u8>, Refusal> {
 /// The first cells, for a message.
 pub fn front<T>(cells: &[T]) -> &[T] {
     &cells[..cells.len().min(24)]
+}
+
+/// A list, for a message.
+pub fn about_list(n: usize, list: &[u16]) -> String {
+    format!("n = {n}, list of {}: {:?}", list.len(), front(list))
+}
+
+/// A table, for a message.
+pub fn about_table(n: usize, table: &[u8]) -> String {
+    format!("n = {n}, table of {}: {:02X?}", table.len(), front(table))
 }
 
 /// What is handed out: all of an accepted record, and nothing beside a refusal.

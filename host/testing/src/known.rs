@@ -1,6 +1,6 @@
 //! Records, vectors and texts that are refused, with the number and the place that documents 01 and 02 give them, groups with what taking
-//! them out comes to, records that are entered, changes by part numbers, and texts with their records: worked out by hand, and asked of the
-//! calculator and of the second implementation alike.
+//! them out comes to, records that are entered, changes by part numbers, texts with their records, and machines with their cut sets: worked
+//! out by hand, and asked of the calculator and of the second implementation alike.
 
 use crate::naive_records::{Change, TOP_NUMBER};
 
@@ -411,5 +411,34 @@ pub const READ_DRAWINGS: [ReadDrawing; 8] = [
     (
         b"parts 10\nset 10 1\n",
         &[10, 10, 1, 2, 3, 4, 5, 6, 7, 8, 9, 10, 1, 0x81, 0x04],
+    ),
+];
+
+/// A machine of n parts: its minimal path sets and its minimal cut sets, its table and the dual's.
+pub type CutMachine = (usize, [&'static [u16]; 2], [&'static [u8]; 2]);
+
+/// One part; two of which either or the first alone suffices, or both are needed; a controller with two pumps; two of three; four in a row
+/// and in a ring, stopped by two failed neighbours; the bridge.
+pub const CUT_MACHINES: [CutMachine; 9] = [
+    (1, [&[1], &[1]], [&[0x02], &[0x02]]),
+    (2, [&[1, 2], &[3]], [&[0x0E], &[0x08]]),
+    (2, [&[1], &[1]], [&[0x0A], &[0x0A]]),
+    (2, [&[3], &[1, 2]], [&[0x08], &[0x0E]]),
+    (3, [&[3, 5], &[1, 6]], [&[0xA8], &[0xEA]]),
+    (3, [&[3, 5, 6], &[3, 5, 6]], [&[0xE8], &[0xE8]]),
+    (
+        4,
+        [&[5, 6, 10], &[3, 6, 12]],
+        [&[0xE0, 0xEC], &[0xC8, 0xF8]],
+    ),
+    (
+        4,
+        [&[5, 10], &[3, 6, 9, 12]],
+        [&[0xA0, 0xEC], &[0xC8, 0xFA]],
+    ),
+    (
+        5,
+        [&[9, 14, 18, 21], &[3, 14, 21, 24]],
+        [&[0x00, 0xEA, 0xEC, 0xEE], &[0x88, 0xC8, 0xA8, 0xFF]],
     ),
 ];

@@ -6,6 +6,7 @@ pub mod known;
 pub mod making;
 pub mod naive;
 pub mod naive_bytes;
+pub mod naive_cuts;
 pub mod naive_drawing;
 pub mod naive_figures;
 pub mod naive_records;

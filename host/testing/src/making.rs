@@ -47,6 +47,21 @@ pub fn random_list(seeded: &mut Seeded, n: usize) -> Vec<u16> {
     list
 }
 
+/// A list of n parts with something wrong in it, in one or two places.
+pub fn damaged_list(seeded: &mut Seeded, n: usize) -> Vec<u16> {
+    let mut list = random_list(seeded, n);
+    for _ in 0..seeded.between(1, 2) {
+        let index = seeded.between(0, list.len() - 1);
+        let part = seeded.between(n.min(15), 15);
+        list[index] = if n < 16 && seeded.between(0, 1) == 1 {
+            list[index] | 1 << part
+        } else {
+            0
+        };
+    }
+    list
+}
+
 /// A table of n parts that is accepted.
 pub fn random_table(seeded: &mut Seeded, n: usize) -> Vec<u8> {
     let list = random_list(seeded, n);
@@ -86,6 +101,16 @@ pub fn flipped(table: &[u8], set: usize) -> Vec<u8> {
     let mut table = table.to_vec();
     table[set / 8] ^= 1 << (set % 8);
     table
+}
+
+/// A table of n parts with one bit turned over: each bit for up to 8 parts, else twelve bits.
+pub fn tables_turned_over(seeded: &mut Seeded, n: usize) -> Vec<Vec<u8>> {
+    let table = random_table(seeded, n);
+    let sets: Vec<usize> = match n {
+        1..=8 => (0..1 << n).collect(),
+        _ => (0..12).map(|_| seeded.between(0, (1 << n) - 1)).collect(),
+    };
+    sets.iter().map(|&set| flipped(&table, set)).collect()
 }
 
 /// The minimal sets of a list that is accepted.

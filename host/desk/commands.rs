@@ -39,7 +39,7 @@ const ONE_RECORD: Command = Command {
 };
 
 /// All commands, in the order of the help.
-static COMMANDS: [Command; 13] = [
+static COMMANDS: [Command; 14] = [
     Command {
         name: "enter",
         words: "TEXT RECORD",
@@ -51,6 +51,11 @@ TEXT says the machine by part numbers, in this order:
     parts 3 7 12       the numbers of the parts, rising
     set 3 7            a set of parts that suffices to run the machine,
     set 3 12           one line for each; comments go from # to the end of a line
+
+`cut` lines may stand in place of the `set` lines, as service manuals list them, one for each
+cut set: a set of parts whose joint failure stops the machine. `cut 3` and `cut 7 12` say the
+machine above. Every minimal cut set, one that holds no other, has to be there: failures that
+hold none of the listed sets are taken not to stop it.
 
 The mark has no default: the numbers in use do not show which ones were issued before. What
 was entered is printed back, with the number that the next part will get. RECORD is a new
@@ -83,7 +88,7 @@ file; one that is there is not replaced.
     Command {
         name: "show",
         words: "RECORD [--names FILE]",
-        summary: "mark, parts and sets, as the text that `enter` takes",
+        summary: "mark, parts and sets, as a text that `enter` takes",
         details: "\
 What it prints makes the same record again, byte for byte. Names are shown as comments.
 
@@ -91,6 +96,21 @@ What it prints makes the same record again, byte for byte. Names are shown as co
 ",
         takes_names: true,
         run: showing::show,
+        ..ONE_RECORD
+    },
+    Command {
+        name: "cuts",
+        words: "RECORD [--names FILE]",
+        summary: "mark, parts and cut sets, as a text that `enter` takes",
+        details: "\
+A cut set is a set of parts whose joint failure stops the machine. The minimal ones, which hold
+no other, are printed. What it prints makes the same record again, byte for byte. Names are
+shown as comments.
+
+    nahokipe cuts tab6.record --names names.txt
+",
+        takes_names: true,
+        run: showing::cuts,
         ..ONE_RECORD
     },
     Command {

@@ -2,6 +2,7 @@
 
 use crate::ending::Ending;
 use crate::files::FileName;
+use crate::meaning::Meaning;
 use crate::numbers::{counted, listed, said};
 use nahokipe::Refusal;
 use std::collections::BTreeSet;
@@ -38,6 +39,22 @@ impl Design {
     pub fn read(name: &FileName) -> Result<Design, Ending> {
         let bytes = name.read_record()?;
         Design::of(bytes).map_err(|refusal| no_record(refusal, name))
+    }
+
+    /// The minimal path sets or the minimal cut sets, in the library's order.
+    pub fn minimal(&self, meaning: Meaning) -> Result<Vec<Vec<u64>>, Refusal> {
+        match meaning {
+            Meaning::PathSets => Ok(self.sets.clone()),
+            Meaning::CutSets => self.cuts(),
+        }
+    }
+
+    /// The minimal cut sets, which the library works out from the record.
+    fn cuts(&self) -> Result<Vec<Vec<u64>>, Refusal> {
+        let table = nahokipe::table_of_record(&self.bytes)?;
+        let masks = nahokipe::minimal_cuts(self.size(), &table)?.into_iter();
+        let cut = |mask: u16| nahokipe::numbers_of(&self.parts, usize::from(mask));
+        masks.map(cut).collect()
     }
 
     /// How many parts the machine has.

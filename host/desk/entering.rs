@@ -5,6 +5,7 @@ use crate::design::Design;
 use crate::ending::Ending;
 use crate::entry_text::{text_of, Entry, Refused};
 use crate::files::FileName;
+use crate::meaning::Meaning;
 use crate::names::Names;
 use crate::output::{self, Stream};
 use nahokipe::Refusal;
@@ -19,7 +20,7 @@ pub fn enter(arguments: &Arguments) -> Result<(), Ending> {
     };
     let entry = Entry::read(&text).map_err(refused)?;
     let record = entry.record().map_err(refused)?;
-    made(record, &target, |design| entry.left_out(design))
+    made(record, &target, |design| entry.read_back(design))
 }
 
 /// What a file is that is not a text by part numbers.
@@ -47,20 +48,24 @@ pub fn new(arguments: &Arguments) -> Result<(), Ending> {
         Ending::refused(refusal, about).on(story_stream(&target))
     };
     let record = nahokipe::record_of_drawing(&text).map_err(refused)?;
-    made(record, &target, |_| String::new())
+    made(record, &target, |design| {
+        let sets = &design.sets;
+        Ok(text_of(design, Meaning::PathSets, sets, &Names::default()))
+    })
 }
 
 /// Writes a new record, and prints back what it says and which number comes next.
 fn made(
     record: Vec<u8>,
     target: &FileName,
-    left_out: impl Fn(&Design) -> String,
+    read_back: impl Fn(&Design) -> Result<String, Refusal>,
 ) -> Result<(), Ending> {
-    let design = Design::of(record).map_err(|refusal| Ending::refused(refusal, target))?;
+    let refused = |refusal| Ending::refused(refusal, target);
+    let design = Design::of(record).map_err(refused)?;
+    let text = read_back(&design).map_err(refused)?;
     target.write_new(&design.bytes)?;
-    let text = text_of(&design, &Names::default());
     let end = format!("# {}\n", design.next_number());
-    told(&(text + &left_out(&design) + &end), target)
+    told(&(text + &end), target)
 }
 
 /// Says what was done when the target is written, and where that cannot be said, that it is.

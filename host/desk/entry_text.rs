@@ -1,7 +1,9 @@
-//! The text that people write a machine down in, all by part numbers: `mark 15`, `parts 3 7 12`, and `set 3 7` for each set.
+//! The text that people write a machine down in, all by part numbers: `mark 15`, `parts 3 7 12`, and `set 3 7` for each set that suffices
+//! to run it, or in their place `cut 7 12` for each set whose joint failure stops it.
 
 use crate::design::{holds, Design, TOP_NUMBER};
 use crate::files::{harmless, past_mark};
+use crate::meaning::Meaning;
 use crate::names::Names;
 use crate::numbers::{counted, listed, number, said};
 use nahokipe::lent::MOST_SETS;
@@ -14,20 +16,21 @@ const WRONG_LINE: u8 = 27;
 const NO_DEFAULT: &str = "
   the mark comes first and has no default: parts that left had numbers too, and those in use do not show them";
 
-/// How many sets are read: one more than a record can have, so that the library refuses what is more.
+/// How many sets are read: one more than a list can have, so that the library refuses what is more.
 const SETS_READ: usize = MOST_SETS + 1;
 
 /// Numbers and the line on which they stand.
-pub struct Line {
-    pub place: usize,
-    pub numbers: Vec<u64>,
+struct Line {
+    place: usize,
+    numbers: Vec<u64>,
 }
 
 /// What a text says. Whether it is a machine the library decides.
 pub struct Entry {
     mark: Line,
     parts: Line,
-    pub sets: Vec<Line>,
+    meaning: Meaning,
+    sets: Vec<Line>,
 }
 
 /// A refusal, and what it is about.
@@ -45,9 +48,16 @@ impl Entry {
         let mut lines = lines.filter_map(content);
         let mark = mark_line(lines.next(), end)?;
         let parts = parts_line(lines.next(), end)?;
-        let sets = lines.take(SETS_READ).map(set_line);
+        let mut lines = lines.peekable();
+        let meaning = meaning_of_text(lines.peek())?;
+        let sets = lines.take(SETS_READ).map(|line| set_line(meaning, line));
         let sets = sets.collect::<Result<_, Refused>>()?;
-        Ok(Entry { mark, parts, sets })
+        Ok(Entry {
+            mark,
+            parts,
+            meaning,
+            sets,
+        })
     }
 
     /// The record of the text, which the library makes.
@@ -62,8 +72,19 @@ impl Entry {
             .iter()
             .map(mask)
             .collect::<Result<Vec<u16>, Refused>>()?;
-        let record = nahokipe::entered_record(self.mark.numbers[0], parts, &list);
+        let sets = self.path_sets(list);
+        let record =
+            sets.and_then(|sets| nahokipe::entered_record(self.mark.numbers[0], parts, &sets));
         record.map_err(|refusal| (refusal, self.about(refusal)))
+    }
+
+    /// The path sets of the machine: those of the text, or those that the library makes of its cut sets.
+    fn path_sets(&self, list: Vec<u16>) -> Result<Vec<u16>, Refusal> {
+        let n = self.parts.numbers.len();
+        match self.meaning {
+            Meaning::PathSets => Ok(list),
+            Meaning::CutSets => nahokipe::minimal_sets(n, &nahokipe::table_of_cuts(n, &list)?),
+        }
     }
 
     /// What is wrong with a set.
@@ -92,8 +113,8 @@ impl Entry {
                 "line {place}: {}; a machine has 1 to 16",
                 counted(parts.len(), "part number")
             ),
-            2 => "there is no `set` line".to_string(),
-            3 => format!("there are over {} `set` lines", MOST_SETS),
+            2 => "there is no `set` or `cut` line".to_string(),
+            3 => format!("there are over {MOST_SETS} `{}` lines", self.meaning.word()),
             23 if refusal.place >= parts.len() => {
                 format!(
                     "line {}: the mark is above {TOP_NUMBER}, which is 2^48 - 1",
@@ -120,27 +141,52 @@ impl Entry {
         }
     }
 
-    /// The sets of the text that its record leaves out, since they hold another: comments, one for each.
-    pub fn left_out(&self, design: &Design) -> String {
-        let kept: BTreeSet<&Vec<u64>> = design.sets.iter().collect();
+    /// The text's record as the library reads it back, by path sets or by cut sets as the text is, so that one can hold the two side by
+    /// side.
+    pub fn read_back(&self, design: &Design) -> Result<String, Refusal> {
+        let minimal = design.minimal(self.meaning)?;
+        let text = text_of(design, self.meaning, &minimal, &Names::default());
+        Ok(text + &self.left_out(&minimal) + &self.sets_made(design))
+    }
+
+    /// The sets of the text that hold another, so that the minimal ones do not have them: comments, one for each.
+    fn left_out(&self, minimal: &[Vec<u64>]) -> String {
+        let (word, kept) = (self.meaning.word(), minimal.iter().collect::<BTreeSet<_>>());
         let comment = |line: &Line| {
             let mut set = line.numbers.clone();
             set.sort_unstable();
             if kept.contains(&set) {
                 return None;
             }
-            let held = design.sets.iter().find(|held| holds(&set, held))?;
+            let held = minimal.iter().find(|held| holds(&set, held))?;
             let (place, set, held) = (line.place, listed(&set), listed(held));
             Some(format!(
-                "# line {place}: set {set} is left out, since it holds set {held}\n"
+                "# line {place}: {word} {set} is left out, since it holds {word} {held}\n"
             ))
         };
         self.sets.iter().filter_map(comment).collect()
     }
+
+    /// What was made of cut sets, as comments: what other failures are taken for, and how many path sets the record has.
+    fn sets_made(&self, design: &Design) -> String {
+        if self.meaning == Meaning::PathSets {
+            return String::new();
+        }
+        let sets = match design.sets.len() {
+            1 => "1 set that suffices".to_string(),
+            count => format!("{count} sets that suffice"),
+        };
+        format!(
+            "\
+# failures that hold none of these cut sets do not stop this machine
+# the record has {sets} to run it, which `nahokipe show` prints
+"
+        )
+    }
 }
 
-/// The text of a machine, names as comments.
-pub fn text_of(design: &Design, names: &Names) -> String {
+/// The text of a machine, by its minimal path sets or its minimal cut sets, names as comments.
+pub fn text_of(design: &Design, meaning: Meaning, minimal: &[Vec<u64>], names: &Names) -> String {
     let mut text = format!("mark {}\nparts {}\n", design.mark, listed(&design.parts));
     for &part in design
         .parts
@@ -149,12 +195,13 @@ pub fn text_of(design: &Design, names: &Names) -> String {
     {
         text += &format!("# {part} {}\n", names.name(part));
     }
-    let sets: Vec<String> = design.sets.iter().map(|set| listed(set)).collect();
+    let sets: Vec<String> = minimal.iter().map(|set| listed(set)).collect();
     let width = sets.iter().map(String::len).max().unwrap_or(0);
-    for (set, numbers) in design.sets.iter().zip(&sets) {
+    let word = meaning.word();
+    for (set, numbers) in minimal.iter().zip(&sets) {
         text += &match names.is_empty() {
-            true => format!("set {numbers}\n"),
-            false => format!("set {numbers:<width$}  # {}\n", names.of_set(set)),
+            true => format!("{word} {numbers}\n"),
+            false => format!("{word} {numbers:<width$}  # {}\n", names.of_set(set)),
         };
     }
     text
@@ -204,10 +251,34 @@ fn parts_line(line: Option<Content>, end: usize) -> Result<Line, Refused> {
     }
 }
 
-/// A line behind those: `set` and numbers.
-fn set_line(line: Content) -> Result<Line, Refused> {
-    let wanted = "`set` and the numbers of its parts, as in `set 3 7`";
-    numbers_line(b"set", line, wanted)
+/// What the sets of a text mean, which its first line behind `mark` and `parts` says. A text without such a line is refused with 1 or 2,
+/// whatever it is taken for.
+fn meaning_of_text(line: Option<&Content>) -> Result<Meaning, Refused> {
+    let Some(&(line, place)) = line else {
+        return Ok(Meaning::PathSets);
+    };
+    meaning_of_line(line).ok_or_else(|| {
+        let wanted = "`set` or `cut` and the numbers of its parts, as in `set 3 7` or `cut 7 12`";
+        other_form(place, &format!("`{}` is not {wanted}", shown(line)))
+    })
+}
+
+/// The meaning whose word a line begins with.
+fn meaning_of_line(line: &[u8]) -> Option<Meaning> {
+    let first = words(line).next();
+    let mut both = Meaning::BOTH.into_iter();
+    both.find(|meaning| first == Some(meaning.word().as_bytes()))
+}
+
+/// A line behind `mark` and `parts`: the word of what the text's sets mean, and numbers.
+fn set_line(meaning: Meaning, (line, place): Content) -> Result<Line, Refused> {
+    let word = meaning.word();
+    if meaning_of_line(line).is_some_and(|other| other != meaning) {
+        let either = "a text has either `set` or `cut` lines";
+        let why = format!("`{}` stands behind a `{word}` line; {either}", shown(line));
+        return Err(other_form(place, &why));
+    }
+    numbers_line(word.as_bytes(), (line, place), meaning.form())
 }
 
 /// A line of a word and at least one number.

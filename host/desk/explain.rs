@@ -34,8 +34,8 @@ const EXPLANATIONS: [Explanation; 28] = [
     Explanation {
         meaning: "there is no set: nothing says what the machine needs to run",
         place: BYTE_LINE_OR_NONE,
-        cause: "the `set` lines are missing",
-        remedy: "write at least one set of parts that suffices to run the machine",
+        cause: "the `set` lines are missing, and no `cut` lines stand in their place",
+        remedy: "write at least one set of parts that suffices to run the machine, or one whose joint failure stops it",
     },
     Explanation {
         meaning: "there are over 12,870 sets, more than 16 parts can have with none holding another",
@@ -184,8 +184,8 @@ const EXPLANATIONS: [Explanation; 28] = [
     Explanation {
         meaning: "a line of a text is of another form",
         place: "the line, counted from 1",
-        cause: "a word mistyped, a number with a leading zero, or a file of another sort; in a drawing's text also a tab, a carriage return, a byte order mark, a blank too many, or no line feed at the end",
-        remedy: "write `mark 15`, `parts 3 7 12`, `set 3 7` for `nahokipe enter`, by part numbers; `parts 5`, `set 1 4` for `nahokipe new`, by positions",
+        cause: "a word mistyped, a number with a leading zero, `set` and `cut` lines in one text, or a file of another sort; in a drawing's text also a tab, a carriage return, a byte order mark, a blank too many, or no line feed at the end",
+        remedy: "write `mark 15`, `parts 3 7 12`, `set 3 7` or `cut 7 12` for `nahokipe enter`, by part numbers; `parts 5`, `set 1 4` for `nahokipe new`, by positions",
     },
     Explanation {
         meaning: "a part stands twice in one set or group",

@@ -1,20 +1,35 @@
-//! The commands that print a record as it is: `show`, `drawing` and `report`.
+//! The commands `show`, `cuts` and `drawing`, which print a record as a text, and `report`.
 
 use crate::arguments::Arguments;
 use crate::design::Design;
 use crate::ending::Ending;
 use crate::entry_text::text_of;
 use crate::files::FileName;
+use crate::meaning::Meaning;
 use crate::names::Names;
 use crate::numbers::listed;
 use crate::output::{self, Stream};
 use nahokipe::Refusal;
 
-/// The command `show`: the text that `enter` takes.
+/// The command `show`: a text that `enter` takes, by path sets.
 pub fn show(arguments: &Arguments) -> Result<(), Ending> {
-    let design = Design::read(&arguments.file(0))?;
+    as_text(arguments, Meaning::PathSets)
+}
+
+/// The command `cuts`: a text that `enter` takes, by cut sets.
+pub fn cuts(arguments: &Arguments) -> Result<(), Ending> {
+    as_text(arguments, Meaning::CutSets)
+}
+
+/// Prints a record as a text, by its minimal path sets or its minimal cut sets.
+fn as_text(arguments: &Arguments, meaning: Meaning) -> Result<(), Ending> {
+    let name = arguments.file(0);
+    let design = Design::read(&name)?;
     let names = Names::read(arguments.names.as_ref(), &design.parts)?;
-    output::print(&text_of(&design, &names), Stream::Output)
+    let minimal = design.minimal(meaning);
+    let minimal = minimal.map_err(|refusal| Ending::refused(refusal, &name))?;
+    let text = text_of(&design, meaning, &minimal, &names);
+    output::print(&text, Stream::Output)
 }
 
 /// The command `drawing`: the drawing tool's text, and a warning where it loses numbers.

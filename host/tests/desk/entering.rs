@@ -8,22 +8,37 @@ use nahokipe_testing::naive_drawing;
 use nahokipe_testing::naive_records::{self as by_words, named, record_bytes, Plain, TOP_NUMBER};
 use nahokipe_testing::seeded::Seeded;
 
+/// The words in front of sets that suffice to run a machine, and in their place of sets whose joint failure stops it.
+pub const WORDS: [&str; 2] = ["set", "cut"];
+
+/// A line of a text: a word, and numbers with a blank in front of each.
+pub fn line(word: &str, numbers: &[u64]) -> String {
+    let numbers = numbers.iter().map(|number| format!(" {number}"));
+    format!("{word}{}\n", numbers.collect::<String>())
+}
+
 /// A machine's text as it should be shown.
 fn canonical(plain: &Plain) -> String {
-    let line = |word: &str, numbers: &[u64]| {
-        let numbers = numbers.iter().map(|number| format!(" {number}"));
-        format!("{word}{}\n", numbers.collect::<String>())
-    };
+    text_of(plain, "set", &plain.sets)
+}
+
+/// The text of a machine's mark and parts with a line for each of these sets.
+pub fn text_of(plain: &Plain, word: &str, sets: &[u16]) -> String {
     let mut text = line("mark", &[plain.mark]) + &line("parts", &plain.numbers);
-    for &set in &plain.sets {
-        let numbers: Vec<u64> = named(&plain.numbers, set).into_iter().collect();
-        text += &line("set", &numbers);
+    for &set in sets {
+        text += &line_of(plain, word, set);
     }
     text
 }
 
+/// The line of a set of a machine.
+pub fn line_of(plain: &Plain, word: &str, set: u16) -> String {
+    let numbers: Vec<u64> = named(&plain.numbers, set).into_iter().collect();
+    line(word, &numbers)
+}
+
 /// A list of sets of a machine as somebody may have typed it: other orders, blanks, tabs, comments, empty lines, carriage returns.
-fn typed(seeded: &mut Seeded, plain: &Plain, list: &[u16]) -> String {
+pub fn typed(seeded: &mut Seeded, plain: &Plain, word: &str, list: &[u16]) -> String {
     let blank = |seeded: &mut Seeded| seeded.pick(&[" ", "  ", "\t", " \t "]);
     let end = |seeded: &mut Seeded| {
         seeded.pick(&[
@@ -46,7 +61,8 @@ fn typed(seeded: &mut Seeded, plain: &Plain, list: &[u16]) -> String {
     for &set in list {
         let mut numbers: Vec<u64> = named(&plain.numbers, set).into_iter().collect();
         seeded.shuffle(&mut numbers);
-        text += seeded.pick(&["set", " set", "\tset"]);
+        text += seeded.pick(&["", " ", "\t"]);
+        text += word;
         for number in numbers {
             text += &format!("{}{number}", blank(seeded));
         }
@@ -56,7 +72,7 @@ fn typed(seeded: &mut Seeded, plain: &Plain, list: &[u16]) -> String {
 }
 
 /// The record of a text.
-fn entered(folder: &Folder, text: &str) -> Vec<u8> {
+pub fn entered(folder: &Folder, text: &str) -> Vec<u8> {
     folder.write("text", text);
     let printed = folder.run(&["enter", "text", "-"]);
     assert_eq!(printed.status, Some(0), "{printed:?}");
@@ -110,7 +126,7 @@ fn texts_as_people_type_them() {
             let table = naive::table_of_list(n, &list).expect("an accepted list");
             let mut plain = random_plain(&mut seeded, n);
             plain.sets = minimal_sets(n, &table).expect("an accepted table");
-            let text = typed(&mut seeded, &plain, &list);
+            let text = typed(&mut seeded, &plain, "set", &list);
             folder.write("record", entered(&folder, &text));
             assert_eq!(
                 folder.run(&["show", "record"]).done(),
@@ -178,7 +194,7 @@ fn drawings_as_the_calculator_takes_them() {
 }
 
 /// Texts that are refused: the number and the place, and what the explanation says.
-const REFUSED_TEXTS: [(&str, u8, usize, &str); 27] = [
+const REFUSED_TEXTS: [(&str, u8, usize, &str); 25] = [
     ("", 27, 1, "no default"),
     ("# nothing\n\n", 27, 3, "no default"),
     ("parts 3 7\nset 3\n", 27, 1, "no default"),
@@ -221,7 +237,6 @@ const REFUSED_TEXTS: [(&str, u8, usize, &str); 27] = [
         4,
         "`mark 8` is not `set`",
     ),
-    ("mark 7\nparts 3\nsets 3\n", 27, 3, "`sets 3`"),
     (
         "mark 7\nparts 3\nset 3 # a\nset 3 x\n",
         27,
@@ -244,7 +259,6 @@ const REFUSED_TEXTS: [(&str, u8, usize, &str); 27] = [
         0,
         "line 3: 3 stands twice",
     ),
-    ("mark 7\nparts 3 5\n", 2, 0, "there is no `set` line"),
     (
         "mark 7\nparts 0 5\nset 5\n",
         23,
@@ -283,18 +297,27 @@ const REFUSED_TEXTS: [(&str, u8, usize, &str); 27] = [
     ),
 ];
 
+/// A text is refused by `enter`, with this number, place and explanation, and no record is made.
+pub fn is_refused(text: &str, (number, place): (u8, usize), why: &str) {
+    let folder = Folder::with("text", text);
+    let explanation = folder
+        .run(&["enter", "text", "record"])
+        .refused(number, place);
+    assert_has(
+        &explanation,
+        &["nahokipe: text: ", why, "usual cause: ", "what to do: "],
+    );
+    assert_eq!(folder.names(), ["text"], "{text}");
+}
+
+/// Texts with `set` lines, and the same with `cut` lines.
 #[test]
 fn texts_that_are_refused() {
     for (text, number, place, why) in REFUSED_TEXTS {
-        let folder = Folder::with("text", text);
-        let explanation = folder
-            .run(&["enter", "text", "record"])
-            .refused(number, place);
-        assert_has(
-            &explanation,
-            &["nahokipe: text: ", why, "usual cause: ", "what to do: "],
-        );
-        assert_eq!(folder.names(), ["text"], "{text}");
+        for word in WORDS {
+            let [text, why] = [text, why].map(|said| said.replace("set", word));
+            is_refused(&text, (number, place), &why);
+        }
     }
 }
 
@@ -311,53 +334,49 @@ fn numbers_of_any_length() {
         .into_iter()
         .chain(["3".repeat(5_000)])
     {
-        let cases = [
-            (format!("mark 7\nparts 3 5\nset 3 {long}\n"), 17, 0),
-            (format!("mark 7\nparts 3 {long}\nset 3\n"), 23, 1),
-            (format!("mark {long}\nparts 3 5\nset 3\n"), 23, 2),
-        ];
-        for (text, number, place) in cases {
-            let folder = Folder::with("text", text);
-            folder
-                .run(&["enter", "text", "record"])
-                .refused(number, place);
+        for word in WORDS {
+            let set = format!("mark 7\nparts 3 5\n{word} 3 {long}\n");
+            is_refused(&set, (17, 0), "is no part's number; the parts are 3 5");
+            let part = format!("mark 7\nparts 3 {long}\n{word} 3\n");
+            is_refused(&part, (23, 1), "is above the mark, 7");
+            let mark = format!("mark {long}\nparts 3 5\n{word} 3\n");
+            is_refused(&mark, (23, 2), "line 1: the mark is above");
         }
     }
 }
 
 #[test]
-fn too_many_parts_and_sets() {
-    let numbers: Vec<String> = (1..=17).map(|number| number.to_string()).collect();
-    let text = format!("mark 17\nparts {}\nset 1\n", numbers.join(" "));
-    let folder = Folder::with("text", text);
-    let explanation = folder.run(&["enter", "text", "record"]).refused(1, 0);
-    assert_has(
-        &explanation,
-        &["line 2: 17 part numbers; a machine has 1 to 16"],
-    );
-    folder.write(
-        "text",
-        "mark 2\nparts 1 2\n".to_string() + &"set 1 2\n".repeat(12_871),
-    );
-    let explanation = folder.run(&["enter", "text", "record"]).refused(3, 0);
-    assert_has(&explanation, &["there are over 12870 `set` lines"]);
-    folder.write(
-        "text",
-        "mark 2\nparts 1 2\n".to_string() + &"set 1 2\n".repeat(2_000_000) + "what else\n",
-    );
-    folder.run(&["enter", "text", "record"]).refused(3, 0);
-    let numbers: Vec<String> = (1..=500_000).map(|number| number.to_string()).collect();
-    let many = numbers.join(" ");
-    folder.write("text", format!("mark 9\nparts 1 2\nset {many}\n"));
-    folder.run(&["enter", "text", "record"]).refused(17, 0);
-    folder.write("text", format!("mark 9\nparts {many}\nset 1\n"));
-    folder.run(&["enter", "text", "record"]).refused(1, 0);
-    folder.write(
-        "text",
-        "mark 2\nparts 1 2\n".to_string() + &"set 1 2\n".repeat(12_870),
-    );
-    folder.run(&["enter", "text", "record"]).done();
-    assert_eq!(folder.read("record"), [2, 2, 1, 2, 1, 3]);
+fn too_many_parts() {
+    let listed = |last: usize| -> String {
+        let numbers: Vec<String> = (1..=last).map(|number| number.to_string()).collect();
+        numbers.join(" ")
+    };
+    let (more, many) = (listed(17), listed(500_000));
+    for word in WORDS {
+        let why = "line 2: 17 part numbers; a machine has 1 to 16";
+        is_refused(&format!("mark 17\nparts {more}\n{word} 1\n"), (1, 0), why);
+        let why = "line 2: 500000 part numbers; a machine has 1 to 16";
+        is_refused(&format!("mark 9\nparts {many}\n{word} 1\n"), (1, 0), why);
+        let why = "line 3: 3 is no part's number; the parts are 1 2";
+        is_refused(&format!("mark 9\nparts 1 2\n{word} {many}\n"), (17, 0), why);
+    }
+}
+
+/// More lines than a list has sets, and as many, which make a record.
+#[test]
+fn too_many_sets() {
+    let records: [&[u8]; 2] = [&[2, 2, 1, 2, 1, 3], &[2, 2, 1, 2, 2, 1, 2]];
+    for (word, record) in WORDS.into_iter().zip(records) {
+        let head = "mark 2\nparts 1 2\n".to_string();
+        let lines = |count| format!("{word} 1 2\n").repeat(count);
+        let why = format!("there are over 12870 `{word}` lines");
+        is_refused(&(head.clone() + &lines(12_871)), (3, 0), &why);
+        let more = head.clone() + &lines(2_000_000) + "what else\n";
+        is_refused(&more, (3, 0), &why);
+        let folder = Folder::with("text", head + &lines(12_870));
+        folder.run(&["enter", "text", "record"]).done();
+        assert_eq!(folder.read("record"), record);
+    }
 }
 
 /// Texts in other encodings, and files of another sort.
@@ -378,9 +397,11 @@ fn texts_that_are_no_texts() {
     folder.write("text", "parts 2\nset 1 2\n");
     let explanation = folder.run(&["enter", "text", "other"]).refused(27, 1);
     assert_has(&explanation, &["which `nahokipe new` takes"]);
-    folder.write("text", "mark 7\nparts 3\nset 3\n");
-    let explanation = folder.run(&["new", "text", "other"]).refused(27, 1);
-    assert_has(&explanation, &["which `nahokipe enter` takes"]);
+    for word in WORDS {
+        folder.write("text", format!("mark 7\nparts 3\n{word} 3\n"));
+        let explanation = folder.run(&["new", "text", "other"]).refused(27, 1);
+        assert_has(&explanation, &["which `nahokipe enter` takes"]);
+    }
 }
 
 /// Machines whose numbers are near the top: the last number is issued, and then none.
@@ -437,7 +458,7 @@ fn from_standard_input_and_to_standard_output() {
     );
 }
 
-/// A record that is refused is refused by `show` as by the calculator, at the same place.
+/// A record that is refused is refused by each command as by the calculator, at the same place.
 #[test]
 fn records_that_are_refused() {
     let mut seeded = Seeded::new(703);
@@ -446,7 +467,7 @@ fn records_that_are_refused() {
         let mut bytes = random_record(&mut seeded, n);
         bytes.truncate(seeded.between(0, bytes.len() - 1));
         folder.write("record", &bytes);
-        for command in ["show", "report", "figures", "drawing", "page"] {
+        for command in ["show", "cuts", "report", "figures", "drawing", "page"] {
             let explanation = folder.run(&[command, "record"]).refused(21, bytes.len());
             assert_has(
                 &explanation,

@@ -3,8 +3,10 @@
 mod changing;
 mod comparing;
 mod counting;
+mod cutting;
 mod entering;
 mod explaining;
+mod faults;
 mod folder;
 mod keeping;
 mod manual;

@@ -38,7 +38,7 @@ fn examples(block: &str) -> Vec<(String, String)> {
 }
 
 /// A folder with the example files.
-fn with_examples() -> Folder {
+pub fn with_examples() -> Folder {
     let folder = Folder::new();
     for entry in fs::read_dir(of_repository("examples")).expect("the examples") {
         let path = entry.expect("an entry").path();

@@ -4,8 +4,9 @@ use crate::folder::{assert_has, Folder, BRIDGE, PUMPS};
 use std::fs;
 
 /// The commands that read one record, with what else they want.
-const READING: [&[&str]; 10] = [
+const READING: [&[&str]; 11] = [
     &["show"],
+    &["cuts"],
     &["drawing"],
     &["report"],
     &["figures"],

@@ -3,9 +3,9 @@
 use crate::folder::{assert_has, Folder, PUMPS};
 
 /// All commands.
-pub const COMMANDS: [&str; 13] = [
-    "enter", "new", "show", "drawing", "report", "figures", "shares", "add-part", "add-set",
-    "take-out", "diff", "page", "explain",
+pub const COMMANDS: [&str; 14] = [
+    "enter", "new", "show", "cuts", "drawing", "report", "figures", "shares", "add-part",
+    "add-set", "take-out", "diff", "page", "explain",
 ];
 
 #[test]
@@ -66,6 +66,7 @@ fn no_command_and_unknown_commands() {
         ("Enter", "enter"),
         ("figure", "figures"),
         ("add-prat", "add-part"),
+        ("cut", "cuts"),
     ];
     for (word, nearest) in cases {
         let error = folder.run(&[word, "record"]).failed();
@@ -81,7 +82,7 @@ fn no_command_and_unknown_commands() {
 }
 
 /// Words that are wrong, and what is said of them.
-const WRONG_USES: [(&[&str], &str); 26] = [
+const WRONG_USES: [(&[&str], &str); 29] = [
     (&["enter", "text"], "a word is missing"),
     (
         &["enter", "text", "record", "more"],
@@ -103,6 +104,9 @@ const WRONG_USES: [(&[&str], &str); 26] = [
         "`--names` stands twice",
     ),
     (&["show", "pumps", "-o", "new"], "there is no option `-o`"),
+    (&["cuts"], "a word is missing"),
+    (&["cuts", "pumps", "3"], "`3` is a word too many"),
+    (&["cuts", "pumps", "-o", "new"], "there is no option `-o`"),
     (&["add-part", "pumps", "16"], "`16` is a word too many"),
     (&["add-part", "pumps", "-o"], "a file belongs behind `-o`"),
     (

@@ -3,7 +3,7 @@
 
 use nahokipe::lent::{dual, minimal_cuts, table_of_cuts};
 use nahokipe::{minimal_sets, shares_by_sets, table_of_list, table_verdict, Figures};
-use nahokipe_testing::known::CUT_MACHINES;
+use nahokipe_testing::known::{CUT_MACHINES, REFUSED_TABLES};
 use nahokipe_testing::making::{machines, minimal_of_list, random_group, random_list};
 use nahokipe_testing::making::{random_table, sets_of_size};
 use nahokipe_testing::naive::refused;
@@ -238,20 +238,7 @@ fn examples_of_the_order_of_checks_of_a_list() {
 /// n first, then the table's checks in their order.
 #[test]
 fn examples_of_the_order_of_checks_of_a_table() {
-    let cases: [(usize, &[u8], u8, usize); 11] = [
-        (0, &[], 1, 0),
-        (17, &[], 1, 0),
-        (3, &[], 6, 0),
-        (3, &[0x80, 0x00], 6, 0),
-        (1, &[0x05], 7, 0),
-        (2, &[0x1E], 7, 0),
-        (2, &[0x01], 8, 0),
-        (2, &[0x02], 9, 0),
-        (3, &[0x82], 10, 1),
-        (3, &[0xC4], 10, 2),
-        (5, &[0x00, 0xEA, 0xEC, 0xE6], 10, 0x0B),
-    ];
-    for (n, table, number, place) in cases {
+    for (n, table, number, place) in REFUSED_TABLES {
         let mut cuts = [0xA5A5; 4];
         assert_eq!(minimal_cuts(n, table, &mut cuts), refused(number, place));
         assert_eq!(minimal_cuts(n, table, &mut []), refused(number, place));

@@ -4,6 +4,7 @@
 use nahokipe::lent::{domination, figures, importance, path_counts, signature, tail};
 use nahokipe::Refusal;
 use nahokipe_testing::comparing::{about_table, front, same_of_table, OfTable};
+use nahokipe_testing::known::REFUSED_TABLES;
 use nahokipe_testing::making::{flipped, machines, random_table, sets_of_size, table_of_sets};
 use nahokipe_testing::naive::{self, refused, structure_of};
 use nahokipe_testing::naive_figures::{self as by_formulas, all_delivered, binomial, factorial};
@@ -329,23 +330,8 @@ fn examples_of_short_buffers() {
 #[test]
 fn each_refusal_with_its_place() {
     let of_16 = table_of_sets(16, &[0xFFFF]);
-    let cases: [(usize, &[u8], u8, usize); 14] = [
-        (0, &[], 1, 0),
-        (0, &[0x02], 1, 0),
-        (17, &[], 1, 0),
-        (17, &of_16, 1, 0),
-        (3, &[], 6, 0),
-        (3, &[0x80, 0x00], 6, 0),
-        (15, &of_16, 6, 0),
-        (1, &[0x05], 7, 0),
-        (2, &[0x1E], 7, 0),
-        (2, &[0x01], 8, 0),
-        (2, &[0x02], 9, 0),
-        (3, &[0x82], 10, 1),
-        (3, &[0xC4], 10, 2),
-        (5, &[0x00, 0xEA, 0xEC, 0xE6], 10, 0x0B),
-    ];
-    for (n, table, number, place) in cases {
+    let of_other_parts: [(usize, &[u8], u8, usize); 2] = [(17, &of_16, 1, 0), (15, &of_16, 6, 0)];
+    for (n, table, number, place) in REFUSED_TABLES.into_iter().chain(of_other_parts) {
         let refusal = Refusal { number, place };
         assert_eq!(naive::table_verdict(n, table), Err(refusal));
         compare(n, table);

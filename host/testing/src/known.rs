@@ -1,6 +1,6 @@
-//! Records, vectors and texts that are refused, with the number and the place that documents 01 and 02 give them, groups with what taking
-//! them out comes to, records that are entered, changes by part numbers, texts with their records, and machines with their cut sets: worked
-//! out by hand, and asked of the calculator and of the second implementation alike.
+//! Records, vectors, texts and tables that are refused, with the number and the place that documents 01 and 02 give them, groups with what
+//! taking them out comes to, records that are entered, changes by part numbers, texts with their records, and machines with their cut sets:
+//! worked out by hand, and asked of the calculator and of the second implementation alike.
 
 use crate::naive_records::{Change, TOP_NUMBER};
 
@@ -412,6 +412,25 @@ pub const READ_DRAWINGS: [ReadDrawing; 8] = [
         b"parts 10\nset 10 1\n",
         &[10, 10, 1, 2, 3, 4, 5, 6, 7, 8, 9, 10, 1, 0x81, 0x04],
     ),
+];
+
+/// A table of n parts, the number of its refusal and the place.
+pub type RefusedTable = (usize, &'static [u8], u8, usize);
+
+/// n first, then the table's checks in their order; of two faults the earlier check speaks.
+pub const REFUSED_TABLES: [RefusedTable; 12] = [
+    (0, &[], 1, 0),
+    (0, &[0x02], 1, 0),
+    (17, &[], 1, 0),
+    (3, &[], 6, 0),
+    (3, &[0x80, 0x00], 6, 0),
+    (1, &[0x05], 7, 0),
+    (2, &[0x1E], 7, 0),
+    (2, &[0x01], 8, 0),
+    (2, &[0x02], 9, 0),
+    (3, &[0x82], 10, 1),
+    (3, &[0xC4], 10, 2),
+    (5, &[0x00, 0xEA, 0xEC, 0xE6], 10, 0x0B),
 ];
 
 /// A machine of n parts: its minimal path sets and its minimal cut sets, its table and the dual's.

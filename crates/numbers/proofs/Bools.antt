@@ -3,6 +3,9 @@
 use mathlib.Core.Path.{_≡_, refl, sym, _∙_}
 use mathlib.Core.Bool.{Bool, true, false, not, _&&_, _||_, true≢false, false≢true}
 use mathlib.Core.Logic.{_⊎_, inl, inr}
+use Prim.Native.Nat.{ℕ}
+use lib.Dec.{eqb}
+use borrow.Author.Tests.{eqb-true, eq-eqb}
 
 pub and-left : (p q : Bool) → p && q ≡ true → p ≡ true
 and-left true q h = refl
@@ -70,3 +73,7 @@ same-test false false f g = refl
 pub false-of : (p : Bool) → (p ≡ true → ⊥) → p ≡ false
 false-of true h = absurd (h refl)
 false-of false h = refl
+
+-- two equations of numbers that follow from each other are the same test
+pub same-eqb : (a b c d : ℕ) → (a ≡ b → c ≡ d) → (c ≡ d → a ≡ b) → eqb a b ≡ eqb c d
+same-eqb a b c d there back = same-test (eqb a b) (eqb c d) (λ h. eq-eqb c d (there (eqb-true a b h))) (λ h. eq-eqb a b (back (eqb-true c d h)))

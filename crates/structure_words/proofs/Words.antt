@@ -13,10 +13,10 @@ use lib.Dec.{eqb}
 use lib.ListN.{getD, set, length-set, replicate, length-replicate, getD-replicate}
 use lib.Pow.{pow-pos, pow-lt}
 use lib.Seq.{getD-set-same, getD-set-other}
-use borrow.Author.Tests.{eqb-true, eq-eqb, ne-eqb}
+use borrow.Author.Tests.{ne-eqb}
 use Rattle.numbers.proofs.Tables.{tabulate-at, tabulate-length, tabulate-unique}
 use Rattle.theory_sets.specs.Masks.{has, meet, any}
-use Rattle.numbers.proofs.Bools.{same-test, or-false}
+use Rattle.numbers.proofs.Bools.{same-eqb, or-false}
 use Rattle.theory_sets.proofs.Masks.{join, has-empty, has-single, has-meet, has-join, has-complement}
 use Rattle.theory_sets.proofs.Tables.{has-packed, packed-below, packed-unique}
 use Rattle.structure_words.specs.Words.{inWords, wordOf, wordsOf}
@@ -98,9 +98,6 @@ wordsOf-none f none =
     ∙ wordOf-unique f j 0 (pow-pos 64) (λ k l. has-empty k ∙ sym (none (64 * j + k))))
 
 -- ---- one set more
-
-same-eqb : (a b c d : ℕ) → (a ≡ b → c ≡ d) → (c ≡ d → a ≡ b) → eqb a b ≡ eqb c d
-same-eqb a b c d there back = same-test (eqb a b) (eqb c d) (λ h. eq-eqb c d (there (eqb-true a b h))) (λ h. eq-eqb a b (back (eqb-true c d h)))
 
 module _ (f : ℕ → Bool) (m : ℕ) (h : m < 65536) where
   more : ℕ → Bool

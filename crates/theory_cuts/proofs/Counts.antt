@@ -7,9 +7,8 @@ use native.Mathlib.Nat.{sub-add-cancel}
 use native.Mathlib.Omega.{arith}
 use lib.Dec.{eqb}
 use lib.Pow.{pow-pos}
-use borrow.Author.Tests.{eqb-true, eq-eqb}
 use Rattle.numbers.specs.Counts.{factorial, choose}
-use Rattle.numbers.proofs.Bools.{same-test}
+use Rattle.numbers.proofs.Bools.{same-eqb}
 use Rattle.numbers.proofs.Counts.{choose-mirror, choose-factorials}
 use Rattle.theory_sums.specs.Sums.{indicator, sumBelow}
 use Rattle.theory_sums.proofs.Integers.{differences-across}
@@ -43,9 +42,7 @@ size-remaining n a h =
 -- a set is of size j exactly if n - j parts remain of it
 size-exchanged : (n a j : ℕ) → a < 2 ^ n → j ≤ n → eqb (size (remaining n a)) j ≡ eqb (size a) (n - j)
 size-exchanged n a j h most =
-    same-test (eqb (size (remaining n a)) j) (eqb (size a) (n - j))
-    (λ t. eq-eqb (size a) (n - j) (omega (arith, size-remaining n a h, eqb-true (size (remaining n a)) j t)))
-    (λ t. eq-eqb (size (remaining n a)) j (omega (arith, size-remaining n a h, eqb-true (size a) (n - j) t)))
+    same-eqb (size (remaining n a)) j (size a) (n - j) (λ e. omega (arith, size-remaining n a h)) (λ e. omega (arith, size-remaining n a h))
 
 module _ (n : ℕ) (works : ℕ → Bool) (j : ℕ) (most : j ≤ n) where
   -- a set of n - j parts that is no path set is what remains of a cut set of j parts

@@ -10,9 +10,8 @@ use native.Mathlib.Omega.{arith}
 use lib.Count.{ones-ones}
 use lib.Dec.{eqb}
 use lib.Pow.{ones-lt, pow-lt}
-use borrow.Author.Tests.{eqb-true, eq-eqb}
 use Rattle.numbers.specs.Counts.{factorial}
-use Rattle.numbers.proofs.Bools.{and-swap, not-not, same-test, true-or-false}
+use Rattle.numbers.proofs.Bools.{and-swap, not-not, same-eqb, true-or-false}
 use Rattle.theory_sums.specs.Sums.{indicator, sumBelow}
 use Rattle.theory_sums.proofs.Sums.{sumBelow-same}
 use Rattle.theory_sets.specs.Masks.{has, size, inside}
@@ -67,9 +66,7 @@ module _ (n : ℕ) (works : ℕ → Bool) (group : ℕ) (within : group < 2 ^ n)
         omega (arith, inside-remaining n group (a + 2 ^ j) full, missing-add n group j a l lacks belongs, missing-inside n group a within h) in
         let fewer : inside group a ≤ size group = omega (arith, missing-inside n group a within h) in
         ap (λ (x : ℕ). eqb x k) others
-        ∙ same-test (eqb (inside group a + 1) k) (eqb (size group - inside group a) (fromLast (size group) k))
-        (λ t. eq-eqb (size group - inside group a) (fromLast (size group) k) (omega (arith, eqb-true (inside group a + 1) k t)))
-        (λ t. eq-eqb (inside group a + 1) k (omega (arith, fewer, eqb-true (size group - inside group a) (fromLast (size group) k) t)))
+        ∙ same-eqb (inside group a + 1) k (size group - inside group a) (fromLast (size group) k) (λ e. omega arith) (λ e. omega (arith, fewer))
 
     stops : indicator (dual n works (rest + 2 ^ j)) - indicator (dual n works rest) ≡ indicator (works (a + 2 ^ j)) - indicator (works a)
     unfolding rest cut

@@ -1,5 +1,5 @@
--- Structures that agree on the sets of n parts have the same path counts, the same terms of 001's eq. 2, and so, where they are semicoherent, the
--- same counts of failure orders. Assumes nothing.
+-- Structures that agree on the sets of n parts have the same path counts and the same differences by a part, and so, where they are semicoherent,
+-- the same counts of failure orders. Assumes nothing.
 use mathlib.Core.Path.{_≡_, refl, sym, ap, ap₂, _∙_}
 use mathlib.Core.Bool.{Bool, true, false, cond, not, _&&_}
 use mathlib.Core.Logic.{_⊎_, inl, inr}

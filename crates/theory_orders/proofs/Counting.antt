@@ -8,13 +8,13 @@ use native.Mathlib.Nat.{zero-mul, one-mul, mul-assoc, add-comm, le-of-eq}
 use native.Mathlib.Omega.{arith}
 use native.Mathlib.Numerals.{sub-one}
 use lib.Dec.{eqb}
-use borrow.Author.Tests.{eqb-true, eq-eqb}
+use borrow.Author.Tests.{eqb-true}
 use Rattle.numbers.specs.Counts.{factorial}
 use Rattle.theory_sums.specs.Sums.{indicator, sum, howMany, sumBelow}
 use Rattle.theory_sums.proofs.Sums.{sum-same, some-is-howMany, sumBelow-same, sumBelow-add, sumBelow-mul, sumBelow-weights}
 use Rattle.theory_sets.specs.Masks.{has, size, inside}
 use Rattle.theory_sets.specs.Structures.{Semicoherent}
-use Rattle.numbers.proofs.Bools.{true-or-false, same-test}
+use Rattle.numbers.proofs.Bools.{true-or-false, same-eqb}
 use Rattle.theory_sets.proofs.Structures.{upward-by-parts}
 use Rattle.theory_orders.specs.Orders.{orders, mask}
 use Rattle.theory_orders.specs.Counting.{Entry, entries, stops, inGroup, stopsAsKth, count}
@@ -90,9 +90,6 @@ weighed s c x false true w p q = absurd (false≢true p)
 weighed s c x false false true p q = omega arith
 weighed s c x false false false p q = omega arith
 
-same-equality : (a b c d : ℕ) → (a ≡ b → c ≡ d) → (c ≡ d → a ≡ b) → eqb a b ≡ eqb c d
-same-equality a b c d f g = same-test (eqb a b) (eqb c d) (λ h. eq-eqb c d (f (eqb-true a b h))) (λ h. eq-eqb a b (g (eqb-true c d h)))
-
 -- a stop and a path set without the part make a path set with it; the letters are those of pair-stops
 stop-is-difference : (x : ℕ) (m b e w v : Bool) → (b ≡ false → w ≡ true → v ≡ true)
     → cond (m && not b && e) (x * (indicator v - indicator w)) 0 + indicator (m && not b) * (indicator e * x * indicator w)
@@ -136,7 +133,7 @@ module _ (n : ℕ) (works : ℕ → Bool) (coherent : Semicoherent n works) (gro
         ∙ sumBelow-same _ _ (2 ^ n) (λ a h.
         let all : missing n group a + inside group a ≡ size group = missing-inside n group a within h in
         weighed (missing n group a) k (ways a) (eqb (missing n group a) k) (eqb (inside group a) (size group - k)) (works a)
-        (same-equality (missing n group a) k (inside group a) (size group - k) (λ e. omega arith) (λ e. omega arith))
+        (same-eqb (missing n group a) k (inside group a) (size group - k) (λ e. omega arith) (λ e. omega arith))
         (eqb-true (missing n group a) k)
         ∙ ap (λ (u : ℕ). cond (works a && eqb (inside group a) (size group - k)) u 0)
         (sym (mul-assoc k (factorial (size a)) (factorial (n - size a - 1)))))
@@ -174,7 +171,7 @@ module _ (n : ℕ) (works : ℕ → Bool) (coherent : Semicoherent n works) (gro
         ap (λ (u : ℕ). u * reached a) (sym (size-meet n group a h))
         ∙ weighed (inside group a) (size group - k + 1) (factorial (size a - 1) * factorial (n - size a)) (eqb (suc (missing n group a)) k)
         (eqb (inside group a) (size group - k + 1)) (works a)
-        (same-equality (suc (missing n group a)) k (inside group a) (size group - k + 1) (λ e. omega arith) (λ e. omega arith))
+        (same-eqb (suc (missing n group a)) k (inside group a) (size group - k + 1) (λ e. omega arith) (λ e. omega arith))
         (λ t. omega (arith, eqb-true (suc (missing n group a)) k t))
         ∙ ap (λ (u : ℕ). cond (works a && eqb (inside group a) (size group - k + 1)) u 0)
         (sym (mul-assoc (size group - k + 1) (factorial (size a - 1)) (factorial (n - size a)))))

@@ -80,6 +80,10 @@ pub has-above : (a n i : ℕ) → a < 2 ^ n → n ≤ i → has a i ≡ false
 unfolding has
 has-above a n i h k = ap (λ (x : ℕ). eqb (x % 2) 1) (div-eq-of-lt (lt-of-lt-of-le h (pow-mono k)))
 
+-- the empty set has no part
+pub has-empty : (i : ℕ) → has 0 i ≡ false
+has-empty i = has-above 0 0 i (zero-lt-suc 0) zero-le
+
 no-bits : (a : ℕ) → ((i : ℕ) → has a i ≡ false) → a ≡ 0
 no-bits =
     bin-ind (λ (a : ℕ). ((i : ℕ) → has a i ≡ false) → a ≡ 0) (λ h. refl) (λ a rest h.
@@ -96,7 +100,7 @@ low-of-same a b h = cases (true-or-false (has b 0))
 pub same-bits : (a b : ℕ) → ((i : ℕ) → has a i ≡ has b i) → a ≡ b
 same-bits =
     bin-ind (λ (a : ℕ). (b : ℕ) → ((i : ℕ) → has a i ≡ has b i) → a ≡ b)
-    (λ b h. sym (no-bits b (λ i. sym (h i) ∙ has-above 0 0 i (zero-lt-suc 0) zero-le)))
+    (λ b h. sym (no-bits b (λ i. sym (h i) ∙ has-empty i)))
     (λ a rest b h.
     let half : a / 2 ≡ b / 2 = rest (b / 2) (λ i. sym (has-suc a i) ∙ h (suc i) ∙ has-suc b i) in
     omega (arith, low-of-same a b (h 0)))
@@ -257,10 +261,7 @@ has-low a (suc k) (suc i) h =
     ∙ ap (λ (x : ℕ). has x i) (ap (λ (m : ℕ). a % 2 ^ m / 2) (sym (add-one k)) ∙ field a k 1)
     ∙ has-low (a / 2 ^ 1) k i (le-of-suc-le-suc h) ∙ sym (has-suc a i)
 
--- the empty set has no part, and the set of a single part that one alone
-pub has-empty : (i : ℕ) → has 0 i ≡ false
-has-empty i = has-above 0 0 i (zero-lt-suc 0) zero-le
-
+-- the set of a single part has that one alone
 pub has-single : (i j : ℕ) → has (2 ^ i) j ≡ eqb j i
 has-single i j =
     ap (λ (x : ℕ). has x j) (sym (zero-add (2 ^ i))) ∙ has-add 0 i (has-empty i) j
@@ -271,7 +272,7 @@ pub join-held : (a i : ℕ) → has a i ≡ true → join a (2 ^ i) ≡ a
 join-held a i t = same-bits (join a (2 ^ i)) a (λ j. has-join a (2 ^ i) j ∙ ap (λ (b : Bool). has a j || b) (has-single i j) ∙ cases j (true-or-false (eqb j i)))
   where
     cases : (j : ℕ) → (eqb j i ≡ true) ⊎ (eqb j i ≡ false) → has a j || eqb j i ≡ has a j
-    cases j (inl e) = let own : has a j ≡ true = ap (has a) (eqb-true j i e) ∙ t in rw (own)
+    cases j (inl e) = let own : has a j ≡ true = ap (has a) (eqb-true j i e) ∙ t in rw own
     cases j (inr f) = rw f (or-false (has a j))
 
 pub join-more : (a i : ℕ) → has a i ≡ false → join a (2 ^ i) ≡ a + 2 ^ i

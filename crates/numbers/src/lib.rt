@@ -1,7 +1,9 @@
-// Factorials up to 16, as fixed numbers, binomials by their formula, powers of 2, and the numbers of a list. Callers use what the functions
-// mean, not how they find it.
+// Factorials up to 16, as fixed numbers, binomials by their formula, powers of 2, whether a number is in its range, and the numbers of a list.
+// Callers use what the functions mean, not how they find it.
 ghost use mathlib.Core.Path.{_≡_};
+ghost use mathlib.Core.Bool.{_&&_};
 ghost use Prim.Native.Nat.{_^_};
+ghost use lib.Dec.{leb};
 ghost use lib.ListN.{getD};
 ghost use Rattle.numbers.specs.Counts.{factorial as «n!», choose, upTo16};
 
@@ -54,6 +56,13 @@ pub fn power_of_two(n: usize) -> usize
     ensures { λ r. ⌜ r ≡ upTo16 n (2 ^ n) ⌝ }
 {
     if n <= 16 { 1 << n } else { 0 }
+}
+
+// Whether a number is 1 to `limit`.
+pub fn in_range(number: usize, limit: usize) -> bool
+    ensures { λ r. ⌜ r ≡ leb 1 number && leb number limit ⌝ }
+{
+    1 <= number && number <= limit
 }
 
 // The number at an index of a list, and 0 beyond the last.

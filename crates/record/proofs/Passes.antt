@@ -3,7 +3,7 @@
 -- Assumes nothing.
 use mathlib.Core.Path.{_≡_, refl, sym, ap, ap₂, _∙_, subst}
 use mathlib.Core.Bool.{Bool, true, false, not, _&&_}
-use mathlib.Core.List.{List, [], _∷_, _++_, append-assoc, append-nil, List·Memᴰ, List·Memᴰ·head, List·Memᴰ·tail, List·Memᴰ·not-nil, List·Memᴰ·cases-cons, List·Memᴰ·append-cases, Memᴰ·append-left, Memᴰ·append-right}
+use mathlib.Core.List.{List, [], _∷_, _++_, append-assoc, append-nil, List·Memᴰ, List·Memᴰ·head, List·Memᴰ·tail, List·Memᴰ·cases-cons, List·Memᴰ·append-cases, Memᴰ·append-left, Memᴰ·append-right}
 use mathlib.Core.Logic.{_⊎_, inl, inr}
 use Prim.Native.Nat.{ℕ, zero, suc, _+_, _-_, _^_, _≤_, _<_, min}
 use native.Mathlib.Nat.{lt-irrefl, lt-of-lt-of-le, lt-of-le-of-lt, min-eq-left, sub-le}
@@ -22,9 +22,9 @@ use Rattle.codec.specs.Reads.{Read, found, refused, then, unless}
 use Rattle.codec.specs.Reading.{numberAt}
 use Rattle.codec.specs.FieldReads.{judged, fieldAt, fieldsAt}
 use Rattle.theory_sets.specs.Masks.{has, holds, Rising, RisingFrom}
-use Rattle.theory_sets.specs.Structures.{Semicoherent, listed, minimal}
+use Rattle.theory_sets.specs.Structures.{listed, minimal}
 use Rattle.numbers.proofs.Bools.{clash, false-of, true-or-false, same-test, not-not}
-use Rattle.theory_sets.proofs.Lists.{listed-intro, listed-elim, listed-semicoherent}
+use Rattle.theory_sets.proofs.Lists.{listed-intro, listed-elim, listed-semicoherent, some-entry}
 use Rattle.theory_sets.proofs.Masks.{holds-refl, holds-trans, holds-le, holds-antisym}
 use Rattle.theory_sets.proofs.Ranges.{any-same, rising-above}
 use Rattle.theory_sets.proofs.Structures.{minimal-least, minimal-intro}
@@ -220,11 +220,7 @@ kept-minimal n sets few within a m =
     ∙ irredundant-below n reached (listed sets) (λ b h.
     spread-same (inWords (wordsOf (among sets))) (among sets) (inWords-wordsOf (among sets)) n b (lt-of-lt-of-le h inside)
     ∙ spread-listed n sets (λ c k. within c k .0) b h) a small
-    ∙ irredundant-minimal n (listed sets) (coherent sets m within) a small
-  where
-    coherent : (sets : List ℕ) → List·Memᴰ a sets → ((a : ℕ) → List·Memᴰ a sets → (a < 2 ^ n) × (0 < a)) → Semicoherent n (listed sets)
-    coherent [] k within = absurd (List·Memᴰ·not-nil k)
-    coherent (x ∷ xs) k within = listed-semicoherent n x xs within
+    ∙ irredundant-minimal n (listed sets) (listed-semicoherent n sets (some-entry sets m) within) a small
 
 -- the two passes decide what reading the sets one by one does
 pub passes-decide : (bytes : List ℕ) (n count start : ℕ) → n ≤ 16 → setsAt bytes n count [] start

@@ -3,12 +3,10 @@
 -- Assumes nothing.
 use mathlib.Core.Path.{_≡_, sym, subst}
 use mathlib.Core.Bool.{Bool, true}
-use mathlib.Core.List.{List, [], _∷_, List·Memᴰ, List·Memᴰ·not-nil}
+use mathlib.Core.List.{List, List·Memᴰ}
 use mathlib.Core.Logic.{_↔_}
 use Prim.Native.Nat.{ℕ, _-_, _^_, _≤_, _<_}
 use native.Mathlib.Nat.{lt-of-le-of-lt, pos-of-ne-zero}
-use native.Mathlib.Omega.{arith}
-use lib.ListN.{length}
 use lib.Pow.{ones-lt}
 use Rattle.theory_orders.proofs.Sperner.{minimalSets-most}
 use Rattle.theory_sets.specs.Masks.{holds}
@@ -17,12 +15,8 @@ use Rattle.numbers.proofs.Bools.{clash}
 use Rattle.theory_sets.proofs.Masks.{holds-refl, holds-trans, holds-antisym}
 use Rattle.theory_sets.proofs.Ranges.{those-elim, those-intro, those-rising}
 use Rattle.theory_sets.proofs.Structures.{minimal-works, minimal-least, minimal-intro, minimal-below}
-use Rattle.theory_sets.proofs.Lists.{listed-intro, listed-elim}
+use Rattle.theory_sets.proofs.Lists.{listed-intro, listed-elim, some-entry}
 use Rattle.record.specs.RecordBytes.{SetRules}
-
-some-entry : {a : ℕ} (xs : List ℕ) → List·Memᴰ a xs → 1 ≤ length xs
-some-entry [] m = absurd (List·Memᴰ·not-nil m)
-some-entry (x ∷ xs) m = omega arith
 
 pub minimal-set-rules : (n : ℕ) (works : ℕ → Bool) → n ≤ 16 → Semicoherent n works → SetRules n (minimalSets n works)
 minimal-set-rules n works few sc =

@@ -6,7 +6,7 @@ use mathlib.Core.Bool.{Bool, true, false}
 use mathlib.Core.List.{List, [], _∷_, List·Memᴰ, List·Memᴰ·head, List·Memᴰ·cases-cons}
 use mathlib.Core.Logic.{⊎-elim}
 use Prim.Native.Nat.{ℕ, zero, suc, _+_, _^_, _≤_, _<_}
-use native.Mathlib.Nat.{pow-succ', pos-of-ne-zero}
+use native.Mathlib.Nat.{pow-succ', pos-of-ne-zero, zero-lt-suc}
 use native.Mathlib.Omega.{arith}
 use borrow.Author.Tests.{eqb-true, eqb-false, ltb-false, leb-false}
 use lib.Dec.{eqb, ltb, leb}
@@ -79,8 +79,8 @@ sets-more n sets r =
     }
 
 -- a list of sets, none empty, gives minimal sets that keep the rules, however long it is
-pub listed-rules : (n set : ℕ) (sets : List ℕ) → n ≤ 16 → ((b : ℕ) → List·Memᴰ b (set ∷ sets) → (b < 2 ^ n) × (0 < b)) → SetRules n (minimalSets n (listed (set ∷ sets)))
-listed-rules n set sets few good = minimal-set-rules n (listed (set ∷ sets)) few (listed-semicoherent n set sets good)
+pub listed-rules : (n : ℕ) (sets : List ℕ) → n ≤ 16 → 1 ≤ length sets → ((b : ℕ) → List·Memᴰ b sets → (b < 2 ^ n) × (0 < b)) → SetRules n (minimalSets n (listed sets))
+listed-rules n sets few some good = minimal-set-rules n (listed sets) few (listed-semicoherent n sets some good)
 
 pub set-accepted : (set : ℕ) (d : Design) → addSetRefusal set d ≡ Accepted → (set < 2 ^ (d .parts .count)) × (0 < set)
 set-accepted set d accepted =
@@ -153,15 +153,14 @@ changed-rules (takeOutGroup group) d r accepted = without-rules group d r (group
 changed-rules (addSet set) d r accepted =
     record {
       parts = r .parts;
-      sets = listed-rules (d .parts .count) set (d .sets) (r .parts .rules .few) (with-set-within set d r accepted);
+      sets = listed-rules (d .parts .count) (set ∷ d .sets) (r .parts .rules .few) (zero-lt-suc (length (d .sets))) (with-set-within set d r accepted);
     }
 
 -- ---- a design of parts that already have numbers, and a first design
 
 -- the minimal sets of an accepted list keep the rules
 accepted-sets : (n : ℕ) (list : List ℕ) → AcceptedList n list → SetRules n (minimalSets n (listed list))
-accepted-sets n [] a = absurd (omega (arith, a .any-set))
-accepted-sets n (set ∷ sets) a = listed-rules n set sets (a .few) (a .sets)
+accepted-sets n list a = listed-rules n list (a .few) (a .any-set) (a .sets)
 
 pub entered-rules : (mark : ℕ) (numbers list : List ℕ) → enteredRefusal mark numbers list ≡ Accepted → DesignRules (enteredDesign mark numbers list)
 entered-rules mark numbers list accepted =

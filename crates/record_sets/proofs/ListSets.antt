@@ -1,7 +1,6 @@
 -- From some sets, marked in words, to their minimal sets, however many they are.
 -- Assumes nothing.
 use mathlib.Core.Path.{_≡_, refl, sym, ap, _∙_}
-use mathlib.Core.Bool.{Bool, true, false, _||_}
 use mathlib.Core.List.{List, [], _∷_, _++_, List·Memᴰ, List·Memᴰ·eq-of-singleton, List·Memᴰ·append-cases}
 use mathlib.Core.Logic.{⊎-elim}
 use Prim.Native.Nat.{ℕ, _+_, _^_, _≤_, _<_, min}
@@ -16,10 +15,9 @@ use Rattle.answer.specs.declared.Refusal.{Refusal}
 use Rattle.answer.specs.declared.Verdict.{Verdict}
 use Rattle.answer.specs.declared.Verdict.the-variants.{Accepted, Refused}
 use Rattle.answer.proofs.Outcomes.{refuse-accepted, refuse-passed, refuse-held}
-use Rattle.theory_sets.specs.Masks.{holds}
-use Rattle.theory_sets.specs.Structures.{Semicoherent, listed, minimalSets}
+use Rattle.theory_sets.specs.Structures.{listed, minimalSets}
 use Rattle.theory_sets.specs.Tables.{inTable, tableOf}
-use Rattle.theory_sets.proofs.Lists.{listed-semicoherent}
+use Rattle.theory_sets.proofs.Lists.{listed-semicoherent, listed-behind}
 use Rattle.numbers.proofs.Bounds.{below-or-above}
 use Rattle.theory_sets.proofs.Ranges.{those-same}
 use Rattle.theory_sets.proofs.Structures.{minimalSets-same}
@@ -46,7 +44,7 @@ pub sets-walk : (n : ℕ) (sets : List ℕ) → SomeSets n sets
 sets-walk n sets some =
     let few = some .few in
     let table = tableOf n (listed sets) in
-    let t = accepted-table n table (tableOf-accepted n (listed sets) (some .some) few (semicoherent sets (some .any-set) (some .within))) in
+    let t = accepted-table n table (tableOf-accepted n (listed sets) (some .some) few (listed-semicoherent n sets (some .any-set) (some .within))) in
     let reached : List ℕ = wordsOf (spread (min n 16) (inWords (wordsOf (among sets)))) in
     let loaded : List ℕ = wordsOf (inTable table) in
     let works : (a : ℕ) → a < 65536 → inWords reached a ≡ inWords loaded a =
@@ -63,22 +61,6 @@ sets-walk n sets some =
     inWords-wordsOf (irredundant (min n 16) (inWords reached)) a h ∙ irredundant-same (inWords reached) (inWords loaded) works (min n 16) a h
     ∙ sym (inWords-wordsOf (irredundant (min n 16) (inWords loaded)) a h))
     ∙ minimal-walk n table t ∙ minimalSets-same n (inTable table) (listed sets) (list-works n sets)
-  where
-    semicoherent : (xs : List ℕ) → 1 ≤ length xs → ((b : ℕ) → List·Memᴰ b xs → (b < 2 ^ n) × (0 < b)) → Semicoherent n (listed xs)
-    semicoherent [] h good = absurd (omega arith)
-    semicoherent (x ∷ xs) h good = listed-semicoherent n x xs good
-
--- a list gives the same structure with its first set put behind the others
-pub listed-behind : (xs : List ℕ) (x a : ℕ) → listed (xs ++ (x ∷ [])) a ≡ listed (x ∷ xs) a
-unfolding listed
-listed-behind [] x a = refl
-listed-behind (y ∷ ys) x a = ap (λ (p : Bool). holds a y || p) (listed-behind ys x a) ∙ swap (holds a y) (holds a x)
-  where
-    swap : (p q : Bool) → p || (q || listed ys a) ≡ q || (p || listed ys a)
-    swap true true = refl
-    swap true false = refl
-    swap false true = refl
-    swap false false = refl
 
 -- ---- a list, and one set more behind it
 

@@ -6,7 +6,7 @@ use mathlib.Core.Bool.{Bool, true, false, not, _&&_}
 use mathlib.Core.List.{List, [], _∷_, List·Memᴰ, List·Memᴰ·head, List·Memᴰ·tail, List·Memᴰ·not-nil, List·Memᴰ·cases-cons}
 use mathlib.Core.Logic.{_⊎_, inl, inr}
 use Prim.Native.Nat.{ℕ, suc, _+_, _-_, _*_, _^_, _≤_, _<_}
-use native.Mathlib.Nat.{pos-of-ne-zero, lt-irrefl, lt-of-lt-of-le, lt-of-le-of-lt, zero-lt-suc, zero-add}
+use native.Mathlib.Nat.{pos-of-ne-zero, lt-irrefl, lt-of-lt-of-le, lt-of-le-of-lt, zero-add}
 use native.Mathlib.Numerals.{add-one}
 use native.Mathlib.Omega.{arith}
 use lib.Dec.{leb, ltb, eqb}
@@ -24,7 +24,7 @@ use Rattle.theory_sets.specs.Masks.{has, holds, any, least, Rising}
 use Rattle.theory_sets.specs.Structures.{Covers, Semicoherent, listed, broken, minimal, minimalSets}
 use Rattle.theory_sets.specs.Tables.{packed, inTable, tableOf, tableLength}
 use Rattle.numbers.proofs.Bools.{and-left, and-right, and-both, clash}
-use Rattle.theory_sets.proofs.Lists.{listed-same, listed-semicoherent, minimal-listed, listed-minimal}
+use Rattle.theory_sets.proofs.Lists.{listed-same, listed-semicoherent, minimal-listed, listed-minimal, some-entry}
 use Rattle.numbers.proofs.Bounds.{below-or-above}
 use Rattle.theory_sets.proofs.Ranges.{any-false, any-none, any-same, those-elim, those-intro}
 use Rattle.theory_sets.proofs.Structures.{upward-by-parts, by-parts-upward, unbroken-by-parts, by-parts-unbroken, minimal-works, minimal-below, semicoherent-same, minimalSets-same}
@@ -181,8 +181,7 @@ list-accepted n list l =
 
 -- an accepted list gives a semicoherent structure
 pub listed-coherent : (n : ℕ) (list : List ℕ) → AcceptedList n list → Semicoherent n (listed list)
-listed-coherent n [] l = absurd (lt-irrefl 0 (l .any-set))
-listed-coherent n (x ∷ xs) l = listed-semicoherent n x xs (l .sets)
+listed-coherent n list l = listed-semicoherent n list (l .any-set) (l .sets)
 
 -- an accepted list's table is accepted
 pub list-table : (n : ℕ) (list : List ℕ) → listRefusal n list ≡ Accepted → tableRefusal n (tableOf n (listed list)) ≡ Accepted
@@ -220,7 +219,7 @@ minimal-accepted n table h =
     list-accepted n (minimalSets n (inTable table)) (record {
       some = t .some;
       few = t .few;
-      any-set = member-length (minimalSets n (inTable table)) (least-set .0)
+      any-set = some-entry (minimalSets n (inTable table))
           (those-intro (minimal n (inTable table)) (2 ^ n) (least-set .0) (lt-of-le-of-lt (least-set .1) (ones-lt n)) (least-set .2));
       most = minimalSets-most n (inTable table) (t .few);
       sets = λ b m.
@@ -233,10 +232,6 @@ minimal-accepted n table h =
 
     least-set : (b : ℕ) × (b ≤ 2 ^ n - 1) × (minimal n (inTable table) b ≡ true) × (holds (2 ^ n - 1) b ≡ true)
     least-set = minimal-below n (inTable table) (2 ^ n - 1) (t .semicoherent .full)
-
-    member-length : (xs : List ℕ) (a : ℕ) → List·Memᴰ a xs → 1 ≤ length xs
-    member-length [] a m = absurd (List·Memᴰ·not-nil m)
-    member-length (x ∷ xs) a m = zero-lt-suc (length xs)
 
 -- and they give back the same table
 pub minimal-table : (n : ℕ) (table : List ℕ) → ((b : ℕ) → getD table b 0 < 256) → tableRefusal n table ≡ Accepted

@@ -16,7 +16,7 @@ ghost use Rattle.structure.specs.Checks.{listRefusal, entriesRefusal, ta
 pub fn list_verdict(n: usize, list: &[u16]) -> Verdict
     ensures { λ r. ⌜ r ≡ listRefusal n (now (list .entry)) ⌝ }
 {
-    if !in_range(n) {
+    if !numbers::in_range(n, 16) {
         return answer::refused(answer::WRONG_PART_COUNT, 0);
     }
     if list.len() == 0 {
@@ -32,7 +32,7 @@ pub fn list_verdict(n: usize, list: &[u16]) -> Verdict
 pub fn table_verdict(n: usize, table: &[u8]) -> Verdict
     ensures { λ r. ⌜ r ≡ tableRefusal n (now (table .entry)) ⌝ }
 {
-    if !in_range(n) {
+    if !numbers::in_range(n, 16) {
         return answer::refused(answer::WRONG_PART_COUNT, 0);
     }
     if table.len() != table_length(n) {
@@ -105,13 +105,6 @@ fn entries_verdict(n: usize, list: &[u16]) -> Verdict
         }
     }
     Verdict::Accepted
-}
-
-// Whether n is a number of parts that a structure may have.
-fn in_range(n: usize) -> bool
-    ensures { λ r. ⌜ r ≡ leb 1 n && leb n 16 ⌝ }
-{
-    1 <= n && n <= 16
 }
 
 // Whether a table's first byte has a bit that is for no set of n parts.

@@ -1,12 +1,13 @@
 -- Laws of the list form: a list of sets gives a semicoherent structure, repeats, nesting and order in the list do not matter, the minimal
 -- sets of a structure give it back, and a rising list of sets none of which holds another is the minimal sets of what it gives.
 -- Assumes nothing.
-use mathlib.Core.Path.{_≡_, refl, sym, subst}
-use mathlib.Core.Bool.{Bool, true, _||_}
-use mathlib.Core.List.{List, [], _∷_, List·Memᴰ, List·Memᴰ·head, List·Memᴰ·tail, List·Memᴰ·cases-cons}
+use mathlib.Core.Path.{_≡_, refl, sym, ap, subst, _∙_}
+use mathlib.Core.Bool.{Bool, true, false, _||_}
+use mathlib.Core.List.{List, [], _∷_, _++_, List·Memᴰ, List·Memᴰ·head, List·Memᴰ·tail, List·Memᴰ·cases-cons, List·Memᴰ·not-nil}
 use mathlib.Core.Logic.{_⊎_, inl, inr}
-use Prim.Native.Nat.{ℕ, _-_, _^_, _<_}
-use native.Mathlib.Nat.{lt-of-le-of-lt, lt-irrefl, lt-of-lt-of-le}
+use Prim.Native.Nat.{ℕ, _-_, _^_, _≤_, _<_}
+use native.Mathlib.Nat.{lt-of-le-of-lt, lt-irrefl, lt-of-lt-of-le, zero-lt-suc}
+use lib.ListN.{length}
 use Rattle.theory_sets.specs.Masks.{holds, Rising}
 use Rattle.theory_sets.specs.Structures.{Covers, Semicoherent, listed, minimal, minimalSets}
 use Rattle.numbers.proofs.Bools.{or-cases, or-left, or-right, clash, false-of, same-test}
@@ -43,9 +44,27 @@ covered xs ys cover a h =
 pub listed-same : (xs ys : List ℕ) → Covers xs ys → Covers ys xs → (a : ℕ) → listed xs a ≡ listed ys a
 listed-same xs ys there back a = same-test (listed xs a) (listed ys a) (covered xs ys there a) (covered ys xs back a)
 
--- a list of sets that are not empty gives a semicoherent structure
-pub listed-semicoherent : (n : ℕ) (x : ℕ) (xs : List ℕ) → ((b : ℕ) → List·Memᴰ b (x ∷ xs) → (b < 2 ^ n) × (0 < b)) → Semicoherent n (listed (x ∷ xs))
-listed-semicoherent n x xs good = record {
+-- a list gives the same structure with its first set put behind the others
+pub listed-behind : (xs : List ℕ) (x a : ℕ) → listed (xs ++ (x ∷ [])) a ≡ listed (x ∷ xs) a
+unfolding listed
+listed-behind [] x a = refl
+listed-behind (y ∷ ys) x a = ap (λ (p : Bool). holds a y || p) (listed-behind ys x a) ∙ swap (holds a y) (holds a x)
+  where
+    swap : (p q : Bool) → p || (q || listed ys a) ≡ q || (p || listed ys a)
+    swap true true = refl
+    swap true false = refl
+    swap false true = refl
+    swap false false = refl
+
+-- a list that has a member has an entry
+pub some-entry : {a : ℕ} (xs : List ℕ) → List·Memᴰ a xs → 1 ≤ length xs
+some-entry [] m = absurd (List·Memᴰ·not-nil m)
+some-entry (x ∷ xs) m = zero-lt-suc (length xs)
+
+-- a list that has a set, none of them empty, gives a semicoherent structure
+pub listed-semicoherent : (n : ℕ) (sets : List ℕ) → 1 ≤ length sets → ((b : ℕ) → List·Memᴰ b sets → (b < 2 ^ n) × (0 < b)) → Semicoherent n (listed sets)
+listed-semicoherent n [] some good = absurd (lt-irrefl 0 some)
+listed-semicoherent n (x ∷ xs) some good = record {
   upward = λ a b ha hb within h.
       let found = listed-elim (x ∷ xs) a h in
       listed-intro (x ∷ xs) b (found .0) (found .1) (holds-trans b a (found .0) within (found .2));

@@ -112,3 +112,7 @@ wrongLine = 27
 -- a position stands twice on a line of a drawing's text, or a part number twice among those that are wanted
 abbrev pub repeatedPosition : ℕ
 repeatedPosition = 28
+
+-- the threshold k of a pattern is not 1 to n
+abbrev pub wrongThreshold : ℕ
+wrongThreshold = 29

@@ -84,6 +84,8 @@ pub const WRONG_LINE: u8 = 27;
 
 pub const REPEATED_POSITION: u8 = 28;
 
+pub const WRONG_THRESHOLD: u8 = 29;
+
 // A refusal by its number and place, as a verdict.
 pub fn refused(number: u8, place: usize) -> Verdict
     ensures { λ r. ⌜ r ≡ Verdict.Refused (at number place) ⌝ }

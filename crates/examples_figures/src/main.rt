@@ -3,12 +3,14 @@
 use answer::Verdict;
 use answer::Written;
 use libc::STDOUT_FILENO;
+use structure_patterns::Pattern;
 use vector_kind::Kind;
 
 fn main() {
     tables();
     lists();
     cut_sets();
+    patterns();
     figures();
     shares();
     vectors();
@@ -111,6 +113,40 @@ fn refused_cuts() {
     cuts(b"n = 2, cuts {1} {3}", 2, &[1, 4]);
     cuts(b"n = 2, cut {1} and the empty set", 2, &[1, 0]);
     cuts(b"n = 0, cut {1}", 0, &[1]);
+}
+
+// Stock patterns to tables, to their minimal path sets and cut sets, and to their duals (02, §6).
+fn patterns() {
+    say(b"patterns\n");
+    numbers_working();
+    neighbours_failed();
+    refused_patterns();
+}
+
+fn numbers_working() {
+    pattern(b"at least 1 of 2", Pattern::AtLeast, 2, 1);
+    pattern(b"at least 2 of 2", Pattern::AtLeast, 2, 2);
+    pattern(b"at least 2 of 3", Pattern::AtLeast, 3, 2);
+}
+
+fn neighbours_failed() {
+    pattern(b"row of 4, 2 neighbours", Pattern::Row, 4, 2);
+    pattern(b"ring of 4, 2 neighbours", Pattern::Ring, 4, 2);
+    pattern(b"row of 4, all 4", Pattern::Row, 4, 4);
+    pattern(b"ring of 4, all 4", Pattern::Ring, 4, 4);
+}
+
+fn refused_patterns() {
+    pattern(b"at least 0 of 3", Pattern::AtLeast, 3, 0);
+    pattern(b"row of 3, 4 neighbours", Pattern::Row, 3, 4);
+    pattern(b"ring of 0, 1 neighbour", Pattern::Ring, 0, 1);
+    pattern(b"ring of 17, 18 neighbours", Pattern::Ring, 17, 18);
+    pattern(
+        b"ring of 6, 2 neighbours, 4 bytes lent",
+        Pattern::Ring,
+        6,
+        2,
+    );
 }
 
 // The figures of the papers' systems.
@@ -383,12 +419,31 @@ fn table_cuts_and_dual(n: usize, masks: &[u16]) {
     let wrote = structure_cuts::table_of_cuts(n, masks, &mut bytes);
     match wrote {
         Written::Refused(refusal) => refused(refusal.number, refusal.place),
-        Written::Length(length) => {
-            show_bytes(&bytes, length);
-            minimal(n, &bytes, length);
-            cuts_and_dual(n, &bytes, length);
-        }
+        Written::Length(length) => forms_of_table(n, &bytes, length),
     }
+}
+
+fn pattern(name: &[u8], shape: Pattern, n: usize, k: usize) {
+    say(name);
+    say(b": ");
+    table_of_pattern(shape, n, k);
+    say(b"\n");
+}
+
+fn table_of_pattern(shape: Pattern, n: usize, k: usize) {
+    let mut bytes = [0u8; 4];
+    let wrote = structure_patterns::table_of_pattern(shape, n, k, &mut bytes);
+    match wrote {
+        Written::Refused(refusal) => refused(refusal.number, refusal.place),
+        Written::Length(length) => forms_of_table(n, &bytes, length),
+    }
+}
+
+// The table in front of a buffer, its minimal sets, its minimal cut sets and its dual.
+fn forms_of_table(n: usize, bytes: &[u8], length: usize) {
+    show_bytes(bytes, length);
+    minimal(n, bytes, length);
+    cuts_and_dual(n, bytes, length);
 }
 
 // The minimal cut sets and the dual of the table in front of a buffer.

@@ -6,12 +6,14 @@ use record::Contents;
 use record::Cursor;
 use record::Step;
 use sheet_entries::EntriesRead;
+use structure_patterns::Pattern;
 ghost use mathlib.Core.Path.{_≡_};
 ghost use Rattle.answer.specs.Outcome.{at, outcome, retold, delivered};
 ghost use Rattle.theory_sets.specs.Structures.{listed, minimalSets};
 ghost use Rattle.theory_sets.specs.Tables.{inTable, tableOf};
 ghost use Rattle.theory_cuts.specs.Cuts.{minimalCuts, byCuts, dualTable};
 ghost use Rattle.structure.specs.Checks.{listRefusal, tableRefusal};
+ghost use Rattle.structure_patterns.specs.Patterns.{patterned, patternRefusal};
 ghost use Rattle.theory_figures.specs.Figures.{pathCounts, tails, signatures, dominations, importances};
 ghost use Rattle.figures.specs.All.{buffersOf, allFigures};
 ghost use Rattle.shares_claim.specs.Refusals.{sharesRefusal};
@@ -129,6 +131,30 @@ pub extern "C" fn nahokipe_dual(n: usize, table: &[u8], buffer: &mut [u8]) -> An
     ensures { λ r. ⌜ outcome r (now (buffer .exit)) ≡ retold ofWritten (delivered (tableRefusal n (now (table .entry))) (dualTable n (now (table .entry))) (now (buffer .entry))) ⌝ }
 {
     of_written(structure_cuts::dual(n, table, buffer))
+}
+
+// The table of the machine that runs exactly if at least k of n parts work.
+#[no_mangle]
+pub extern "C" fn nahokipe_table_at_least(n: usize, k: usize, table: &mut [u8]) -> Answer
+    ensures { λ r. ⌜ outcome r (now (table .exit)) ≡ retold ofWritten (delivered (patternRefusal n k) (tableOf n (patterned Pattern.AtLeast n k)) (now (table .entry))) ⌝ }
+{
+    of_written(structure_patterns::table_of_pattern(Pattern::AtLeast, n, k, table))
+}
+
+// The table of the machine that is stopped exactly by k failed neighbours in a row.
+#[no_mangle]
+pub extern "C" fn nahokipe_table_of_row(n: usize, k: usize, table: &mut [u8]) -> Answer
+    ensures { λ r. ⌜ outcome r (now (table .exit)) ≡ retold ofWritten (delivered (patternRefusal n k) (tableOf n (patterned Pattern.Row n k)) (now (table .entry))) ⌝ }
+{
+    of_written(structure_patterns::table_of_pattern(Pattern::Row, n, k, table))
+}
+
+// The same in a ring.
+#[no_mangle]
+pub extern "C" fn nahokipe_table_of_ring(n: usize, k: usize, table: &mut [u8]) -> Answer
+    ensures { λ r. ⌜ outcome r (now (table .exit)) ≡ retold ofWritten (delivered (patternRefusal n k) (tableOf n (patterned Pattern.Ring n k)) (now (table .entry))) ⌝ }
+{
+    of_written(structure_patterns::table_of_pattern(Pattern::Ring, n, k, table))
 }
 
 // The path counts φ(0) to φ(n) of a table.

@@ -1,0 +1,1 @@
+// Stock patterns: definitions in specs/ and their laws in proofs/, no function.

@@ -75,6 +75,7 @@ extern "C" {
  *   27  a line of a drawing's text is of another form; the line's number, from 1. An empty text is 27 at 1
  *   28  a position stands twice on a line of a drawing's text, or a part number twice among those wanted; the line's number, from 1, and 0
  *       for a part number
+ *   29  k is not 1 to n
  *
  * A record's own n, count and sets are refused with 1 to 5 as well, and then the place is the position of the number's first byte. A
  * drawing's text is refused with 1, 2, 3 and 17 as well, and then the place is the line's number, from 1.
@@ -118,6 +119,7 @@ typedef struct nahokipe_answer {
 #define NAHOKIPE_WRONG_KIND 26
 #define NAHOKIPE_WRONG_LINE 27
 #define NAHOKIPE_REPEATED_POSITION 28
+#define NAHOKIPE_WRONG_THRESHOLD 29
 
 /* The kinds of vectors by name; "Vectors", below, says what they are. */
 #define NAHOKIPE_PATH_COUNTS 1
@@ -180,6 +182,22 @@ nahokipe_answer nahokipe_minimal_cuts(size_t n, const uint8_t *table, size_t tab
  * for every n. The dual's dual is that table again, and the dual's signature is that of the given table reversed. Refused: 1, 6 to 11.
  */
 nahokipe_answer nahokipe_dual(size_t n, const uint8_t *table, size_t table_len, uint8_t *dual, size_t dual_len);
+
+/*
+ * Stock patterns. Each call writes the table of a machine of n parts with a threshold k, 1 to n. That is the greater of 1 and 2^n / 8 bytes:
+ * NAHOKIPE_LONGEST_TABLE is enough for every n. nahokipe_minimal_sets of the table is a list for nahokipe_first_record, or for
+ * nahokipe_entered_record where the parts have numbers. Neighbours are parts at positions that follow each other, whatever their part numbers
+ * are. Refused, in this order: 1, 29, 11.
+ */
+
+/* The machine runs exactly if at least k of its n parts work: in each of the n! orders it is failure number n - k + 1 that stops it. */
+nahokipe_answer nahokipe_table_at_least(size_t n, size_t k, uint8_t *table, size_t table_len);
+
+/* The parts stand in a row, and the machine is stopped exactly if some k neighbours have all failed, whatever else has failed with them. */
+nahokipe_answer nahokipe_table_of_row(size_t n, size_t k, uint8_t *table, size_t table_len);
+
+/* The same in a ring, where positions n and 1 are neighbours too. With k = n the machine is stopped exactly if all parts have failed. */
+nahokipe_answer nahokipe_table_of_ring(size_t n, size_t k, uint8_t *table, size_t table_len);
 
 /*
  * The figures of a table. Orders in which the n parts fail are counted, n! in all, so 16! at most.

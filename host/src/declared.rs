@@ -79,6 +79,9 @@ pub(crate) type OfTable<T> = unsafe extern "C" fn(usize, *const u8, usize, *mut 
 pub(crate) type OfGroup =
     unsafe extern "C" fn(usize, *const u8, usize, usize, *mut i64, usize) -> Answer;
 
+/// A call that makes the table of a stock pattern.
+pub(crate) type OfPattern = unsafe extern "C" fn(usize, usize, *mut u8, usize) -> Answer;
+
 /// A call that works on bytes and writes into a buffer.
 pub(crate) type OfBytes = unsafe extern "C" fn(*const u8, usize, *mut u8, usize) -> Answer;
 
@@ -129,6 +132,27 @@ extern "C" {
         table_len: usize,
         dual: *mut u8,
         dual_len: usize,
+    ) -> Answer;
+
+    pub(crate) fn nahokipe_table_at_least(
+        n: usize,
+        k: usize,
+        table: *mut u8,
+        table_len: usize,
+    ) -> Answer;
+
+    pub(crate) fn nahokipe_table_of_row(
+        n: usize,
+        k: usize,
+        table: *mut u8,
+        table_len: usize,
+    ) -> Answer;
+
+    pub(crate) fn nahokipe_table_of_ring(
+        n: usize,
+        k: usize,
+        table: *mut u8,
+        table_len: usize,
     ) -> Answer;
 
     pub(crate) fn nahokipe_path_counts(

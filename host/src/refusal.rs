@@ -37,7 +37,7 @@ pub struct Refusal {
 }
 
 /// The reasons from number 1 on, in the words of include/nahokipe.h.
-const REASONS: [&str; 28] = [
+const REASONS: [&str; 29] = [
     "n is not 1 to 16",
     "the list is empty",
     "the list has over 12,870 sets",
@@ -66,6 +66,7 @@ const REASONS: [&str; 28] = [
     "the kind is not 1 to 4",
     "a line of a drawing's text is of another form",
     "a position stands twice on a line of a drawing's text, or a part number twice among those wanted",
+    "k is not 1 to n",
 ];
 
 impl Refusal {

@@ -6,13 +6,14 @@ use nahokipe::{
     first_record, importance, lent, minimal_cuts, minimal_sets, path_counts, read_sheet,
     record_of_drawing, refused_line, reliability, report, sets_of_record, shares_by_both_routes,
     shares_by_reliability, shares_by_sets, signature, table_of_cuts, table_of_list,
-    table_of_record, tail, take_out, take_out_group, take_out_part, take_out_parts, vector_verdict,
-    write_sheet, Figures, Kind, Refusal, Vector,
+    table_of_pattern, table_of_record, tail, take_out, take_out_group, take_out_part,
+    take_out_parts, vector_verdict, write_sheet, Figures, Kind, Refusal, Vector,
 };
 use nahokipe_testing::making::{damaged_drawing, damaged_record, flipped, largest_drawing};
 use nahokipe_testing::making::{largest_record, random_drawing, random_group, random_list};
 use nahokipe_testing::making::{random_record, random_set, random_table, random_wanted};
 use nahokipe_testing::making::{sets_of_size, six_of_sixteen, table_of_sets, unknown_number};
+use nahokipe_testing::naive_patterns::{self, PATTERNS};
 use nahokipe_testing::naive_records::{changed, whole_record, Change};
 use nahokipe_testing::seeded::Seeded;
 use nahokipe_testing::{naive, naive_cuts, naive_drawing, naive_figures, naive_records};
@@ -87,6 +88,19 @@ fn lists() {
             compare_list(n, &list);
             list.push(0);
             compare_list(n, &list);
+        }
+    }
+}
+
+/// k at both ends of what is accepted, in the middle, and outside.
+#[test]
+fn patterns() {
+    for n in 0..=18 {
+        for k in [0, 1, n / 2, n, n + 1] {
+            for pattern in PATTERNS {
+                let expected = naive_patterns::table_of_pattern(pattern, n, k);
+                assert!(table_of_pattern(pattern, n, k) == expected);
+            }
         }
     }
 }

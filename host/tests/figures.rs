@@ -8,7 +8,8 @@ use nahokipe_testing::known::REFUSED_TABLES;
 use nahokipe_testing::making::{flipped, machines, random_table, sets_of_size, table_of_sets};
 use nahokipe_testing::naive::{self, refused, structure_of};
 use nahokipe_testing::naive_figures::{self as by_formulas, all_delivered, binomial, factorial};
-use nahokipe_testing::naive_figures::{failure_orders, listed, Buffers, Figures, Listed};
+use nahokipe_testing::naive_figures::{failure_orders, figures_of_any, listed};
+use nahokipe_testing::naive_figures::{Buffers, Figures, Listed};
 use nahokipe_testing::seeded::Seeded;
 
 /// What buffers are filled with: a pattern and its opposite.
@@ -221,35 +222,15 @@ fn all_figures_at_once_are_those_of_the_single_calls() {
 
 // ---- known machines
 
-/// A machine that runs on any m of its n parts: failure n-m+1 stops it in every order, all parts count the same, and d(k) is known.
+/// Machines that run on any m of their n parts, whose figures are known.
 #[test]
 fn any_m_of_n_parts() {
     for n in 1..=16 {
         for m in 1..=n {
-            let figures = given(n, &table_of_sets(n, &sets_of_size(n, m as u32)));
-            for k in 0..=n {
-                let runs = n - k >= m;
-                let sets = if k >= m { binomial(n, k) } else { 0 };
-                assert_eq!(figures.counts[k] as i128, sets);
-                let orders = if runs { factorial(n) } else { 0 };
-                assert_eq!(figures.tail[k] as i128, orders);
-                assert_eq!(figures.domination[k] as i128, domination_of_any(m, n, k));
-            }
-            let mut signature = vec![0; n];
-            signature[n - m] = factorial(n) as i64;
-            assert_eq!(figures.signature, signature);
-            assert_eq!(figures.importance, vec![factorial(n - 1) as u64; n]);
+            let table = table_of_sets(n, &sets_of_size(n, m as u32));
+            assert_eq!(given(n, &table), figures_of_any(m, n), "{m} of {n}");
         }
     }
-}
-
-/// (-1)^(k-m) × C(n,k) × C(k-1,m-1), and 0 below m.
-fn domination_of_any(m: usize, n: usize, k: usize) -> i128 {
-    if k < m {
-        return 0;
-    }
-    let sign = if (k - m) % 2 == 1 { -1 } else { 1 };
-    sign * binomial(n, k) * binomial(k - 1, m - 1)
 }
 
 /// A machine that runs exactly while one of its parts does: that part stops it in every order, at each failure equally often.

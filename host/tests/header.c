@@ -80,6 +80,39 @@ static void test_cuts(void)
     expect_bytes("dual", dual, turned, sizeof dual);
 }
 
+typedef nahokipe_answer pattern_call(size_t n, size_t k, uint8_t *table, size_t table_len);
+
+/* Four parts and k = 2, refused first, which leaves the buffer as it was, and then its table and its minimal cut sets. */
+static void test_pattern(const char *name, pattern_call *call, const uint8_t *expected, const uint16_t *minimal, size_t count)
+{
+    uint8_t untouched[3], table[3];
+    uint16_t cuts[4];
+
+    memset(untouched, 0xA5, sizeof untouched);
+    memset(table, 0xA5, sizeof table);
+    expect(name, call(0, 0, table, 3), NAHOKIPE_WRONG_PART_COUNT, 0);
+    expect(name, call(17, 2, table, 3), NAHOKIPE_WRONG_PART_COUNT, 0);
+    expect(name, call(4, 0, table, 3), NAHOKIPE_WRONG_THRESHOLD, 0);
+    expect(name, call(4, 5, table, 1), NAHOKIPE_WRONG_THRESHOLD, 0);
+    expect(name, call(4, ((size_t)1 << 32) + 2, table, 3), NAHOKIPE_WRONG_THRESHOLD, 0);
+    expect(name, call(4, 2, table, 1), NAHOKIPE_SHORT_BUFFER, 2);
+    expect_bytes(name, table, untouched, sizeof table);
+    expect(name, call(4, 2, table, 3), 0, 2);
+    expect_bytes(name, table, expected, sizeof table);
+    expect(name, nahokipe_minimal_cuts(4, table, 2, cuts, 4), 0, count);
+    expect_bytes(name, cuts, minimal, count * sizeof cuts[0]);
+}
+
+static void test_patterns(void)
+{
+    static const uint8_t at_least[3] = {0xE8, 0xFE, 0xA5}, row[3] = {0xE0, 0xEC, 0xA5}, ring[3] = {0xA0, 0xEC, 0xA5};
+    static const uint16_t any_three[4] = {7, 11, 13, 14}, in_a_row[3] = {3, 6, 12}, in_a_ring[4] = {3, 6, 9, 12};
+
+    test_pattern("table_at_least", nahokipe_table_at_least, at_least, any_three, 4);
+    test_pattern("table_of_row", nahokipe_table_of_row, row, in_a_row, 3);
+    test_pattern("table_of_ring", nahokipe_table_of_ring, ring, in_a_ring, 4);
+}
+
 /* What the figures write: seven cells each, of which those behind the result stay 99. */
 static const int64_t counts[7] = {0, 0, 2, 8, 5, 1, 99};
 static const int64_t tail[7] = {120, 120, 96, 24, 0, 0, 99};
@@ -478,6 +511,7 @@ int main(void)
 {
     test_structures();
     test_cuts();
+    test_patterns();
     test_vector("path_counts", nahokipe_path_counts, counts, 6);
     test_vector("tail", nahokipe_tail, tail, 6);
     test_vector("signature", nahokipe_signature, signature, 5);

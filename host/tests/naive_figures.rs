@@ -1,6 +1,6 @@
 //! The naive figures against document 01's examples and against each other: what the other tests compare with must be right.
 
-use nahokipe_testing::making::random_list;
+use nahokipe_testing::making::{random_list, sets_of_size};
 use nahokipe_testing::naive::{path_sets, refused};
 use nahokipe_testing::naive_figures::*;
 use nahokipe_testing::seeded::Seeded;
@@ -127,6 +127,17 @@ fn orders_and_formulas_agree() {
                 importance: figures.importance,
             };
             assert_eq!(listed(&works, &orders), expected, "n = {n}, {works:?}");
+        }
+    }
+}
+
+/// The closed form of machines that run on any m of their n parts.
+#[test]
+fn figures_of_any_m_of_n_parts() {
+    for n in 1..=9 {
+        for m in 1..=n {
+            let works = path_sets(n, &sets_of_size(n, m as u32));
+            assert_eq!(figures_of(n, &works), figures_of_any(m, n), "{m} of {n}");
         }
     }
 }

@@ -54,7 +54,7 @@ pub fn print_row(name: &str, first: Vec<u128>, second: Vec<u128>) {
 }
 
 /// In microseconds.
-fn median(mut times: Vec<u128>) -> f64 {
+pub fn median(mut times: Vec<u128>) -> f64 {
     times.sort_unstable();
     times[times.len() / 2] as f64 / 1000.0
 }

@@ -3,8 +3,8 @@
 use crate::naive;
 use crate::naive_records::{self as by_words, Change, Reading};
 use nahokipe::lent::{add_part, add_set, add_set_of_parts, RecordAnswer};
-use nahokipe::lent::{take_out, take_out_group, take_out_part, take_out_parts};
-use nahokipe::Refusal;
+use nahokipe::lent::{table_of_pattern, take_out, take_out_group, take_out_part, take_out_parts};
+use nahokipe::{Pattern, Refusal};
 use std::collections::BTreeSet;
 use std::fmt::Debug;
 
@@ -56,6 +56,16 @@ pub type OfList = fn(usize, &[u16], &mut [u8]) -> Result<usize, Refusal>;
 pub fn same_of_list(call: OfList, (n, list): (usize, &[u16]), expected: &Result<Vec<u8>, Refusal>) {
     let call = |table: &mut [u8]| call(n, list, table);
     same_in_buffers(call, expected, table_cells(n), || about_list(n, list));
+}
+
+/// A stock pattern of n parts with its number k, into buffers of every length that matters.
+pub fn same_of_pattern(
+    (pattern, n, k): (Pattern, usize, usize),
+    expected: &Result<Vec<u8>, Refusal>,
+) {
+    let call = |table: &mut [u8]| table_of_pattern(pattern, n, k, table);
+    let about = || format!("{pattern:?}, n = {n}, k = {k}");
+    same_in_buffers(call, expected, table_cells(n), about);
 }
 
 /// As many bytes as a table of n parts has, and the patterns that they are filled with.

@@ -1,8 +1,9 @@
 //! Records, vectors, texts and tables that are refused, with the number and the place that documents 01 and 02 give them, groups with what
-//! taking them out comes to, records that are entered, changes by part numbers, texts with their records, and machines with their cut sets:
-//! worked out by hand, and asked of the calculator and of the second implementation alike.
+//! taking them out comes to, records that are entered, changes by part numbers, texts with their records, machines with their cut sets, and
+//! stock patterns: worked out by hand, and asked of the calculator and of the second implementation alike.
 
 use crate::naive_records::{Change, TOP_NUMBER};
+use nahokipe::Pattern::{self, AtLeast, Ring, Row};
 
 /// Bytes, and their refusal's number and place.
 pub type RefusedRecord = (&'static [u8], u8, usize);
@@ -460,4 +461,50 @@ pub const CUT_MACHINES: [CutMachine; 9] = [
         [&[9, 14, 18, 21], &[3, 14, 21, 24]],
         [&[0x00, 0xEA, 0xEC, 0xEE], &[0x88, 0xC8, 0xA8, 0xFF]],
     ),
+];
+
+/// A stock pattern, n and k, and the table.
+pub type StockMachine = (Pattern, usize, usize, &'static [u8]);
+
+/// All of up to two parts, and those of three and four in which the patterns differ; four parts in a ring with k = 4 run on any one.
+pub const STOCK_MACHINES: [StockMachine; 18] = [
+    (AtLeast, 1, 1, &[0x02]),
+    (Row, 1, 1, &[0x02]),
+    (Ring, 1, 1, &[0x02]),
+    (AtLeast, 2, 1, &[0x0E]),
+    (AtLeast, 2, 2, &[0x08]),
+    (Row, 2, 1, &[0x08]),
+    (Row, 2, 2, &[0x0E]),
+    (Ring, 2, 1, &[0x08]),
+    (Ring, 2, 2, &[0x0E]),
+    (AtLeast, 3, 2, &[0xE8]),
+    (Row, 3, 2, &[0xEC]),
+    (AtLeast, 4, 2, &[0xE8, 0xFE]),
+    (AtLeast, 4, 3, &[0x80, 0xE8]),
+    (Row, 4, 2, &[0xE0, 0xEC]),
+    (Ring, 4, 2, &[0xA0, 0xEC]),
+    (Row, 4, 3, &[0xFC, 0xFE]),
+    (Ring, 4, 3, &[0xE8, 0xFE]),
+    (Ring, 4, 4, &[0xFE, 0xFF]),
+];
+
+/// n and k of a stock pattern, and the number of the refusal, whose place is 0.
+pub type RefusedPattern = (usize, usize, u8);
+
+/// n first, then k.
+pub const REFUSED_PATTERNS: [RefusedPattern; 14] = [
+    (0, 0, 1),
+    (0, 1, 1),
+    (17, 0, 1),
+    (17, 5, 1),
+    (17, 18, 1),
+    (usize::MAX, 1, 1),
+    (usize::MAX, usize::MAX, 1),
+    (1, 0, 29),
+    (1, 2, 29),
+    (5, 0, 29),
+    (5, 6, 29),
+    (5, 256 + 5, 29),
+    (16, 17, 29),
+    (16, usize::MAX, 29),
 ];

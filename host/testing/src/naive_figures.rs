@@ -171,6 +171,32 @@ fn narrow<T: TryFrom<i128>>(number: i128) -> T {
     T::try_from(number).ok().expect("a number of 64 bits")
 }
 
+/// All figures of a machine that runs on any m of its n parts: failure n-m+1 stops it in every order, and all parts count the same.
+pub fn figures_of_any(m: usize, n: usize) -> Figures {
+    let all = narrow(factorial(n));
+    let counts = (0..=n).map(|k| if k >= m { binomial(n, k) } else { 0 });
+    Figures {
+        counts: counts.map(narrow).collect(),
+        tail: (0..=n).map(|k| if n - k >= m { all } else { 0 }).collect(),
+        signature: (1..=n)
+            .map(|k| if k == n - m + 1 { all } else { 0 })
+            .collect(),
+        domination: (0..=n)
+            .map(|k| narrow(domination_of_any(m, n, k)))
+            .collect(),
+        importance: vec![narrow(factorial(n - 1)); n],
+    }
+}
+
+/// (-1)^(k-m) × C(n,k) × C(k-1,m-1), and 0 below m.
+fn domination_of_any(m: usize, n: usize, k: usize) -> i128 {
+    if k < m {
+        return 0;
+    }
+    let sign = if (k - m) % 2 == 1 { -1 } else { 1 };
+    sign * binomial(n, k) * binomial(k - 1, m - 1)
+}
+
 /// All figures of a table, or the table's refusal.
 pub fn figures(n: usize, table: &[u8]) -> Result<Figures, Refusal> {
     table_verdict(n, table)?;

@@ -116,16 +116,19 @@ impl Arguments {
 
     /// Wrong use of this command, and how it is used.
     pub fn wrong(&self, why: &str) -> Ending {
-        let Command { name, words, .. } = self.command;
+        let (name, usage) = (self.command.name, self.command.usage());
         let help = format!("`nahokipe {name} --help` tells more");
-        Ending::WrongUse(format!(
-            "{name}: {why}\nusage: nahokipe {name} {words}\n{help}"
-        ))
+        Ending::WrongUse(format!("{name}: {why}\n{usage}{help}"))
     }
 
     /// The words of the command.
     pub fn words(&self) -> impl Iterator<Item = &OsStr> {
         self.words.iter().map(OsString::as_os_str)
+    }
+
+    /// A word as it is shown in a message, by its index from 0.
+    pub fn shown(&self, index: usize) -> String {
+        shown(&self.words[index])
     }
 
     /// The file that a word names, by its index from 0.

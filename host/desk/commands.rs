@@ -2,6 +2,7 @@
 
 use crate::arguments::Arguments;
 use crate::ending::Ending;
+use crate::nearest;
 use crate::{changes, diff, entering, explain, figures, page, shares, showing};
 use std::ffi::OsStr;
 
@@ -9,9 +10,11 @@ use std::ffi::OsStr;
 pub struct Command {
     pub name: &'static str,
     /// The words behind it, as the usage shows them.
-    pub words: &'static str,
+    words: &'static str,
     /// What it does, in a line.
     summary: &'static str,
+    /// The words of its second form and what that does, where it has one.
+    second: Option<(&'static str, &'static str)>,
     /// What its help says beyond that.
     details: &'static str,
     /// How many words it takes at least and, where there is a limit, at most.
@@ -29,6 +32,7 @@ const ONE_RECORD: Command = Command {
     name: "",
     words: "RECORD",
     summary: "",
+    second: None,
     details: "",
     fewest: 1,
     most: Some(1),
@@ -72,16 +76,31 @@ file; one that is there is not replaced.
         name: "new",
         words: "DRAWING RECORD",
         summary: "make a record from a drawing's text, with numbers 1 to n",
+        second: Some((
+            "PATTERN K N RECORD",
+            "the same from a pattern: at-least, row or ring",
+        )),
         details: "\
 DRAWING is the text that the drawing tool writes: `parts 5`, then `set 1 4` for each set, by
-positions. The parts are numbered 1 to n and the mark is n, whatever numbers they had
-elsewhere; parts that already have numbers are entered with `nahokipe enter`. RECORD is a new
-file; one that is there is not replaced.
+positions. PATTERN is the word of a stock pattern of N parts; N is 1 to 16, and K is 1 to N:
+
+    at-least 2 3       runs exactly if at least 2 of the 3 parts work
+    row 2 5            5 parts in a row, stopped exactly if some 2 neighbours have failed
+    ring 2 6           the same of 6 parts in a ring, where 6 and 1 are neighbours too
+
+More than K failed neighbours stop a row or a ring as well. Two words are always a drawing and
+a record, also where the drawing's file has the name of a pattern.
+
+The parts are numbered from 1 on, along the row or the ring, and the mark is the last number,
+whatever numbers they had elsewhere; parts that already have numbers are entered with
+`nahokipe enter`. What was made is printed back. RECORD is a new file; one that is there is not
+replaced.
 
     nahokipe new bridge.txt bridge.record
+    nahokipe new ring 2 6 sensors.record
 ",
         fewest: 2,
-        most: Some(2),
+        most: Some(4),
         run: entering::new,
         ..ONE_RECORD
     },
@@ -262,26 +281,36 @@ REFUSAL and PLACE are the two numbers of a line `refused NUMBER PLACE`.
 ];
 
 impl Command {
+    /// Its forms: the words of each and what it does.
+    fn forms(&self) -> impl Iterator<Item = (&'static str, &'static str)> {
+        [(self.words, self.summary)].into_iter().chain(self.second)
+    }
+
+    /// How it is used, a line for each form.
+    pub fn usage(&self) -> String {
+        let name = self.name;
+        let line = |(words, _)| format!("nahokipe {name} {words}\n");
+        let lines: Vec<String> = self.forms().map(line).collect();
+        format!("usage: {}", lines.join("       "))
+    }
+
     /// The help of this command.
     pub fn help(&self) -> String {
-        let Command {
-            name,
-            words,
-            summary,
-            details,
-            ..
-        } = self;
-        format!("usage: nahokipe {name} {words}\n\n{summary}\n\n{details}")
+        let (usage, details) = (self.usage(), self.details);
+        let summaries = self.forms().map(|(_, summary)| format!("{summary}\n"));
+        let summaries: String = summaries.collect();
+        format!("{usage}\n{summaries}\n{details}")
     }
 }
 
 /// The help of the program.
 pub fn overview() -> String {
-    let line = |command: &Command| {
-        let usage = format!("{} {}", command.name, command.words);
-        format!("  {usage:<37}{}\n", command.summary)
+    let lines = |command: &Command| {
+        let name = command.name;
+        let line = |(words, summary)| format!("  {:<37}{summary}\n", format!("{name} {words}"));
+        command.forms().map(line).collect::<String>()
     };
-    let lines: String = COMMANDS.iter().map(line).collect();
+    let lines: String = COMMANDS.iter().map(lines).collect();
     format!(
         "\
 Keeps the records of machines of up to 16 parts: the parts by number, the sets of parts that
@@ -308,27 +337,6 @@ pub fn named(name: &OsStr) -> Option<&'static Command> {
 
 /// What is said of a command that there is not, with the nearest that there is.
 pub fn unknown(name: &str) -> String {
-    let distance = |command: &&Command| changes_between(name, command.name);
-    let nearest = COMMANDS.iter().min_by_key(distance);
-    let near = nearest.filter(|command| 2 * distance(command) <= command.name.len());
-    let hint = near.map_or(String::new(), |command| {
-        format!("; the nearest is `{}`", command.name)
-    });
+    let hint = nearest::hint(name, COMMANDS.iter().map(|command| command.name));
     format!("there is no command `{name}`{hint}\n`nahokipe --help` lists all commands")
-}
-
-/// How many letters have to be put in, taken out or changed to make one word of another.
-fn changes_between(from: &str, to: &str) -> usize {
-    let to: Vec<char> = to.chars().collect();
-    let mut row: Vec<usize> = (0..=to.len()).collect();
-    for (index, letter) in from.chars().enumerate() {
-        let mut before = row[0];
-        row[0] = index + 1;
-        for column in 0..to.len() {
-            let changed = before + usize::from(letter != to[column]);
-            before = row[column + 1];
-            row[column + 1] = changed.min(before + 1).min(row[column] + 1);
-        }
-    }
-    row[to.len()]
 }

@@ -1,4 +1,4 @@
-//! The commands `enter` and `new`: records from texts.
+//! The commands `enter` and `new`: records from texts and from patterns.
 
 use crate::arguments::Arguments;
 use crate::design::Design;
@@ -8,6 +8,7 @@ use crate::files::FileName;
 use crate::meaning::Meaning;
 use crate::names::Names;
 use crate::output::{self, Stream};
+use crate::patterns::{neither, unread, Stock};
 use nahokipe::Refusal;
 
 /// The command `enter`: a record of parts that already have numbers.
@@ -35,10 +36,22 @@ fn other_sort(text: &[u8]) -> &'static str {
     }
 }
 
-/// The command `new`: a record from a drawing's text, its parts numbered 1 to n.
+/// The command `new`: a record from a drawing's text or from a pattern, which the number of words tells apart. The parts are numbered 1
+/// to n.
 pub fn new(arguments: &Arguments) -> Result<(), Ending> {
+    match arguments.words().count() {
+        2 => new_of_drawing(arguments),
+        3 => Err(neither(arguments)),
+        _ => new_of_pattern(arguments),
+    }
+}
+
+/// A record from a drawing's text.
+fn new_of_drawing(arguments: &Arguments) -> Result<(), Ending> {
     let (source, target) = (arguments.file(0), arguments.file(1));
-    let text = source.read_text()?;
+    let text = source
+        .read_text()
+        .map_err(|ending| unread(arguments, ending))?;
     let refused = |refusal: Refusal| {
         let hint = match Entry::read(&text).is_ok() {
             true => "\n  this is a text by part numbers, which `nahokipe enter` takes",
@@ -48,10 +61,25 @@ pub fn new(arguments: &Arguments) -> Result<(), Ending> {
         Ending::refused(refusal, about).on(story_stream(&target))
     };
     let record = nahokipe::record_of_drawing(&text).map_err(refused)?;
+    made(record, &target, |design| Ok(sets_back(design)))
+}
+
+/// A record from a pattern, with what the pattern says in words.
+fn new_of_pattern(arguments: &Arguments) -> Result<(), Ending> {
+    let (stock, target) = (Stock::asked(arguments)?, arguments.file(3));
+    let record = stock.record().map_err(|refusal| {
+        let about = stock.about(refusal);
+        Ending::refused(refusal, about).on(story_stream(&target))
+    })?;
     made(record, &target, |design| {
-        let sets = &design.sets;
-        Ok(text_of(design, Meaning::PathSets, sets, &Names::default()))
+        Ok(sets_back(design) + &stock.comment())
     })
+}
+
+/// A machine by its sets, as a text to hold beside the drawing.
+fn sets_back(design: &Design) -> String {
+    let sets = &design.sets;
+    text_of(design, Meaning::PathSets, sets, &Names::default())
 }
 
 /// Writes a new record, and prints back what it says and which number comes next.

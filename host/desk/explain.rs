@@ -24,12 +24,12 @@ const BYTE_LINE_OR_NONE: &str = "in a record the byte where the number stands, c
 const BYTE_OR_INDEX: &str = "in a record the byte where the set stands, counted from 0; in a program's list the set, counted from 0; 0 for a set that is added";
 
 /// The explanations, that of refusal 1 first.
-const EXPLANATIONS: [Explanation; 28] = [
+const EXPLANATIONS: [Explanation; 29] = [
     Explanation {
         meaning: "the number of parts is not 1 to 16",
         place: BYTE_LINE_OR_NONE,
         cause: "a text was given where a record belongs (1 at place 0), or the machine has more than 16 parts",
-        remedy: "give the record itself; `nahokipe enter` makes one from a text by part numbers, `nahokipe new` from a drawing's text",
+        remedy: "give the record itself; `nahokipe enter` makes one from a text by part numbers, `nahokipe new` from a drawing's text or a pattern of up to 16 parts",
     },
     Explanation {
         meaning: "there is no set: nothing says what the machine needs to run",
@@ -193,6 +193,12 @@ const EXPLANATIONS: [Explanation; 28] = [
         cause: "a number was mistyped",
         remedy: "write each part once",
     },
+    Explanation {
+        meaning: "a pattern's number K is not 1 to N, the number of its parts",
+        place: "",
+        cause: "K and N were exchanged, as in `nahokipe new at-least 3 2`",
+        remedy: "write K first, how many parts have to work or how many neighbours have to fail, and then N: `nahokipe new at-least 2 3`",
+    },
 ];
 
 /// The command `explain`: a refusal in words.
@@ -204,7 +210,7 @@ pub fn explain(arguments: &Arguments) -> Result<(), Ending> {
         .collect();
     let known = |word: &str| number(word.as_bytes()).and_then(explanation);
     let Some(explanation) = known(&words[0]) else {
-        return Err(wrong(&words[0], "refusal's number; they are 1 to 28"));
+        return Err(wrong(&words[0], "refusal's number; they are 1 to 29"));
     };
     let place = words
         .get(1)

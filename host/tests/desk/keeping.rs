@@ -92,6 +92,7 @@ fn a_limit_on_the_length_of_files() {
     for words in [
         "add-part record",
         "enter text new",
+        "new row 1 2 new",
         "add-part record -o new",
         "page record -o new",
     ] {
@@ -116,9 +117,10 @@ fn files_that_are_there() {
     symlink("nowhere", folder.file("link")).expect("a link");
     fs::create_dir(folder.file("folder")).expect("a folder");
     for target in ["there", "record", "text", "link", "folder", "/dev/null"] {
-        let words: [&[&str]; 6] = [
+        let words: [&[&str]; 7] = [
             &["enter", "text", target],
             &["new", "drawing", target],
+            &["new", "row", "1", "2", target],
             &["add-part", "record", "-o", target],
             &["add-set", "record", "1", "-o", target],
             &["take-out", "record", "1", "-o", target],

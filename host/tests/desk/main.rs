@@ -12,6 +12,7 @@ mod keeping;
 mod manual;
 mod markup;
 mod pages;
+mod patterns;
 mod refusing;
 mod script;
 #[path = "../../desk/share.rs"]

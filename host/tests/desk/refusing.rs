@@ -119,6 +119,7 @@ fn folders_that_are_none() {
     for target in ["text/new", "missing/new", "/proc/nahokipe-new"] {
         for words in [
             ["enter", "text", target].as_slice(),
+            &["new", "row", "1", "2", target],
             &["add-part", "record", "-o", target],
         ] {
             let error = folder.run(words).failed();

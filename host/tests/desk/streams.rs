@@ -87,13 +87,14 @@ fn the_head_of_a_page() {
 fn a_full_disk_behind_standard_output() {
     let folder = Folder::with("pumps", PUMPS);
     folder.write("text", "mark 5\nparts 1 2\nset 1\n");
-    let printing: [&[&str]; 8] = [
+    let printing: [&[&str]; 9] = [
         &["show", "pumps"],
         &["cuts", "pumps"],
         &["page", "pumps"],
         &["report", "pumps"],
         &["--help"],
         &["enter", "text", "-"],
+        &["new", "row", "1", "2", "-"],
         &["add-part", "pumps", "-o", "-"],
         &["diff", "pumps", "pumps"],
     ];

@@ -108,6 +108,7 @@ fn read_only_folders_and_records() {
     assert_eq!(error, "nahokipe: record: Permission denied\n");
     for words in [
         ["enter", "text", "new"].as_slice(),
+        &["new", "row", "1", "2", "new"],
         &["add-part", "record", "-o", "new"],
         &["page", "record", "-o", "new"],
     ] {

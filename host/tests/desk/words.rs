@@ -67,6 +67,7 @@ fn no_command_and_unknown_commands() {
         ("figure", "figures"),
         ("add-prat", "add-part"),
         ("cut", "cuts"),
+        ("news", "new"),
     ];
     for (word, nearest) in cases {
         let error = folder.run(&[word, "record"]).failed();
@@ -82,13 +83,58 @@ fn no_command_and_unknown_commands() {
 }
 
 /// Words that are wrong, and what is said of them.
-const WRONG_USES: [(&[&str], &str); 29] = [
+const WRONG_USES: [(&[&str], &str); 41] = [
     (&["enter", "text"], "a word is missing"),
     (
         &["enter", "text", "record", "more"],
         "`more` is a word too many",
     ),
     (&["new"], "a word is missing"),
+    (&["new", "row"], "a word is missing"),
+    (
+        &["new", "drawing", "record", "more"],
+        "a drawing takes two words, and a pattern four",
+    ),
+    (
+        &["new", "row", "2", "5"],
+        "a word is missing: K, N and RECORD belong behind `row`",
+    ),
+    (
+        &["new", "at-least", "2", "record"],
+        "a word is missing: K, N and RECORD belong behind `at-least`",
+    ),
+    (
+        &["new", "ring", "2", "6", "record", "more"],
+        "`more` is a word too many",
+    ),
+    (
+        &["new", "rng", "2", "6", "record"],
+        "there is no pattern `rng`; the nearest is `ring`\nthe patterns are `at-least`, `row` and `ring`\n",
+    ),
+    (
+        &["new", "tree", "2", "6", "record"],
+        "there is no pattern `tree`\nthe patterns are `at-least`, `row` and `ring`\n",
+    ),
+    (
+        &["new", "ring", "record", "2", "6"],
+        "`record` is no number K, in digits without a leading zero",
+    ),
+    (
+        &["new", "ring", "02", "6", "record"],
+        "`02` is no number K, in digits without a leading zero",
+    ),
+    (
+        &["new", "ring", "2", "", "record"],
+        "`` is no number N, in digits without a leading zero",
+    ),
+    (
+        &["new", "ring", "2", "-6", "record"],
+        "there is no option `-6`",
+    ),
+    (
+        &["new", "ring", "--", "2", "+6", "record"],
+        "`+6` is no number N, in digits without a leading zero",
+    ),
     (&["show"], "a word is missing"),
     (&["show", "pumps", "pumps"], "`pumps` is a word too many"),
     (

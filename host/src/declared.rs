@@ -20,6 +20,12 @@ impl Answer {
             }),
         }
     }
+
+    /// What a call gives whose value is a mask.
+    pub(crate) fn mask(self) -> Result<u16, Refusal> {
+        let narrow = |value| u16::try_from(value).expect("a set of up to 16 parts");
+        self.given().map(narrow)
+    }
 }
 
 /// The answer about a sheet as it comes through C. Of a refused one the kind is 1 and n is 0.

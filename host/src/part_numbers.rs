@@ -25,9 +25,7 @@ pub fn position_of(bytes: &[u8], number: u64) -> Result<usize, Refusal> {
 /// ```
 pub fn mask_of(numbers: &[u64], wanted: &[u64]) -> Result<u16, Refusal> {
     let (wanted, length) = (wanted.as_ptr(), wanted.len());
-    let mask = unsafe { nahokipe_mask_of(numbers.as_ptr(), numbers.len(), wanted, length) };
-    let narrow = |mask| u16::try_from(mask).expect("a set of up to 16 parts");
-    mask.given().map(narrow)
+    unsafe { nahokipe_mask_of(numbers.as_ptr(), numbers.len(), wanted, length) }.mask()
 }
 
 /// The part numbers at the positions of a mask, in their order.

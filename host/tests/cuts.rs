@@ -4,8 +4,8 @@
 use nahokipe::lent::{dual, minimal_cuts, table_of_cuts};
 use nahokipe::{minimal_sets, shares_by_sets, table_of_list, table_verdict, Figures};
 use nahokipe_testing::known::{CUT_MACHINES, REFUSED_TABLES};
-use nahokipe_testing::making::{machines, minimal_of_list, random_group, random_list};
-use nahokipe_testing::making::{random_table, sets_of_size};
+use nahokipe_testing::making::{every_and_random_machines, minimal_of_list, random_group};
+use nahokipe_testing::making::{random_list, sets_of_size};
 use nahokipe_testing::naive::refused;
 use nahokipe_testing::naive_figures::{binomial, factorial};
 use nahokipe_testing::seeded::Seeded;
@@ -26,15 +26,6 @@ fn given_table(n: usize, cuts: &[u16]) -> Vec<u8> {
 
 fn given_cuts(n: usize, table: &[u8]) -> Vec<u16> {
     nahokipe::minimal_cuts(n, table).expect("an accepted table")
-}
-
-/// Every machine of up to four parts, and random ones of up to sixteen.
-fn every_and_random_machines(seed: u64) -> Vec<(usize, Vec<u8>)> {
-    let mut seeded = Seeded::new(seed);
-    let every = (1..=4).flat_map(|n| machines(n).into_iter().map(move |table| (n, table)));
-    let random = (1..=16).flat_map(|n| [n; 12]);
-    let random = random.map(|n| (n, random_table(&mut seeded, n)));
-    every.chain(random).collect()
 }
 
 // ---- from one form to the other

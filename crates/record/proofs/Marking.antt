@@ -25,8 +25,7 @@ use Rattle.codec.specs.Reads.{Read, found, refused}
 use Rattle.codec.specs.Reading.{numberAt}
 use Rattle.codec.specs.FieldReads.{fieldAt}
 use Rattle.codec.proofs.Found.{field-checked}
-use Rattle.theory_sets.specs.Masks.{any, RisingFrom}
-use Rattle.theory_sets.proofs.Masks.{join}
+use Rattle.theory_sets.specs.Masks.{any, RisingFrom, join}
 use Rattle.theory_sets.proofs.Ranges.{any-same}
 use Rattle.structure_words.specs.Words.{wordsOf, among}
 use Rattle.structure_words.proofs.Words.{wordsOf-none, wordsOf-same, marked-more}

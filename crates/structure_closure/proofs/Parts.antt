@@ -11,9 +11,9 @@ use native.Mathlib.Omega.{arith}
 use lib.Bits.{or-lt, and-le-l}
 use lib.ListN.{getD}
 use lib.Pow.{pow-pos, shr-le}
-use Rattle.theory_sets.specs.Masks.{has, meet}
+use Rattle.theory_sets.specs.Masks.{has, meet, join}
 use Rattle.numbers.proofs.Bools.{true-or-false, or-false, and-swap, not-not}
-use Rattle.theory_sets.proofs.Masks.{join, join-held, join-more, has-le, has-flip, has-above, has-empty, has-complement, has-low, has-meet, has-join, has-shift, add-below, bit-of-odd, bit-of-even}
+use Rattle.theory_sets.proofs.Masks.{join-held, join-more, has-le, has-flip, has-above, has-empty, has-complement, has-low, has-meet, has-join, has-shift, add-below, bit-of-odd, bit-of-even}
 use Rattle.numbers.proofs.Bounds.{below-or-above}
 use Rattle.theory_sets.proofs.Tables.{has-packed, packed-below}
 use Rattle.structure_words.specs.Words.{inWords, wordOf, lacks}

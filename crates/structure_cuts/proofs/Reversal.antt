@@ -12,9 +12,9 @@ use lib.Pow.{pow-pos, shr-le}
 use borrow.Author.Tests.{eqb-true, eq-eqb, not-false}
 use Rattle.numbers.proofs.Bools.{true-or-false, or-false}
 use Rattle.numbers.proofs.Bounds.{below-or-above}
-use Rattle.theory_sets.specs.Masks.{has, meet, any}
+use Rattle.theory_sets.specs.Masks.{has, meet, join, any}
 use Rattle.theory_sets.specs.Tables.{packed}
-use Rattle.theory_sets.proofs.Masks.{join, has-le, has-sub, has-flip, has-low, has-join, add-below}
+use Rattle.theory_sets.proofs.Masks.{has-le, has-sub, has-flip, has-low, has-join, add-below}
 use Rattle.theory_sets.proofs.Ranges.{any-none}
 use Rattle.theory_sets.proofs.Tables.{has-packed, packed-unique, packed-same}
 use Rattle.structure_words.specs.Words.{lacks}

@@ -12,9 +12,9 @@ use lib.Dec.{eqb}
 use lib.Pow.{pow-lt, pow-pos}
 use Rattle.answer.specs.declared.Verdict.the-variants.{Accepted}
 use Rattle.numbers.proofs.Tables.{tabulate-length, tabulate-same}
-use Rattle.theory_sets.specs.Masks.{has, any}
+use Rattle.theory_sets.specs.Masks.{has, any, join}
 use Rattle.theory_sets.specs.Tables.{tableOf}
-use Rattle.theory_sets.proofs.Masks.{join, has-empty, has-join, has-single}
+use Rattle.theory_sets.proofs.Masks.{has-empty, has-join, has-single}
 use Rattle.theory_sets.proofs.Ranges.{any-same}
 use Rattle.theory_sets.proofs.Tables.{has-packed, packed-below, packed-same, packed-unique, tableOf-same}
 use Rattle.theory_cuts.specs.Cuts.{byCuts}

@@ -15,9 +15,9 @@ use lib.Pow.{pow-pos, pow-lt}
 use lib.Seq.{getD-set-same, getD-set-other}
 use borrow.Author.Tests.{ne-eqb}
 use Rattle.numbers.proofs.Tables.{tabulate-at, tabulate-length, tabulate-unique}
-use Rattle.theory_sets.specs.Masks.{has, meet, any}
+use Rattle.theory_sets.specs.Masks.{has, meet, join, any}
 use Rattle.numbers.proofs.Bools.{same-eqb, or-false}
-use Rattle.theory_sets.proofs.Masks.{join, has-empty, has-single, has-meet, has-join, has-complement}
+use Rattle.theory_sets.proofs.Masks.{has-empty, has-single, has-meet, has-join, has-complement}
 use Rattle.theory_sets.proofs.Tables.{has-packed, packed-below, packed-unique}
 use Rattle.structure_words.specs.Words.{inWords, wordOf, wordsOf}
 

@@ -8,11 +8,11 @@ use native.Mathlib.Nat.{div-one, div-div-eq-div-mul, pow-succ', div-eq-of-lt, mo
 use native.Mathlib.Numerals.{add-one}
 use native.Mathlib.Omega.{arith}
 use lib.Arith.{bin-ind}
-use lib.Bits.{bitOr, and-step, or-step, and-le-l}
+use lib.Bits.{and-step, or-step, and-le-l}
 use lib.Dec.{eqb, eqb·suc-suc, eqb·zero-suc, eqb·suc-zero}
 use lib.Pow.{pow-mono, pow-pos, shr-shr, high, field, mod-mod-pow}
 use borrow.Author.Tests.{eqb-true, eqb-false, eq-eqb, ne-eqb, not-true, not-false}
-use Rattle.theory_sets.specs.Masks.{has, holds, meet, any}
+use Rattle.theory_sets.specs.Masks.{has, meet, join, holds, any}
 use Rattle.numbers.proofs.Bools.{and-left, and-right, and-both, or-cases, or-right, or-false, or-swap, true-or-false, same-test, clash}
 use Rattle.numbers.proofs.Bounds.{below-or-above}
 use Rattle.theory_sets.proofs.Ranges.{any-elim, any-none}
@@ -128,9 +128,6 @@ has-meet a b (suc i) =
     has-suc (meet a b) i ∙ ap (λ (x : ℕ). has x i) (meet-half a b) ∙ has-meet (a / 2) (b / 2) i ∙ rw (has-suc a i, has-suc b i)
 
 -- ---- the parts that either of two sets has
-
-abbrev pub join : ℕ → ℕ → ℕ
-join a b = bitOr a b
 
 digit-or : (x y : ℕ) → x < 2 → y < 2 → eqb (max x y) 1 ≡ eqb x 1 || eqb y 1
 digit-or zero y hx hy = ap (λ (m : ℕ). eqb m 1) (zero-max y)

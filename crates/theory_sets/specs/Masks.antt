@@ -2,7 +2,7 @@
 use mathlib.Core.Bool.{Bool, false, cond, _||_}
 use mathlib.Core.List.{List, [], _∷_, _++_}
 use Prim.Native.Nat.{ℕ, zero, suc, _-_, _/_, _%_, _^_, _≤_}
-use lib.Bits.{bitAnd}
+use lib.Bits.{bitAnd, bitOr}
 use lib.Count.{ones}
 use lib.Dec.{eqb}
 use lib.ListN.{getD}
@@ -18,6 +18,10 @@ size a = ones a
 -- the parts that two sets share
 abbrev pub meet : ℕ → ℕ → ℕ
 meet a b = bitAnd a b
+
+-- the parts that either of two sets has
+abbrev pub join : ℕ → ℕ → ℕ
+join a b = bitOr a b
 
 -- the number of parts that a set has in a group, which is a set too, and outside it
 abbrev pub inside : ℕ → ℕ → ℕ

@@ -76,6 +76,15 @@ pub fn machines(n: usize) -> Vec<Vec<u8>> {
         .collect()
 }
 
+/// Every machine of up to four parts, and random ones of up to sixteen.
+pub fn every_and_random_machines(seed: u64) -> Vec<(usize, Vec<u8>)> {
+    let mut seeded = Seeded::new(seed);
+    let every = (1..=4).flat_map(|n| machines(n).into_iter().map(move |table| (n, table)));
+    let random = (1..=16).flat_map(|n| [n; 12]);
+    let random = random.map(|n| (n, random_table(&mut seeded, n)));
+    every.chain(random).collect()
+}
+
 /// All machines of n parts, n up to 4: numbered 1 to n, and with gaps, numbers of several bytes and a mark above them.
 pub fn every_plain(n: usize) -> Vec<Plain> {
     let numberings = [(n as u64, [1, 2, 3, 4]), (1 << 40, [2, 9, 200, 1 << 32])];

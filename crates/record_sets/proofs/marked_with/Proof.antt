@@ -6,7 +6,7 @@ use Prim.Native.Nat.{ℕ, _*_, _/_, _%_, _^_}
 use native.Mathlib.Omega.{arith}
 use denote.Ref.{now}
 use lib.ListN.{getD, set}
-use Rattle.theory_sets.proofs.Masks.{join}
+use Rattle.theory_sets.specs.Masks.{join}
 use Rattle.record.proofs.Marking.{marked-one}
 use borrow.Author.Needs.{needs}
 use Rattle.record_sets.proofs.marked_with.Statement.{statement}

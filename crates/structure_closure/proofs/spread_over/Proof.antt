@@ -9,7 +9,7 @@ use denote.Ref.{now}
 use Rattle.numbers.proofs.Tables.{filled, filled-none, filled-again, filled-end}
 use Rattle.structure_words.specs.Words.{inWords, wordOf}
 use Rattle.structure_closure.specs.Closure.{without}
-use Rattle.theory_sets.proofs.Masks.{join}
+use Rattle.theory_sets.specs.Masks.{join}
 use Rattle.structure_words.proofs.Words.{word-is, wordOf-or}
 use borrow.Author.Needs.{needs}
 use Rattle.structure_closure.proofs.spread_over.Statement.{statement}

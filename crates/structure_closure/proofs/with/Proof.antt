@@ -7,8 +7,7 @@ use denote.Ref.{now}
 use lib.ListN.{getD}
 use lib.Pow.{pow-lt}
 use Rattle.numbers.proofs.Counts.{upTo16-given}
-use Rattle.theory_sets.specs.Masks.{meet}
-use Rattle.theory_sets.proofs.Masks.{join}
+use Rattle.theory_sets.specs.Masks.{meet, join}
 use Rattle.structure_words.specs.Words.{lacks}
 use Rattle.structure_closure.proofs.Parts.{with-low, with-high}
 use borrow.Author.Needs.{needs}

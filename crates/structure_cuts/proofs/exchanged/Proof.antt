@@ -5,8 +5,7 @@ use Prim.Native.Nat.{ℕ, _*_, _/_, _%_, _^_, _<_}
 use native.Mathlib.Omega.{arith}
 use lib.Pow.{pow-lt}
 use Rattle.numbers.proofs.Counts.{upTo16-given}
-use Rattle.theory_sets.specs.Masks.{meet}
-use Rattle.theory_sets.proofs.Masks.{join}
+use Rattle.theory_sets.specs.Masks.{meet, join}
 use Rattle.structure_cuts.proofs.Reversal.{exchanged-word}
 use borrow.Author.Needs.{needs}
 use Rattle.structure_cuts.proofs.exchanged.Statement.{statement}

@@ -5,7 +5,7 @@ use Prim.Native.Nat.{ℕ, _+_, _-_, _*_, _%_, _^_, _≤_, _<_}
 use native.Mathlib.Nat.{le-antisymm, mod-eq-of-lt, mod-lt, one-mul}
 use native.Mathlib.Omega.{arith}
 use lib.Pow.{pow-lt}
-use Rattle.theory_sets.proofs.Masks.{join}
+use Rattle.theory_sets.specs.Masks.{join}
 use Rattle.theory_patterns.specs.Patterns.{setOf}
 use Rattle.structure_patterns.proofs.NeighbourSets.{set-none, set-more}
 use Rattle.structure_patterns.proofs.neighbours_from.Statement.{statement}

@@ -11,8 +11,7 @@ use denote.Ref.{now}
 use lib.Dec.{eqb}
 use lib.ListN.{length, getD, set}
 use lib.Pow.{pow-lt}
-use Rattle.theory_sets.specs.Masks.{any}
-use Rattle.theory_sets.proofs.Masks.{join}
+use Rattle.theory_sets.specs.Masks.{any, join}
 use Rattle.structure_words.specs.Words.{wordsOf}
 use Rattle.structure_words.proofs.Words.{marked-more, wordsOf-none}
 use borrow.Author.Needs.{needs}

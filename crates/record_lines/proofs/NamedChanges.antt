@@ -62,8 +62,8 @@ named-in-use d set m number i =
     in-named (numbersOf (d .parts)) (found .0) (subst (λ (s : List ℕ). In number s) (sym (found .2)) i)
 
 -- and the new part is in none of them.
-pub added-idle : (d : Design) → DesignRules d → changeRefusal addPart d ≡ Accepted → (set : List ℕ) → List·Memᴰ set (namedSets (changed addPart d)) → In (d .parts .mark + 1) set → ⊥
-added-idle d r accepted set m i =
+pub added-unnamed : (d : Design) → DesignRules d → changeRefusal addPart d ≡ Accepted → (set : List ℕ) → List·Memᴰ set (namedSets (changed addPart d)) → In (d .parts .mark + 1) set → ⊥
+added-unnamed d r accepted set m i =
     let old : List·Memᴰ set (namedSets d) = rw (added-names d r accepted) at m in
     let above = added-above (d .parts) (r .parts) (d .parts .mark + 1) (named-in-use d set old (d .parts .mark + 1) i) in
     omega arith

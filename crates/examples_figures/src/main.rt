@@ -1,5 +1,6 @@
 // Runs worked examples of 01 and 02 on machines and vectors and prints what the calculator answers; the file stdout beside this one's folder holds what
 // it must print.
+use answer::Value;
 use answer::Verdict;
 use answer::Written;
 use libc::STDOUT_FILENO;
@@ -11,6 +12,7 @@ fn main() {
     lists();
     cut_sets();
     patterns();
+    idle_parts();
     figures();
     shares();
     vectors();
@@ -421,6 +423,28 @@ fn table_cuts_and_dual(n: usize, masks: &[u16]) {
         Written::Refused(refusal) => refused(refusal.number, refusal.place),
         Written::Length(length) => forms_of_table(n, &bytes, length),
     }
+}
+
+// Idle parts (02, §9): of the pairs no part is idle although the last domination is 0.
+fn idle_parts() {
+    say(b"idle parts\n");
+    idle(b"{1,2}, {2,3}, {3,4}", 4, &[0xC8, 0xF8]);
+    domination_of_table(4, &[0xC8, 0xF8]);
+    idle(b"n = 3, {1,2}", 3, &[0x88]);
+    idle(b"n = 3, 82", 3, &[0x82]);
+}
+
+fn idle(name: &[u8], n: usize, bytes: &[u8]) {
+    say(name);
+    say(b": ");
+    let answer = structure_idle::idle_parts(n, bytes);
+    match answer {
+        Value::Refused(refusal) => refused(refusal.number, refusal.place),
+        Value::Given(mask) => {
+            io::print_decimal(STDOUT_FILENO, mask as u64);
+        }
+    }
+    say(b"\n");
 }
 
 fn pattern(name: &[u8], shape: Pattern, n: usize, k: usize) {

@@ -8,9 +8,10 @@ use record::Step;
 use sheet_entries::EntriesRead;
 use structure_patterns::Pattern;
 ghost use mathlib.Core.Path.{_≡_};
-ghost use Rattle.answer.specs.Outcome.{at, outcome, retold, delivered};
+ghost use Rattle.answer.specs.Outcome.{at, outcome, retold, delivered, valued};
 ghost use Rattle.theory_sets.specs.Structures.{listed, minimalSets};
 ghost use Rattle.theory_sets.specs.Tables.{inTable, tableOf};
+ghost use Rattle.theory_sets.specs.Idle.{idleParts};
 ghost use Rattle.theory_cuts.specs.Cuts.{minimalCuts, byCuts, dualTable};
 ghost use Rattle.structure.specs.Checks.{listRefusal, tableRefusal};
 ghost use Rattle.structure_patterns.specs.Patterns.{patterned, patternRefusal};
@@ -131,6 +132,14 @@ pub extern "C" fn nahokipe_dual(n: usize, table: &[u8], buffer: &mut [u8]) -> An
     ensures { λ r. ⌜ outcome r (now (buffer .exit)) ≡ retold ofWritten (delivered (tableRefusal n (now (table .entry))) (dualTable n (now (table .entry))) (now (buffer .entry))) ⌝ }
 {
     of_written(structure_cuts::dual(n, table, buffer))
+}
+
+// The mask of the idle parts of a table.
+#[no_mangle]
+pub extern "C" fn nahokipe_idle_parts(n: usize, table: &[u8]) -> Answer
+    ensures { λ r. ⌜ r ≡ ofValue (valued (tableRefusal n (now (table .entry))) (idleParts n (inTable (now (table .entry))))) ⌝ }
+{
+    of_value(structure_idle::idle_parts(n, table))
 }
 
 // The table of the machine that runs exactly if at least k of n parts work.

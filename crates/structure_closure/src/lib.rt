@@ -1,10 +1,12 @@
 // What follows upwards from a set function, and what of it is minimal, a word of 64 sets at a time: the sets that hold a given one, the
-// path sets that are none without any single part, and the first set that breaks the rule.
+// path sets that are none without any single part, the first set that breaks the rule, and the parts that change nothing.
 ghost use mathlib.Core.Path.{_≡_};
 ghost use mathlib.Core.Bool.{_||_};
 ghost use Prim.Native.Nat.{_<_, min};
 ghost use Rattle.theory_sets.specs.Masks.{least};
 ghost use Rattle.theory_sets.specs.Structures.{broken};
+ghost use Rattle.theory_sets.specs.Tables.{packed};
+ghost use Rattle.theory_sets.specs.Idle.{idle as idlePart};
 ghost use Rattle.structure_words.specs.Words.{inWords, wordOf, wordsOf};
 ghost use Rattle.structure_closure.specs.Closure.{without as withoutPart, spare as spareSet, spread as spreadSet, irredundant as irredundantSet};
 ghost use Rattle.structure_closure.specs.Inside.{with as withPart, failingAbove as failingAboveSet};
@@ -45,6 +47,20 @@ pub fn first_broken(words: &[u64], parts: usize) -> usize
     65536
 }
 
+// The mask of those of the first parts, at most 16 of these, that change nothing when they are added to a set.
+pub fn idle_parts(words: &[u64], parts: usize) -> usize
+    ensures { λ r. ⌜ r ≡ packed (min parts 16) (idlePart 16 (inWords (now (words .entry)))) ⌝ }
+{
+    let mut mask: usize = 0;
+    let end = at_most_16(parts);
+    for part in 0..end {
+        if idle(words, part) {
+            mask = mask | (1 << part);
+        }
+    }
+    mask
+}
+
 // Word `at` of the sets that have the part and work without it.
 fn without(words: &[u64], at: usize, part: usize) -> u64
     requires { ⌜ part < 16 ⌝ }
@@ -73,6 +89,19 @@ fn with(words: &[u64], at: usize, part: usize) -> u64
         return ((word >> numbers::power_of_two(part)) & lower) | (word & !lower);
     }
     numbers::cell(words, at | numbers::power_of_two(part - 6))
+}
+
+// Whether the sets that work with the part are those that work.
+fn idle(words: &[u64], part: usize) -> bool
+    requires { ⌜ part < 16 ⌝ }
+    ensures { λ r. ⌜ r ≡ idlePart 16 (inWords (now (words .entry))) part ⌝ }
+{
+    for at in 0..1024 {
+        if with(words, at, part) != numbers::cell(words, at) {
+            return false;
+        }
+    }
+    true
 }
 
 // Word `at` of the sets that work, or have the part and work without it.

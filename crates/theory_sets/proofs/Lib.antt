@@ -3,3 +3,4 @@ pub mod Ranges
 pub mod Structures
 pub mod Lists
 pub mod Tables
+pub mod Idle

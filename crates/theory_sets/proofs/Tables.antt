@@ -1,20 +1,22 @@
 -- Laws of packed bits and of the table form: a number is packed of its bits, and a structure's table has the structure's bits and no others.
 -- Assumes nothing.
 use mathlib.Core.Path.{_≡_, refl, sym, ap, _∙_}
-use mathlib.Core.Bool.{Bool, true, false, cond, _&&_}
+use mathlib.Core.Bool.{Bool, true, false, cond, _&&_, _||_}
 use mathlib.Core.List.{List}
 use mathlib.Core.Logic.{_⊎_, inl, inr}
 use Prim.Native.Nat.{ℕ, zero, suc, _+_, _*_, _/_, _%_, _^_, _≤_, _<_, _-_}
-use native.Mathlib.Nat.{not-suc-le-zero, le-of-suc-le-suc, zero-lt-suc, pow-succ', mod-lt, div-add-mod, add-sub-of-le, le-of-eq, lt-of-lt-of-le}
+use native.Mathlib.Nat.{not-suc-le-zero, le-of-suc-le-suc, zero-lt-suc, pow-succ', mod-lt, div-add-mod, add-sub-of-le, le-of-eq, lt-of-lt-of-le, eq-or-lt-of-le}
 use native.Mathlib.Omega.{arith}
+use lib.Bits.{or-lt}
 use lib.Dec.{eqb, ltb}
 use lib.ListN.{length, getD, List·getD-eq-default}
-use lib.Pow.{pow-mono, pow-add, pow-pos}
-use borrow.Author.Tests.{lt-ltb, le-ltb}
+use lib.Pow.{pow-mono, pow-add, pow-pos, pow-lt}
+use borrow.Author.Tests.{lt-ltb, le-ltb, eq-eqb, ne-eqb}
 use Rattle.numbers.proofs.Tables.{tabulate-length, tabulate-at, tabulate-same}
-use Rattle.theory_sets.specs.Masks.{has}
+use Rattle.theory_sets.specs.Masks.{has, join}
 use Rattle.theory_sets.specs.Tables.{packed, inTable, tableLength, tableOf}
-use Rattle.theory_sets.proofs.Masks.{has-zero, has-suc, has-above, has-empty, same-bits}
+use Rattle.theory_sets.proofs.Masks.{has-zero, has-suc, has-above, has-empty, has-join, has-single, same-bits}
+use Rattle.numbers.proofs.Bools.{or-false, or-true}
 use Rattle.numbers.proofs.Bounds.{below-or-above}
 
 -- ---- packed bits
@@ -58,6 +60,25 @@ packed-unique k bit a h same = same-bits a (packed k bit) (λ i. cases i (below-
 
 pub packed-same : (k : ℕ) (f g : ℕ → Bool) → ((i : ℕ) → i < k → f i ≡ g i) → packed k f ≡ packed k g
 packed-same k f g same = packed-unique k g (packed k f) (packed-below k f) (λ i h. has-packed k f i h ∙ same i h)
+
+-- one bit more, which is not set, or set
+pub packed-less : (k : ℕ) (bit : ℕ → Bool) → bit k ≡ false → packed k bit ≡ packed (k + 1) bit
+packed-less k bit off =
+    packed-unique (k + 1) bit (packed k bit) (lt-of-lt-of-le (packed-below k bit) (pow-mono (omega arith))) (λ i h. cases i (eq-or-lt-of-le (omega (arith, h))))
+  where
+    cases : (i : ℕ) → (i ≡ k) ⊎ (i < k) → has (packed k bit) i ≡ bit i
+    cases i (inr below) = has-packed k bit i below
+    cases i (inl e) = has-above (packed k bit) k i (packed-below k bit) (le-of-eq (sym e)) ∙ sym off ∙ ap bit (sym e)
+
+pub packed-more : (k : ℕ) (bit : ℕ → Bool) → bit k ≡ true → join (packed k bit) (2 ^ k) ≡ packed (k + 1) bit
+packed-more k bit on =
+    packed-unique (k + 1) bit (join (packed k bit) (2 ^ k))
+    (or-lt (k + 1) (packed k bit) (2 ^ k) (lt-of-lt-of-le (packed-below k bit) (pow-mono (omega arith))) (pow-lt (omega arith)))
+    (λ i h. has-join (packed k bit) (2 ^ k) i ∙ ap (λ (b : Bool). has (packed k bit) i || b) (has-single k i) ∙ cases i (eq-or-lt-of-le (omega (arith, h))))
+  where
+    cases : (i : ℕ) → (i ≡ k) ⊎ (i < k) → has (packed k bit) i || eqb i k ≡ bit i
+    cases i (inr below) = rw (ne-eqb i k (λ e. omega arith)) (or-false (has (packed k bit) i) ∙ has-packed k bit i below)
+    cases i (inl e) = rw (eq-eqb i k e) (or-true (has (packed k bit) i) ∙ sym on ∙ ap bit (sym e))
 
 -- ---- tables
 

@@ -1,3 +1,4 @@
 pub mod Masks
 pub mod Structures
 pub mod Tables
+pub mod Idle

@@ -1,0 +1,5 @@
+pub mod Counts
+pub mod Dominations
+pub mod Counterexample
+pub mod Cuts
+pub mod Examples

@@ -184,6 +184,13 @@ nahokipe_answer nahokipe_minimal_cuts(size_t n, const uint8_t *table, size_t tab
 nahokipe_answer nahokipe_dual(size_t n, const uint8_t *table, size_t table_len, uint8_t *dual, size_t dual_len);
 
 /*
+ * With number 0, value is the mask of a table's idle parts, 0 where no part is idle. A part is idle if adding it to a set never changes
+ * whether the machine runs. That is so exactly if no minimal set names it, and exactly if its importance is 0. Of a record's table the mask
+ * is one of positions; nahokipe_numbers_of gives the part numbers. Writes nothing. Refused: 1, 6 to 10.
+ */
+nahokipe_answer nahokipe_idle_parts(size_t n, const uint8_t *table, size_t table_len);
+
+/*
  * Stock patterns. Each call writes the table of a machine of n parts with a threshold k, 1 to n. That is the greater of 1 and 2^n / 8 bytes:
  * NAHOKIPE_LONGEST_TABLE is enough for every n. nahokipe_minimal_sets of the table is a list for nahokipe_first_record, or for
  * nahokipe_entered_record where the parts have numbers. Neighbours are parts at positions that follow each other, whatever their part numbers

@@ -3,7 +3,7 @@
 
 use crate::Refusal;
 
-/// The answer as it comes through C: number 0 with the length written, or a refusal's number with its place.
+/// The answer as it comes through C: number 0 with the length written or with what was asked for, or a refusal's number with its place.
 #[repr(C)]
 pub(crate) struct Answer {
     pub(crate) number: u8,
@@ -139,6 +139,8 @@ extern "C" {
         dual: *mut u8,
         dual_len: usize,
     ) -> Answer;
+
+    pub(crate) fn nahokipe_idle_parts(n: usize, table: *const u8, table_len: usize) -> Answer;
 
     pub(crate) fn nahokipe_table_at_least(
         n: usize,

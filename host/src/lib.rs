@@ -10,7 +10,7 @@
 //! of positions is a mask: the part at position i is bit i - 1.
 //!
 //! ```
-//! use nahokipe::{add_part, add_set_of_parts, entered_record, figures, mask_of, report};
+//! use nahokipe::{add_part, add_set_of_parts, entered_record, figures, idle_parts, mask_of, report};
 //! use nahokipe::{numbers_of, sets_of_record, table_of_record, take_out_part, whole_record};
 //!
 //! # fn main() -> Result<(), nahokipe::Refusal> {
@@ -32,9 +32,10 @@
 //! assert_eq!(figures.importance, [4, 1, 1]);
 //! assert!(report(&record)?.starts_with(b"parts 3 sets 2 mark 15\n"));
 //!
-//! // Pump 7 leaves and another comes. Its number is one that was never issued, and it is in no set until one is added.
+//! // Pump 7 leaves and another comes. Its number is one that was never issued, and it is in no set, so idle, until one is added.
 //! let record = add_part(&take_out_part(&record, 7)?)?;
 //! assert_eq!(whole_record(&record)?.numbers, [3, 12, 16]);
+//! assert_eq!(idle_parts(3, &table_of_record(&record)?)?, 0b100);
 //! let record = add_set_of_parts(&record, &[3, 16])?;
 //! assert_eq!(sets_of_record(&record)?, [0b011, 0b101]);
 //!
@@ -58,6 +59,7 @@ mod cuts;
 mod declared;
 mod drawings;
 mod figures;
+mod idle;
 mod kind;
 pub mod lent;
 mod part_numbers;
@@ -74,6 +76,7 @@ pub use changes::{add_set, take_out, take_out_group};
 pub use cuts::{dual, minimal_cuts, table_of_cuts};
 pub use drawings::{drawing_of_record, record_of_drawing};
 pub use figures::{domination, figures, importance, path_counts, signature, tail, Figures};
+pub use idle::idle_parts;
 pub use kind::Kind;
 pub use part_numbers::{mask_of, numbers_of, position_of};
 pub use patterns::{table_of_pattern, Pattern};

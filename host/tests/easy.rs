@@ -3,11 +3,11 @@
 
 use nahokipe::{
     add_part, add_set, add_set_of_parts, convert, domination, drawing_of_record, dual, figures,
-    first_record, importance, lent, minimal_cuts, minimal_sets, path_counts, read_sheet,
-    record_of_drawing, refused_line, reliability, report, sets_of_record, shares_by_both_routes,
-    shares_by_reliability, shares_by_sets, signature, table_of_cuts, table_of_list,
-    table_of_pattern, table_of_record, tail, take_out, take_out_group, take_out_part,
-    take_out_parts, vector_verdict, write_sheet, Figures, Kind, Refusal, Vector,
+    first_record, idle_parts, importance, lent, minimal_cuts, minimal_sets, path_counts,
+    read_sheet, record_of_drawing, refused_line, reliability, report, sets_of_record,
+    shares_by_both_routes, shares_by_reliability, shares_by_sets, signature, table_of_cuts,
+    table_of_list, table_of_pattern, table_of_record, tail, take_out, take_out_group,
+    take_out_part, take_out_parts, vector_verdict, write_sheet, Figures, Kind, Refusal, Vector,
 };
 use nahokipe_testing::making::{damaged_drawing, damaged_record, flipped, largest_drawing};
 use nahokipe_testing::making::{largest_record, random_drawing, random_group, random_list};
@@ -16,8 +16,8 @@ use nahokipe_testing::making::{sets_of_size, six_of_sixteen, table_of_sets, unkn
 use nahokipe_testing::naive_patterns::{self, PATTERNS};
 use nahokipe_testing::naive_records::{changed, whole_record, Change};
 use nahokipe_testing::seeded::Seeded;
-use nahokipe_testing::{naive, naive_cuts, naive_drawing, naive_figures, naive_records};
-use nahokipe_testing::{naive_report, naive_shares, naive_vectors};
+use nahokipe_testing::{naive, naive_cuts, naive_drawing, naive_figures, naive_idle};
+use nahokipe_testing::{naive_records, naive_report, naive_shares, naive_vectors};
 
 // ---- structures and figures
 
@@ -41,6 +41,7 @@ fn compare_table(n: usize, table: &[u8]) {
     assert!(minimal_sets(n, table) == naive::minimal_sets(n, table));
     assert!(minimal_cuts(n, table) == naive_cuts::minimal_cuts(n, table));
     assert!(dual(n, table) == naive_cuts::dual(n, table));
+    assert_eq!(idle_parts(n, table), naive_idle::idle_parts(n, table));
 }
 
 /// Everything that is made of a list.

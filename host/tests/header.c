@@ -80,6 +80,34 @@ static void test_cuts(void)
     expect_bytes("dual", dual, turned, sizeof dual);
 }
 
+/* No part of the bridge is idle; a part in no set is; so are all parts but the last of a machine that runs exactly while that one does. */
+static void test_idle(void)
+{
+    static uint8_t last_alone[NAHOKIPE_LONGEST_TABLE];
+    static const uint8_t sixth_in_no_set[8] = {0x00, 0xEA, 0xEC, 0xEE, 0x00, 0xEA, 0xEC, 0xEE};
+    static const uint8_t both_ends[1] = {0xA0}, unused[1] = {0x1F}, of_empty[1] = {0x01}, not_of_full[1] = {0x02};
+    static const uint64_t numbers[3] = {3, 7, 12}, named[2] = {7, 99};
+    uint8_t lent[8];
+    uint64_t cells[2] = {99, 99};
+
+    memcpy(lent, sixth_in_no_set, sizeof lent);
+    memset(last_alone + sizeof last_alone / 2, 0xFF, sizeof last_alone / 2);
+    expect("idle_parts, the bridge", nahokipe_idle_parts(5, bridge, 4), 0, 0);
+    expect("idle_parts, a part in no set", nahokipe_idle_parts(6, lent, 8), 0, 0x20);
+    expect_bytes("idle_parts, a part in no set", lent, sixth_in_no_set, sizeof lent);
+    expect("idle_parts, 16 parts", nahokipe_idle_parts(16, last_alone, sizeof last_alone), 0, 0x7FFF);
+    expect("idle_parts, two of three", nahokipe_idle_parts(3, both_ends, 1), 0, 0x02);
+    expect("idle_parts, by number", nahokipe_numbers_of(numbers, 3, nahokipe_idle_parts(3, both_ends, 1).value, cells, 2), 0, 1);
+    expect_bytes("idle_parts, by number", cells, named, sizeof cells);
+    expect("idle_parts, no parts", nahokipe_idle_parts(0, bridge, 4), NAHOKIPE_WRONG_PART_COUNT, 0);
+    expect("idle_parts, 17 parts", nahokipe_idle_parts(17, bridge, 4), NAHOKIPE_WRONG_PART_COUNT, 0);
+    expect("idle_parts, long table", nahokipe_idle_parts(5, lent, 8), NAHOKIPE_WRONG_TABLE_LENGTH, 0);
+    expect("idle_parts, unused bit", nahokipe_idle_parts(2, unused, 1), NAHOKIPE_UNUSED_BIT, 0);
+    expect("idle_parts, empty set works", nahokipe_idle_parts(2, of_empty, 1), NAHOKIPE_EMPTY_SET_WORKS, 0);
+    expect("idle_parts, full set fails", nahokipe_idle_parts(2, not_of_full, 1), NAHOKIPE_FULL_SET_FAILS, 0);
+    expect("idle_parts, broken table", nahokipe_idle_parts(3, broken, 1), NAHOKIPE_BROKEN_SET, 2);
+}
+
 typedef nahokipe_answer pattern_call(size_t n, size_t k, uint8_t *table, size_t table_len);
 
 /* Four parts and k = 2, refused first, which leaves the buffer as it was, and then its table and its minimal cut sets. */
@@ -511,6 +539,7 @@ int main(void)
 {
     test_structures();
     test_cuts();
+    test_idle();
     test_patterns();
     test_vector("path_counts", nahokipe_path_counts, counts, 6);
     test_vector("tail", nahokipe_tail, tail, 6);

@@ -35,6 +35,7 @@ static void minimal_sets(void) { set_count = given(nahokipe_minimal_sets(16, tab
 static void table_of_cuts(void) { given(nahokipe_table_of_cuts(16, sets, SETS, other, sizeof other)); }
 static void minimal_cuts(void) { cut_count = given(nahokipe_minimal_cuts(16, other, sizeof other, found, SETS)); }
 static void dual(void) { given(nahokipe_dual(16, table, sizeof table, other, sizeof other)); }
+static void idle_parts(void) { given(nahokipe_idle_parts(16, table, sizeof table)); }
 static void table_at_least(void) { given(nahokipe_table_at_least(16, 8, other, sizeof other)); }
 static void table_of_row(void) { given(nahokipe_table_of_row(16, 2, other, sizeof other)); }
 static void table_of_ring(void) { given(nahokipe_table_of_ring(16, 2, other, sizeof other)); }
@@ -91,9 +92,10 @@ static size_t used(call made) {
 int main(void) {
     static const struct { const char *name; call made; } calls[] = {
         {"table_of_list", table_of_list}, {"table_verdict", table_verdict}, {"minimal_sets", minimal_sets},
-        {"table_of_cuts", table_of_cuts}, {"minimal_cuts", minimal_cuts}, {"dual", dual}, {"table_at_least", table_at_least},
-        {"table_of_row", table_of_row}, {"table_of_ring", table_of_ring}, {"figures", figures}, {"shares_by_both_routes", both_routes},
-        {"reliability", reliability}, {"convert", convert}, {"write_sheet", write_sheet}, {"read_sheet", read_sheet},
+        {"table_of_cuts", table_of_cuts}, {"minimal_cuts", minimal_cuts}, {"dual", dual}, {"idle_parts", idle_parts},
+        {"table_at_least", table_at_least}, {"table_of_row", table_of_row}, {"table_of_ring", table_of_ring}, {"figures", figures},
+        {"shares_by_both_routes", both_routes}, {"reliability", reliability}, {"convert", convert}, {"write_sheet", write_sheet},
+        {"read_sheet", read_sheet},
         {"entered_record", entered_record}, {"position_of", position_of}, {"mask_of", mask_of}, {"numbers_of", numbers_of},
         {"take_out_part", take_out_part}, {"take_out_parts", take_out_parts},
         {"add_set_of_parts", add_set_of_parts}, {"first_record", first_record}, {"whole_record", whole_record},

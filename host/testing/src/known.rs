@@ -1,6 +1,6 @@
 //! Records, vectors, texts and tables that are refused, with the number and the place that documents 01 and 02 give them, groups with what
-//! taking them out comes to, records that are entered, changes by part numbers, texts with their records, machines with their cut sets, and
-//! stock patterns: worked out by hand, and asked of the calculator and of the second implementation alike.
+//! taking them out comes to, records that are entered, changes by part numbers, texts with their records, machines with their cut sets and
+//! with their idle parts, and stock patterns: worked out by hand, and asked of the calculator and of the second implementation alike.
 
 use crate::naive_records::{Change, TOP_NUMBER};
 use nahokipe::Pattern::{self, AtLeast, Ring, Row};
@@ -460,6 +460,54 @@ pub const CUT_MACHINES: [CutMachine; 9] = [
         5,
         [&[9, 14, 18, 21], &[3, 14, 21, 24]],
         [&[0x00, 0xEA, 0xEC, 0xEE], &[0x88, 0xC8, 0xA8, 0xFF]],
+    ),
+];
+
+/// A machine of n parts: its minimal path sets, its table and the mask of its idle parts.
+pub type IdleMachine = (usize, &'static [u16], &'static [u8], u16);
+
+/// One part; two of which one, either or both run the machine; three of which the middle one or the two others do; four in a chain of pairs,
+/// of which none is idle though the last entry of the domination is 0; the bridge, also with a sixth part in no set; and of seven parts the
+/// first, the sixth or the seventh alone, or the sixth with the seventh.
+pub const IDLE_MACHINES: [IdleMachine; 15] = [
+    (1, &[1], &[0x02], 0),
+    (2, &[1], &[0x0A], 0b10),
+    (2, &[2], &[0x0C], 0b01),
+    (2, &[1, 2], &[0x0E], 0),
+    (2, &[3], &[0x08], 0),
+    (3, &[2], &[0xCC], 0b101),
+    (3, &[5], &[0xA0], 0b010),
+    (3, &[1, 4], &[0xFA], 0b010),
+    (4, &[3, 6, 12], &[0xC8, 0xF8], 0),
+    (5, &[9, 14, 18, 21], &[0x00, 0xEA, 0xEC, 0xEE], 0),
+    (
+        6,
+        &[9, 14, 18, 21],
+        &[0x00, 0xEA, 0xEC, 0xEE, 0x00, 0xEA, 0xEC, 0xEE],
+        0b10_0000,
+    ),
+    (7, &[0x01], &[0xAA; 16], 0b111_1110),
+    (
+        7,
+        &[0x20],
+        &[
+            0, 0, 0, 0, 0xFF, 0xFF, 0xFF, 0xFF, 0, 0, 0, 0, 0xFF, 0xFF, 0xFF, 0xFF,
+        ],
+        0b101_1111,
+    ),
+    (
+        7,
+        &[0x40],
+        &[
+            0, 0, 0, 0, 0, 0, 0, 0, 0xFF, 0xFF, 0xFF, 0xFF, 0xFF, 0xFF, 0xFF, 0xFF,
+        ],
+        0b011_1111,
+    ),
+    (
+        7,
+        &[0x60],
+        &[0, 0, 0, 0, 0, 0, 0, 0, 0, 0, 0, 0, 0xFF, 0xFF, 0xFF, 0xFF],
+        0b001_1111,
     ),
 ];
 

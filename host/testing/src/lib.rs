@@ -9,6 +9,7 @@ pub mod naive_bytes;
 pub mod naive_cuts;
 pub mod naive_drawing;
 pub mod naive_figures;
+pub mod naive_idle;
 pub mod naive_patterns;
 pub mod naive_records;
 pub mod naive_report;

@@ -47,6 +47,14 @@ pub fn random_list(seeded: &mut Seeded, n: usize) -> Vec<u16> {
     list
 }
 
+/// A list whose sets have no parts but these, which are at least one: a random list of as many parts, each set moved to their positions.
+pub fn random_list_over(seeded: &mut Seeded, parts: u16) -> Vec<u16> {
+    let to = positions(parts);
+    let moved = |set| positions(set).iter().map(|i| 1 << (to[i - 1] - 1)).sum();
+    let list = random_list(seeded, to.len());
+    list.into_iter().map(moved).collect()
+}
+
 /// A list of n parts with something wrong in it, in one or two places.
 pub fn damaged_list(seeded: &mut Seeded, n: usize) -> Vec<u16> {
     let mut list = random_list(seeded, n);

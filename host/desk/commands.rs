@@ -3,7 +3,7 @@
 use crate::arguments::Arguments;
 use crate::ending::Ending;
 use crate::nearest;
-use crate::{changes, diff, entering, explain, figures, page, shares, showing};
+use crate::{changes, diff, entering, explain, figures, idle, page, shares, showing};
 use std::ffi::OsStr;
 
 /// A command of the program.
@@ -43,7 +43,7 @@ const ONE_RECORD: Command = Command {
 };
 
 /// All commands, in the order of the help.
-static COMMANDS: [Command; 14] = [
+static COMMANDS: [Command; 15] = [
     Command {
         name: "enter",
         words: "TEXT RECORD",
@@ -130,6 +130,25 @@ shown as comments.
 ",
         takes_names: true,
         run: showing::cuts,
+        ..ONE_RECORD
+    },
+    Command {
+        name: "idle",
+        words: "RECORD [--names FILE]",
+        summary: "the parts that never change whether it runs",
+        details: "\
+A part is idle if adding it to a set of parts never changes whether the machine runs. Each idle
+part has a line, such as `idle 16`; where there is none, a comment says so. Names are shown as
+comments.
+
+Exactly the idle parts have importance 0: in no order of failures does the failure of one stop
+the machine. Exactly the idle parts are in none of the sets that `nahokipe show` prints, and
+these sets stay as they are if idle parts are taken out.
+
+    nahokipe idle tab6.record --names names.txt
+",
+        takes_names: true,
+        run: idle::idle,
         ..ONE_RECORD
     },
     Command {

@@ -57,6 +57,13 @@ impl Design {
         masks.map(cut).collect()
     }
 
+    /// The idle parts, which the library finds: adding one to a set never changes whether the machine runs.
+    pub fn idle(&self) -> Result<Vec<u64>, Refusal> {
+        let table = nahokipe::table_of_record(&self.bytes)?;
+        let mask = nahokipe::idle_parts(self.size(), &table)?;
+        nahokipe::numbers_of(&self.parts, usize::from(mask))
+    }
+
     /// How many parts the machine has.
     pub fn size(&self) -> usize {
         self.parts.len()

@@ -67,14 +67,16 @@ pub fn figures(arguments: &Arguments) -> Result<(), Ending> {
     let name = arguments.file(0);
     let design = Design::read(&name)?;
     let names = Names::read(arguments.names.as_ref(), &design.parts)?;
-    let worked = Worked::of(&design).map_err(|refusal| Ending::refused(refusal, &name))?;
+    let refused = |refusal| Ending::refused(refusal, &name);
+    let worked = Worked::of(&design).map_err(refused)?;
+    let idle = design.idle().map_err(refused)?;
     let blocks = [
         head(&design, &worked),
         signature(&worked),
         tail(&worked),
         path_counts(&worked),
         domination(&worked),
-        importance(&design, &worked, &names),
+        importance(&design, &worked, &names) + &idle_parts(&idle),
     ];
     output::print(&blocks.join("\n"), Stream::Output)
 }
@@ -182,23 +184,20 @@ fn importance(design: &Design, worked: &Worked, names: &Names) -> String {
         rows.push(cells);
     }
     format!(
-        "Importance: in how many orders it is this part's failure that stops the machine\n{}{}",
-        columns(&rows, true),
-        idle(design, worked)
+        "Importance: in how many orders it is this part's failure that stops the machine\n{}",
+        columns(&rows, true)
     )
 }
 
-/// The parts that the machine never misses, if there are any.
-fn idle(design: &Design, worked: &Worked) -> String {
-    let parts = design.parts.iter().zip(&worked.importance);
-    let idle = parts
-        .filter(|(_, share)| share.count == 0)
-        .map(|(&part, _)| part);
-    match &idle.collect::<Vec<u64>>()[..] {
+/// What is said of the idle parts, which are those of importance 0; nothing where there is none.
+fn idle_parts(idle: &[u64]) -> String {
+    match idle {
         [] => String::new(),
-        [part] => format!("The machine never misses part {part}: no set names it\n"),
+        [part] => {
+            format!("Part {part} is idle: the machine never misses it, and no set names it\n")
+        }
         parts => format!(
-            "The machine never misses the parts {}: no set names them\n",
+            "The parts {} are idle: the machine never misses them, and no set names them\n",
             listed(parts)
         ),
     }

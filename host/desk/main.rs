@@ -15,6 +15,7 @@ mod entry_text;
 mod explain;
 mod figures;
 mod files;
+mod idle;
 mod meaning;
 mod names;
 mod nearest;

@@ -213,7 +213,7 @@ fn importance(design: &Design, worked: &Worked, names: &Names) -> String {
     let table = table(&["part", "orders", "fraction", "per cent"], rows);
     let about = "Importance: how often the failure of each part stops the machine, in per cent of all orders";
     let sentence = "In how many of the orders it is the failure of this part that stops the machine (Barlow and Proschan). \
-        The more, the more hangs on the part; the machine never misses a part with 0.";
+        The more, the more hangs on the part; a part with 0 is idle: the machine never misses it.";
     section(
         "Importance of the parts",
         sentence,

@@ -75,7 +75,7 @@ fn block<'a>(printed: &'a str, title: &str) -> Vec<Vec<&'a str>> {
 }
 
 /// The first two cells of each row of a block, as numbers.
-fn counts(printed: &str, title: &str) -> Vec<(i128, i128)> {
+pub fn counts(printed: &str, title: &str) -> Vec<(i128, i128)> {
     let number = |cell: &str| cell.parse::<i128>().expect("a number");
     let rows = block(printed, title).into_iter();
     rows.map(|row| (number(row[0]), number(row[1]))).collect()
@@ -190,22 +190,20 @@ fn the_largest_machine() {
 }
 
 #[test]
-fn a_part_that_the_machine_never_misses() {
+fn idle_parts_below_the_importances() {
     let folder = Folder::with("pumps", PUMPS);
     let printed = folder.run(&["figures", "pumps"]).done();
-    assert!(!printed.contains("never misses"), "{printed}");
+    assert!(!printed.contains("idle"), "{printed}");
     folder.run(&["add-part", "pumps"]).done();
     let printed = folder.run(&["figures", "pumps"]).done();
     assert!(
-        printed.ends_with("The machine never misses part 16: no set names it\n"),
+        printed.ends_with("\nPart 16 is idle: the machine never misses it, and no set names it\n"),
         "{printed}"
     );
     folder.run(&["add-part", "pumps"]).done();
     let printed = folder.run(&["figures", "pumps"]).done();
-    assert_has(
-        &printed,
-        &["The machine never misses the parts 16 17: no set names them\n"],
-    );
+    let said = "\nThe parts 16 17 are idle: the machine never misses them, and no set names them\n";
+    assert!(printed.ends_with(said), "{printed}");
 }
 
 #[test]

@@ -8,6 +8,7 @@ mod entering;
 mod explaining;
 mod faults;
 mod folder;
+mod idle;
 mod keeping;
 mod manual;
 mod markup;

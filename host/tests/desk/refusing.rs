@@ -4,9 +4,10 @@ use crate::folder::{assert_has, Folder, BRIDGE, PUMPS};
 use std::fs;
 
 /// The commands that read one record, with what else they want.
-const READING: [&[&str]; 11] = [
+const READING: [&[&str]; 12] = [
     &["show"],
     &["cuts"],
+    &["idle"],
     &["drawing"],
     &["report"],
     &["figures"],

@@ -33,7 +33,9 @@ fn closed(folder: &Folder, words: &[&str], input: Option<&str>) -> Ran {
 fn a_closed_pipe_ends_quietly() {
     let folder = Folder::with("record", largest_record());
     folder.write("pumps", PUMPS);
-    for command in ["show", "cuts", "report", "figures", "drawing", "page"] {
+    for command in [
+        "show", "cuts", "idle", "report", "figures", "drawing", "page",
+    ] {
         let ran = closed(&folder, &[command, "record"], None);
         let quiet = ran.error.is_empty() || command == "drawing" && ran.error.contains("a warning");
         assert!(ran.status == Some(0) && quiet, "{ran:?}");
@@ -87,9 +89,10 @@ fn the_head_of_a_page() {
 fn a_full_disk_behind_standard_output() {
     let folder = Folder::with("pumps", PUMPS);
     folder.write("text", "mark 5\nparts 1 2\nset 1\n");
-    let printing: [&[&str]; 9] = [
+    let printing: [&[&str]; 10] = [
         &["show", "pumps"],
         &["cuts", "pumps"],
+        &["idle", "pumps"],
         &["page", "pumps"],
         &["report", "pumps"],
         &["--help"],

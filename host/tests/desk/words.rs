@@ -3,8 +3,8 @@
 use crate::folder::{assert_has, Folder, PUMPS};
 
 /// All commands.
-pub const COMMANDS: [&str; 14] = [
-    "enter", "new", "show", "cuts", "drawing", "report", "figures", "shares", "add-part",
+pub const COMMANDS: [&str; 15] = [
+    "enter", "new", "show", "cuts", "idle", "drawing", "report", "figures", "shares", "add-part",
     "add-set", "take-out", "diff", "page", "explain",
 ];
 
@@ -67,6 +67,8 @@ fn no_command_and_unknown_commands() {
         ("figure", "figures"),
         ("add-prat", "add-part"),
         ("cut", "cuts"),
+        ("Idle", "idle"),
+        ("idel", "idle"),
         ("news", "new"),
     ];
     for (word, nearest) in cases {
@@ -83,7 +85,7 @@ fn no_command_and_unknown_commands() {
 }
 
 /// Words that are wrong, and what is said of them.
-const WRONG_USES: [(&[&str], &str); 41] = [
+const WRONG_USES: [(&[&str], &str); 47] = [
     (&["enter", "text"], "a word is missing"),
     (
         &["enter", "text", "record", "more"],
@@ -153,6 +155,21 @@ const WRONG_USES: [(&[&str], &str); 41] = [
     (&["cuts"], "a word is missing"),
     (&["cuts", "pumps", "3"], "`3` is a word too many"),
     (&["cuts", "pumps", "-o", "new"], "there is no option `-o`"),
+    (&["idle"], "a word is missing"),
+    (&["idle", "pumps", "16"], "`16` is a word too many"),
+    (&["idle", "pumps", "-o", "new"], "there is no option `-o`"),
+    (
+        &["idle", "pumps", "--names=names"],
+        "there is no option `--names=names`; write `--names FILE`",
+    ),
+    (
+        &["idle", "pumps", "--names"],
+        "a file belongs behind `--names`",
+    ),
+    (
+        &["idle", "-", "--names", "-"],
+        "standard input cannot be read twice",
+    ),
     (&["add-part", "pumps", "16"], "`16` is a word too many"),
     (&["add-part", "pumps", "-o"], "a file belongs behind `-o`"),
     (

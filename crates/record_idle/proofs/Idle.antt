@@ -24,11 +24,11 @@ use Rattle.theory_sums.specs.Sums.{some}
 use Rattle.theory_sets.specs.Masks.{has, holds}
 use Rattle.theory_sets.specs.Structures.{listed}
 use Rattle.theory_sets.specs.Tables.{inTable, tableOf}
+use Rattle.theory_sets.proofs.Lists.{member-at, index-of}
 use Rattle.theory_sets.proofs.Masks.{has-le, has-above, holds-part, holds-le}
 use Rattle.theory_sets.proofs.Idle.{idle-exactly, has-idleParts, idleParts-below}
 use Rattle.masks.specs.Groups.{meets}
 use Rattle.masks.proofs.Groups.{shared-part}
-use Rattle.structure_closure.proofs.ListedSets.{member-at, index-of}
 use Rattle.structure.proofs.Acceptance.{accepted-table}
 use Rattle.record_numbers.specs.Numbering.{named}
 use Rattle.record_parts.specs.PartLists.{numbersOf}

@@ -14,10 +14,11 @@ use lib.ListN.{length, getD}
 use Rattle.theory_sums.specs.Sums.{some}
 use Rattle.record_numbers.specs.Numbering.{RisingWithin, named, others}
 use Rattle.record_parts.specs.Lines.{In}
-use Rattle.record_parts.proofs.LeftOut.{in-at, in-named}
+use Rattle.record_parts.proofs.LeftOut.{in-named}
 use Rattle.record_parts.proofs.Numbers.{rising-in}
 use Rattle.theory_sets.specs.Masks.{has, holds}
 use Rattle.numbers.proofs.Bools.{clash, or-cases, or-left, or-right, same-test, false-of}
+use Rattle.theory_sets.proofs.Lists.{member-at}
 use Rattle.theory_sets.proofs.Masks.{has-suc, has-even, has-above, holds-part, holds-of-parts, holds-antisym}
 use Rattle.numbers.proofs.Bounds.{below-or-above}
 use Rattle.masks.specs.Groups.{meets}
@@ -76,8 +77,8 @@ named-at (p ∷ ps) set (suc i) h k = cases (has set 0) (named-at ps (set / 2) i
 pub rising-once : (low high : ℕ) (numbers : List ℕ) → RisingWithin low high numbers → (i j : ℕ) → i < length numbers → j < length numbers → getD numbers i 0 ≡ getD numbers j 0 → i ≡ j
 rising-once low high [] r i j hi hj e = absurd (omega arith)
 rising-once low high (p ∷ ps) r zero zero hi hj e = refl
-rising-once low high (p ∷ ps) r zero (suc j) hi hj e = absurd (omega (arith, rising-in p high ps (r .2) (in-at j ps (le-of-suc-le-suc hj)) .0))
-rising-once low high (p ∷ ps) r (suc i) zero hi hj e = absurd (omega (arith, rising-in p high ps (r .2) (in-at i ps (le-of-suc-le-suc hi)) .0))
+rising-once low high (p ∷ ps) r zero (suc j) hi hj e = absurd (omega (arith, rising-in p high ps (r .2) (member-at ps j (le-of-suc-le-suc hj)) .0))
+rising-once low high (p ∷ ps) r (suc i) zero hi hj e = absurd (omega (arith, rising-in p high ps (r .2) (member-at ps i (le-of-suc-le-suc hi)) .0))
 rising-once low high (p ∷ ps) r (suc i) (suc j) hi hj e = ap suc (rising-once p high ps (r .2) i j (le-of-suc-le-suc hi) (le-of-suc-le-suc hj) e)
 
 module _ (low high : ℕ) (numbers : List ℕ) (rising : RisingWithin low high numbers) where

@@ -17,7 +17,7 @@ use Rattle.answer.proofs.Outcomes.{refuse-accepted, given-valued}
 use Rattle.numbers.proofs.Bools.{clash}
 use Rattle.record_numbers.specs.Numbering.{RisingWithin}
 use Rattle.record_parts.specs.Lines.{In}
-use Rattle.record_parts.proofs.LeftOut.{in-at}
+use Rattle.theory_sets.proofs.Lists.{member-at}
 use Rattle.record_lines.proofs.Names.{rising-once}
 use Rattle.record_naming.specs.Naming.{positionFrom, positionOf, foundPosition}
 
@@ -76,7 +76,7 @@ position-exactly low high numbers rising number position = (there, back)
 
     back : (1 ≤ position) × (position ≤ length numbers) × (getD numbers (position - 1) 0 ≡ number) → foundPosition numbers number ≡ value.Given position
     back h =
-        let t = traced 1 number numbers (subst (λ (x : ℕ). In x numbers) (h .2) (in-at (position - 1) numbers (omega (arith, h .0, h .1)))) in
+        let t = traced 1 number numbers (subst (λ (x : ℕ). In x numbers) (h .2) (member-at numbers (position - 1) (omega (arith, h .0, h .1)))) in
         let same : t .index ≡ position - 1 =
         rising-once low high numbers rising (t .index) (position - 1) (t .inside) (omega (arith, h .0, h .1)) (t .same ∙ sym (h .2)) in
         let here : positionOf numbers number ≡ position = omega (arith, same, t .position, h .0) in

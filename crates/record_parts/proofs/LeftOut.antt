@@ -16,12 +16,6 @@ use Rattle.record_numbers.specs.Numbering.{named, others}
 use Rattle.record_numbers.proofs.Others.{named-or-others}
 use Rattle.record_parts.specs.Lines.{In}
 
--- the number at an index is one of them
-pub in-at : (index : ℕ) (numbers : List ℕ) → index < length numbers → In (getD numbers index 0) numbers
-in-at index [] h = absurd (omega arith)
-in-at zero (n ∷ ns) h = List·Memᴰ·head refl
-in-at (suc i) (n ∷ ns) h = List·Memᴰ·tail (in-at i ns (omega arith))
-
 -- ---- some of the numbers, and the others
 
 -- both are numbers of the list

@@ -2,10 +2,10 @@
 -- Assumes nothing.
 use mathlib.Core.Path.{_≡_, refl, sym, ap, _∙_, subst}
 use mathlib.Core.Bool.{Bool, true, false, _&&_, _||_}
-use mathlib.Core.List.{List, [], _∷_, List·Memᴰ, List·Memᴰ·head, List·Memᴰ·tail, List·Memᴰ·cases-cons}
+use mathlib.Core.List.{List, List·Memᴰ}
 use mathlib.Core.Logic.{_⊎_, inl, inr}
-use Prim.Native.Nat.{ℕ, zero, suc, _+_, _-_, _/_, _^_, _≤_, _<_, suc-le-suc}
-use native.Mathlib.Nat.{not-suc-le-zero, le-of-suc-le-suc, zero-lt-suc, div-one, div-eq-of-lt, sub-add-cancel, add-div-right, le-div-iff-mul-le, one-mul}
+use Prim.Native.Nat.{ℕ, zero, suc, _+_, _-_, _/_, _^_, _≤_, _<_}
+use native.Mathlib.Nat.{div-one, div-eq-of-lt, sub-add-cancel, add-div-right, le-div-iff-mul-le, one-mul}
 use native.Mathlib.Omega.{arith}
 use lib.Dec.{eqb}
 use lib.ListN.{length, getD}
@@ -14,26 +14,13 @@ use borrow.Author.Tests.{eqb-true, eq-eqb}
 use Rattle.theory_sets.specs.Masks.{has, holds}
 use Rattle.theory_sets.specs.Structures.{listed}
 use Rattle.numbers.proofs.Bools.{and-left, and-right, and-both, or-cases, or-left, or-right, true-or-false, clash, same-test, false-of}
-use Rattle.theory_sets.proofs.Lists.{listed-intro, listed-elim}
+use Rattle.theory_sets.proofs.Lists.{listed-intro, listed-elim, member-at, index-of}
 use Rattle.theory_sets.proofs.Masks.{has-le, holds-part, holds-refl, holds-trans, holds-sub, holds-without, quotient-half, quotient-odd, quotient-even}
 use Rattle.theory_sets.proofs.Ranges.{any-intro, any-elim}
 use Rattle.structure_words.specs.Words.{among}
 use Rattle.structure_closure.specs.Closure.{spread}
 
--- ---- the members of a list by their index
-
-pub member-at : (xs : List ℕ) (i : ℕ) → i < length xs → List·Memᴰ (getD xs i 0) xs
-member-at [] i h = absurd (not-suc-le-zero h)
-member-at (x ∷ xs) zero h = List·Memᴰ·head refl
-member-at (x ∷ xs) (suc i) h = List·Memᴰ·tail (member-at xs i (le-of-suc-le-suc h))
-
-pub index-of : (xs : List ℕ) (a : ℕ) → List·Memᴰ a xs → (i : ℕ) × (i < length xs) × (getD xs i 0 ≡ a)
-index-of (x ∷ xs) a m = cases (List·Memᴰ·cases-cons m) (index-of xs a)
-  where
-    cases : (a ≡ x) ⊎ List·Memᴰ a xs → (List·Memᴰ a xs → (i : ℕ) × (i < length xs) × (getD xs i 0 ≡ a))
-        → (i : ℕ) × (i < suc (length xs)) × (getD (x ∷ xs) i 0 ≡ a)
-    cases (inl e) rest = (zero, zero-lt-suc (length xs), sym e)
-    cases (inr later) rest = let found = rest later in (suc (found .0), suc-le-suc (found .1), found .2)
+-- ---- the listed sets alone
 
 among-elim : (xs : List ℕ) (a : ℕ) → among xs a ≡ true → List·Memᴰ a xs
 among-elim xs a h =

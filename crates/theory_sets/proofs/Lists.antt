@@ -5,9 +5,9 @@ use mathlib.Core.Path.{_≡_, refl, sym, ap, subst, _∙_}
 use mathlib.Core.Bool.{Bool, true, false, _||_}
 use mathlib.Core.List.{List, [], _∷_, _++_, List·Memᴰ, List·Memᴰ·head, List·Memᴰ·tail, List·Memᴰ·cases-cons, List·Memᴰ·not-nil}
 use mathlib.Core.Logic.{_⊎_, inl, inr}
-use Prim.Native.Nat.{ℕ, _-_, _^_, _≤_, _<_}
-use native.Mathlib.Nat.{lt-of-le-of-lt, lt-irrefl, lt-of-lt-of-le, zero-lt-suc}
-use lib.ListN.{length}
+use Prim.Native.Nat.{ℕ, zero, suc, _-_, _^_, _≤_, _<_, suc-le-suc}
+use native.Mathlib.Nat.{lt-of-le-of-lt, lt-irrefl, lt-of-lt-of-le, zero-lt-suc, not-suc-le-zero, le-of-suc-le-suc}
+use lib.ListN.{length, getD}
 use Rattle.theory_sets.specs.Masks.{holds, Rising}
 use Rattle.theory_sets.specs.Structures.{Covers, Semicoherent, listed, minimal, minimalSets}
 use Rattle.numbers.proofs.Bools.{or-cases, or-left, or-right, clash, false-of, same-test}
@@ -60,6 +60,20 @@ listed-behind (y ∷ ys) x a = ap (λ (p : Bool). holds a y || p) (listed-behind
 pub some-entry : {a : ℕ} (xs : List ℕ) → List·Memᴰ a xs → 1 ≤ length xs
 some-entry [] m = absurd (List·Memᴰ·not-nil m)
 some-entry (x ∷ xs) m = zero-lt-suc (length xs)
+
+-- the members of a list by their index
+pub member-at : (xs : List ℕ) (i : ℕ) → i < length xs → List·Memᴰ (getD xs i 0) xs
+member-at [] i h = absurd (not-suc-le-zero h)
+member-at (x ∷ xs) zero h = List·Memᴰ·head refl
+member-at (x ∷ xs) (suc i) h = List·Memᴰ·tail (member-at xs i (le-of-suc-le-suc h))
+
+pub index-of : (xs : List ℕ) (a : ℕ) → List·Memᴰ a xs → (i : ℕ) × (i < length xs) × (getD xs i 0 ≡ a)
+index-of (x ∷ xs) a m = cases (List·Memᴰ·cases-cons m) (index-of xs a)
+  where
+    cases : (a ≡ x) ⊎ List·Memᴰ a xs → (List·Memᴰ a xs → (i : ℕ) × (i < length xs) × (getD xs i 0 ≡ a))
+        → (i : ℕ) × (i < suc (length xs)) × (getD (x ∷ xs) i 0 ≡ a)
+    cases (inl e) rest = (zero, zero-lt-suc (length xs), sym e)
+    cases (inr later) rest = let found = rest later in (suc (found .0), suc-le-suc (found .1), found .2)
 
 -- a list that has a set, none of them empty, gives a semicoherent structure
 pub listed-semicoherent : (n : ℕ) (sets : List ℕ) → 1 ≤ length sets → ((b : ℕ) → List·Memᴰ b sets → (b < 2 ^ n) × (0 < b)) → Semicoherent n (listed sets)

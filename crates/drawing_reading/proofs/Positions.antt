@@ -19,7 +19,8 @@ use Rattle.theory_sets.proofs.Tables.{packed-unique}
 use Rattle.theory_sums.specs.Sums.{some}
 use Rattle.theory_orders.proofs.Orders.{eqb-comm}
 use Rattle.record_lines.specs.Changes.{every}
-use Rattle.record_lines.specs.Names.{names, repeated}
+use Rattle.record_lines.specs.Names.{repeated}
+use Rattle.record_numbers.specs.Numbering.{names}
 use Rattle.drawing_text.specs.Sets.{setOf, within}
 use Rattle.drawing_text.proofs.Sets.{within-bounds}
 use Rattle.drawing_reading.specs.declared.Gathered.{Gathered}

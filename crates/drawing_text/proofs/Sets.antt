@@ -20,9 +20,10 @@ use Rattle.theory_sets.proofs.Tables.{has-packed, packed-below, packed-unique, 
 use Rattle.theory_sets.proofs.Ranges.{those-intro, those-elim, those-rising, rising-above}
 use Rattle.theory_sums.specs.Sums.{some}
 use Rattle.record_lines.specs.Changes.{every}
-use Rattle.record_lines.specs.Names.{names, repeated}
+use Rattle.record_lines.specs.Names.{repeated}
+use Rattle.record_numbers.specs.Numbering.{names}
 use Rattle.record_lines.proofs.Keeping.{every-intro, every-elim}
-use Rattle.record_lines.proofs.Names.{names-intro, names-elim}
+use Rattle.record_numbers.proofs.Names.{names-intro, names-elim}
 use Rattle.drawing_text.specs.Sets.{setOf, stands, positionsOf, within}
 
 -- ---- the set of some positions

@@ -5,8 +5,7 @@ use Prim.Native.Nat.{ℕ, suc, _+_, _-_}
 use lib.Dec.{leb}
 use Rattle.theory_sets.specs.Masks.{has, those}
 use Rattle.theory_sets.specs.Tables.{packed}
-use Rattle.record_numbers.specs.Numbering.{mostParts}
-use Rattle.record_lines.specs.Names.{names}
+use Rattle.record_numbers.specs.Numbering.{mostParts, names}
 
 -- the set of some positions: bit i - 1 for each position i of them
 unfoldable pub setOf : List ℕ → ℕ

@@ -6,7 +6,8 @@ use Prim.Native.Nat.{ℕ, _≤_}
 use lib.ListN.{drop, length}
 use Rattle.theory_orders.specs.Antichains.{mostSets}
 use Rattle.record_lines.specs.Changes.{every}
-use Rattle.record_lines.specs.Names.{names, repeated}
+use Rattle.record_lines.specs.Names.{repeated}
+use Rattle.record_numbers.specs.Numbering.{names}
 use Rattle.drawing_text.specs.Lines.{linesOf}
 use Rattle.drawing_text.specs.Forms.{partsWord, lineOf, setLines, numbersIn}
 use Rattle.drawing_text.specs.Sets.{within}

@@ -1,24 +1,21 @@
 -- An accepted table in words: the words say what the table says, the sets of each size in the words are its path counts, and so for the sets
 -- with a part, from which its importance comes. Assumes nothing.
 use mathlib.Core.Path.{_≡_, sym, ap, ap₂, _∙_, fun-ext}
-use mathlib.Core.Bool.{Bool, false, cond, _&&_, _||_, and-true, and-false}
+use mathlib.Core.Bool.{Bool, false, _&&_, _||_, and-true}
 use mathlib.Core.List.{List}
 use mathlib.Core.Logic.{_⊎_, inl, inr}
 use Prim.Native.Nat.{ℕ, suc, zero-le, _+_, _-_, _*_, _/_, _%_, _^_, _≤_, _<_}
-use native.Mathlib.Nat.{le-trans, le-of-eq, add-sub-of-le, add-sub-cancel-left, add-zero, zero-lt-suc}
+use native.Mathlib.Nat.{le-trans, le-of-eq, add-sub-cancel-left, zero-lt-suc}
 use native.Mathlib.Omega.{arith}
-use lib.Count.{ones-le}
-use lib.Dec.{eqb}
 use lib.ListN.{length, getD, take, drop, List·getD-eq-default}
 use lib.IntN.{ℤ, pos}
 use lib.Pow.{pow-mono}
 use lib.Seq.{getD-take, length-take-le}
-use borrow.Author.Tests.{ne-eqb, lt-leb}
+use borrow.Author.Tests.{lt-leb}
 use Rattle.numbers.specs.Tables.{tabulate, NoneOver}
 use Rattle.numbers.proofs.Tables.{tabulate-at, tabulate-length, tabulate-unique}
 use Rattle.theory_sums.specs.Sums.{sumBelow}
-use Rattle.theory_sums.proofs.Sums.{sumBelow-same, sumBelow-zero, sumBelow-append}
-use Rattle.theory_sets.specs.Masks.{has, size}
+use Rattle.theory_sets.specs.Masks.{has}
 use Rattle.theory_sets.specs.Tables.{inTable}
 use Rattle.theory_sets.proofs.Masks.{has-above}
 use Rattle.numbers.proofs.Bounds.{below-or-above}
@@ -35,6 +32,7 @@ use Rattle.figures.specs.Inside.{countsOf, entriesOf, sizedIn, rowsIn, p
 use Rattle.theory_figures.proofs.Sizes.{pathCount-few}
 use Rattle.numbers.proofs.Tables.{tabulate-same}
 use Rattle.figures_counts.proofs.Rows.{row-is}
+use Rattle.figures_counts.proofs.Sizes.{pathCount-beyond, pathCount-near}
 use Rattle.theory_figures.proofs.Importances.{withPart, withPart-fewer, importance-by-size}
 
 -- ---- the words of a table
@@ -57,26 +55,6 @@ words-table n table accepted = fun-ext (λ a. cases a (below-or-above a 65536))
         ∙ sym (table-beyond n table (accepted .long) (accepted .clear) a (le-trans (pow-mono (accepted .few)) h))
 
 -- ---- the counts of words
-
--- there is no set of n parts with more, and none of 16 parts beyond those of n
-pathCount-beyond : (n : ℕ) (test : ℕ → Bool) (s : ℕ) → n < s → pathCount n test s ≡ 0
-unfolding pathCount
-pathCount-beyond n test s h =
-    sumBelow-same _ (λ a. 0) (2 ^ n) (λ a l.
-    ap (λ (t : Bool). cond t 1 0) (ap (λ (b : Bool). test a && b) (ne-eqb (size a) s (λ e. omega (arith, e, ones-le n a l))) ∙ and-false (test a))) ∙ sumBelow-zero (2 ^ n)
-
-pathCount-near : (n : ℕ) (test : ℕ → Bool) → n ≤ 16 → ((a : ℕ) → 2 ^ n ≤ a → test a ≡ false) → (s : ℕ) → pathCount 16 test s ≡ pathCount n test s
-unfolding pathCount
-pathCount-near n test few beyond s =
-    ap (sumBelow term) (sym (add-sub-of-le (pow-mono few)))
-    ∙ sumBelow-append term (2 ^ n) (65536 - 2 ^ n)
-    ∙ ap (λ (u : ℕ). sumBelow term (2 ^ n) + u)
-    (sumBelow-same _ (λ a. 0) (65536 - 2 ^ n) (λ a l. ap (λ (b : Bool). cond (b && eqb (size (2 ^ n + a)) s) 1 0) (beyond (2 ^ n + a) (omega arith)))
-    ∙ sumBelow-zero (65536 - 2 ^ n))
-    ∙ add-zero (sumBelow term (2 ^ n))
-  where
-    term : ℕ → ℕ
-    term a = cond (test a && eqb (size a) s) 1 0
 
 -- a list of counts by size, as a function
 counts-function : (n : ℕ) (test : ℕ → Bool) → n ≤ 16 → countsOf (tabulate 17 (pathCount n test)) ≡ pathCount n test

@@ -4,7 +4,7 @@ use mathlib.Core.Path.{_≡_, refl, sym, ap, _∙_}
 use mathlib.Core.List.{List}
 use Prim.Native.Nat.{ℕ, _-_, _≤_, _<_}
 use native.Mathlib.Omega.{arith}
-use lib.ListN.{length, replicate, length-append}
+use lib.ListN.{length}
 use Rattle.answer.specs.Outcome.{outcome}
 use Rattle.answer.specs.declared.Refusal.{Refusal}
 use Rattle.answer.specs.declared.Verdict.the-variants.{Accepted, Refused}
@@ -13,10 +13,9 @@ use Rattle.answer.specs.declared.Value.the-variants as value
 use Rattle.answer.specs.declared.Written.the-variants as written
 use Rattle.codec.specs.Bytes.{Bytes}
 use Rattle.codec.specs.Reads.{Read, found, refused}
-use Rattle.record_numbers.specs.Numbering.{mostParts}
 use Rattle.record_parts.specs.declared.PartList.{PartList}
-use Rattle.record_parts.specs.PartLists.{numbersOf, WellFormed}
-use Rattle.record_parts.proofs.WellFormed.{well-formed-counted}
+use Rattle.record_parts.specs.PartLists.{numbersOf}
+use Rattle.record_parts.proofs.WellFormed.{well-formed-counted, cells-enough}
 use Rattle.record.specs.declared.Contents.{Contents}
 use Rattle.record.specs.Records.{Design, wholeRecord}
 use Rattle.record.specs.RecordBytes.{DesignRules}
@@ -27,11 +26,6 @@ use Rattle.record_lines.specs.Records.{changedRecord}
 use Rattle.record_naming.specs.Naming.{foundMask}
 use Rattle.record_naming.proofs.Refusals.{found-mask-small}
 use Rattle.record_by_number.specs.Parts.{lookedUp, partsMask, changedThere}
-
--- the cells of a part list are enough for its numbers
-cells-enough : (list : PartList) → WellFormed list → list .count ≤ length (list .numbers)
-cells-enough list w =
-    omega (arith, ap length (w .spare), length-append (numbersOf list) (replicate (mostParts - length (numbersOf list)) 0), well-formed-counted list w)
 
 -- the design of an accepted record whose contents were read
 pub record DesignSeen (bytes : List ℕ) (contents : Contents) : Type 0 where

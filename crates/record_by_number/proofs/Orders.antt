@@ -23,17 +23,17 @@ use Rattle.codec.specs.Bytes.{Bytes}
 use Rattle.codec.specs.Reads.{Read, found, refused}
 use Rattle.theory_sums.specs.Sums.{indicator, sum, some}
 use Rattle.theory_orders.specs.Orders.{times}
-use Rattle.record_numbers.specs.Numbering.{named}
+use Rattle.record_numbers.specs.Numbering.{named, names}
 use Rattle.record_parts.specs.PartLists.{numbersOf}
 use Rattle.record_parts.proofs.WellFormed.{well-formed-counted}
 use Rattle.record.specs.Records.{Design, wholeRecord}
 use Rattle.record.specs.RecordBytes.{recordBytes}
 use Rattle.record.proofs.RoundTrip.{whole-written}
 use Rattle.record_lines.specs.Changes.{takeOut, takeOutGroup, changeRefusal, changed}
-use Rattle.record_lines.specs.Names.{names, repeated}
+use Rattle.record_lines.specs.Names.{repeated}
 use Rattle.record_lines.specs.Records.{changedRead, changedRecord}
 use Rattle.record_lines.specs.Lines.{outcomeOf}
-use Rattle.record_lines.proofs.Names.{names-intro, names-elim}
+use Rattle.record_numbers.proofs.Names.{names-intro, names-elim}
 use Rattle.record_naming.specs.Naming.{positionOf, maskOf, wantedRefusal, foundPosition}
 use Rattle.record_naming.proofs.Steps.{mask-below}
 use Rattle.record_naming.proofs.Masks.{named-rising, rising-not-repeated}

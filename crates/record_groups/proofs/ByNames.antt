@@ -11,16 +11,17 @@ use lib.ListN.{length}
 use Rattle.numbers.proofs.Bools.{same-test}
 use Rattle.theory_sums.specs.Sums.{some}
 use Rattle.masks.specs.Groups.{meets}
-use Rattle.record_numbers.specs.Numbering.{RisingWithin, named}
+use Rattle.record_numbers.specs.Numbering.{RisingWithin, named, names}
 use Rattle.record_parts.specs.PartLists.{numbersOf, listOf}
 use Rattle.record_parts.specs.Lines.{In}
 use Rattle.record_parts.proofs.WellFormed.{well-formed-counted, well-formed-list}
 use Rattle.record.specs.Records.{Design, design}
 use Rattle.record.specs.RecordBytes.{DesignRules}
 use Rattle.record_lines.specs.Changes.{keep, every, designWithout}
-use Rattle.record_lines.specs.Names.{namedSets, names, namesSome}
+use Rattle.record_lines.specs.Names.{namedSets, namesSome}
 use Rattle.record_lines.proofs.Keeping.{keep-same, some-intro, some-elim, keep-keep, keep-all, every-same, every-map}
-use Rattle.record_lines.proofs.Names.{named-once, names-intro, names-elim, names-meet, none-of-numbers, names-none}
+use Rattle.record_lines.proofs.Names.{named-once, names-meet, none-of-numbers, names-none}
+use Rattle.record_numbers.proofs.Names.{names-intro, names-elim}
 use Rattle.record_lines.proofs.NamedChanges.{without-numbers, without-named}
 use Rattle.record_lines.proofs.Rules.{without-rules}
 use Rattle.record_groups.specs.Without.{Without}

@@ -25,7 +25,7 @@ use Rattle.theory_sums.specs.Sums.{some}
 use Rattle.masks.specs.Groups.{meets}
 use Rattle.codec.specs.Bytes.{Bytes}
 use Rattle.codec.specs.Reads.{Read, found}
-use Rattle.record_numbers.specs.Numbering.{named}
+use Rattle.record_numbers.specs.Numbering.{named, names}
 use Rattle.record_parts.specs.PartLists.{numbersOf}
 use Rattle.record_parts.specs.Changes.{single}
 use Rattle.record_parts.specs.Lines.{In}
@@ -35,11 +35,12 @@ use Rattle.record.specs.Records.{Design, wholeRecord}
 use Rattle.record.specs.RecordBytes.{recordBytes, DesignRules}
 use Rattle.record.proofs.RoundTrip.{whole-written, whole-read}
 use Rattle.record_lines.specs.Changes.{takeOut, takeOutGroup, every, designWithout, withoutRefusal, takeOutGroupRefusal, changeRefusal, changed}
-use Rattle.record_lines.specs.Names.{namedSets, names, namesSome}
+use Rattle.record_lines.specs.Names.{namedSets, namesSome}
 use Rattle.record_lines.specs.Records.{changedRead, changedRecord}
 use Rattle.record_lines.specs.Lines.{Call, outcomeOf, recordAfter, after}
 use Rattle.record_lines.proofs.Keeping.{every-intro, every-elim, keep-intro, every-kept, every-same}
-use Rattle.record_lines.proofs.Names.{names-elim, names-either}
+use Rattle.record_lines.proofs.Names.{names-either}
+use Rattle.record_numbers.proofs.Names.{names-elim}
 use Rattle.record_lines.proofs.Refusals.{position-passed}
 use Rattle.record_naming.proofs.Positions.{Traced, traced}
 use Rattle.record_groups.specs.Series.{Result, verdictOf, resultOf, NotShort, positionIn, Leaving, leaving, callFor, ending, seriesFrom, series, Reordered}

@@ -7,7 +7,8 @@ use Rattle.record_parts.specs.PartLists.{numbersOf}
 use Rattle.record.specs.Records.{Design}
 use Rattle.record.specs.RecordBytes.{DesignRules}
 use Rattle.record_lines.specs.Changes.{keep}
-use Rattle.record_lines.specs.Names.{namedSets, names, namesSome}
+use Rattle.record_lines.specs.Names.{namedSets, namesSome}
+use Rattle.record_numbers.specs.Numbering.{names}
 
 -- one design is another without the parts of these numbers
 pub record Without (gone : List ℕ) (old new : Design) : Type 0 where

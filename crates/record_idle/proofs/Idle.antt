@@ -30,7 +30,7 @@ use Rattle.theory_sets.proofs.Idle.{idle-exactly, has-idleParts, idleParts-belo
 use Rattle.masks.specs.Groups.{meets}
 use Rattle.masks.proofs.Groups.{shared-part}
 use Rattle.structure.proofs.Acceptance.{accepted-table}
-use Rattle.record_numbers.specs.Numbering.{named}
+use Rattle.record_numbers.specs.Numbering.{named, names}
 use Rattle.record_parts.specs.PartLists.{numbersOf}
 use Rattle.record_parts.specs.Changes.{single}
 use Rattle.record_parts.specs.Lines.{In}
@@ -41,10 +41,11 @@ use Rattle.record.specs.RecordBytes.{recordBytes, DesignRules}
 use Rattle.record.proofs.MinimalSets.{design-table, design-minimal}
 use Rattle.record.proofs.RoundTrip.{whole-written}
 use Rattle.record_lines.specs.Changes.{Change, addPart, takeOut, takeOutGroup, every, designWithout, changeRefusal, changed}
-use Rattle.record_lines.specs.Names.{namedSets, names, repeated, namesSome, runs}
+use Rattle.record_lines.specs.Names.{namedSets, repeated, namesSome, runs}
 use Rattle.record_lines.specs.Records.{changedRecord}
 use Rattle.record_lines.proofs.Keeping.{every-intro, keep-same, keep-all, keep-elim, some-elim}
-use Rattle.record_lines.proofs.Names.{Position, named-position, named-at, named-has, names-hold, names-intro, names-elim}
+use Rattle.record_lines.proofs.Names.{Position, named-position, named-at, named-has, names-hold}
+use Rattle.record_numbers.proofs.Names.{names-intro, names-elim}
 use Rattle.record_lines.proofs.NamedChanges.{added-numbers, added-unnamed}
 use Rattle.record_lines.proofs.Refusals.{take-out-exactly, take-out-group-exactly, change-given}
 use Rattle.record_lines.proofs.Rules.{changed-rules}

@@ -14,7 +14,7 @@ use Rattle.answer.specs.declared.Verdict.the-variants.{Accepted}
 use Rattle.answer.specs.declared.Written.{Written}
 use Rattle.answer.specs.declared.Written.the-variants as written
 use Rattle.codec.specs.Bytes.{Bytes}
-use Rattle.record_numbers.specs.Numbering.{named}
+use Rattle.record_numbers.specs.Numbering.{named, names}
 use Rattle.record_parts.specs.PartLists.{numbersOf}
 use Rattle.record_parts.specs.Changes.{single}
 use Rattle.record_parts.proofs.LeftOut.{in-named}
@@ -31,10 +31,10 @@ use Rattle.masks.specs.Groups.{meets}
 use Rattle.numbers.proofs.Bools.{and-left, and-right, and-both, or-left, or-right, false-of}
 use Rattle.record_lines.specs.Changes.{Change, addPart, takeOut, takeOutGroup, addSet, every, designWithout, changeRefusal, changed, enteredDesign}
 use Rattle.record_lines.specs.Records.{enteredRecord}
-use Rattle.record_lines.specs.Names.{namedSets, names, namesSome, runs}
+use Rattle.record_lines.specs.Names.{namedSets, namesSome, runs}
 use Rattle.record_lines.specs.Lines.{Call, outcomeOf, recordAfter, after, lastOf, unlessRefused, madeBy, designAfter, issuedIn, leftIn, givenIn, along, lastDesign, issuedBy, leftBy, givenBy, DesignLine, GivenInUse}
 use Rattle.record_lines.proofs.Keeping.{keep-elim, every-intro, every-elim, some-intro, some-elim}
-use Rattle.record_lines.proofs.Names.{names-intro, names-elim}
+use Rattle.record_numbers.proofs.Names.{names-intro, names-elim}
 use Rattle.record_lines.proofs.NamedChanges.{added-names, without-named, with-set-names, named-in-use}
 use Rattle.record_lines.proofs.Rules.{changed-rules, without-rules, take-out-accepted, group-out-accepted, set-accepted}
 use Rattle.record_lines.proofs.Running.{added-runs, without-runs, with-set-runs}

@@ -9,7 +9,7 @@ use native.Mathlib.Omega.{arith}
 use lib.ListN.{length}
 use Rattle.answer.specs.declared.Verdict.the-variants.{Accepted}
 use Rattle.record_parts.specs.declared.Changed.{Changed}
-use Rattle.record_numbers.specs.Numbering.{mostParts, RisingWithin, named, others}
+use Rattle.record_numbers.specs.Numbering.{mostParts, RisingWithin, named, others, names}
 use Rattle.record_parts.specs.PartLists.{numbersOf}
 use Rattle.record_parts.specs.Lines.{In}
 use Rattle.record_parts.specs.Changes.{single}
@@ -24,7 +24,7 @@ use Rattle.record.specs.Records.{Design}
 use Rattle.record.specs.RecordBytes.{DesignRules}
 use Rattle.masks.specs.Groups.{meets, squeezed}
 use Rattle.record_lines.specs.Changes.{addPart, takeOut, addSet, keep, setsWithout, designWithout, changeRefusal, changed}
-use Rattle.record_lines.specs.Names.{namedSets, partNumberAt, names, namesSome, LeastNamed}
+use Rattle.record_lines.specs.Names.{namedSets, partNumberAt, namesSome, LeastNamed}
 use Rattle.record_lines.proofs.MinimalSets.{Least, minimal-exactly}
 use Rattle.record_lines.proofs.Names.{named-more, holds-names, names-hold, named-once, names-meet, others-kept}
 use Rattle.record_lines.proofs.MovedDown.{named-squeezed}

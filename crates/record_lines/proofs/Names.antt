@@ -8,23 +8,24 @@ use mathlib.Core.Logic.{_⊎_, inl, inr}
 use Prim.Native.Nat.{ℕ, zero, suc, _/_, _^_, _≤_, _<_}
 use native.Mathlib.Nat.{pow-succ', le-of-suc-le-suc}
 use native.Mathlib.Omega.{arith}
-use borrow.Author.Tests.{eqb-true, eq-eqb, ne-eqb}
+use borrow.Author.Tests.{eq-eqb, ne-eqb}
 use lib.Dec.{eqb}
 use lib.ListN.{length, getD}
 use Rattle.theory_sums.specs.Sums.{some}
-use Rattle.record_numbers.specs.Numbering.{RisingWithin, named, others}
+use Rattle.record_numbers.specs.Numbering.{RisingWithin, named, others, names}
+use Rattle.record_numbers.proofs.Names.{names-intro, names-elim}
 use Rattle.record_parts.specs.Lines.{In}
 use Rattle.record_parts.proofs.LeftOut.{in-named}
 use Rattle.record_parts.proofs.Numbers.{rising-in}
 use Rattle.theory_sets.specs.Masks.{has, holds}
-use Rattle.numbers.proofs.Bools.{clash, or-cases, or-left, or-right, same-test, false-of}
+use Rattle.numbers.proofs.Bools.{clash, same-test, false-of}
 use Rattle.theory_sets.proofs.Lists.{member-at}
 use Rattle.theory_sets.proofs.Masks.{has-suc, has-even, has-above, holds-part, holds-of-parts, holds-antisym}
 use Rattle.numbers.proofs.Bounds.{below-or-above}
 use Rattle.masks.specs.Groups.{meets}
 use Rattle.masks.proofs.Groups.{meets-part, shared-part}
 use Rattle.record_lines.specs.Changes.{keep}
-use Rattle.record_lines.specs.Names.{names, namesSome}
+use Rattle.record_lines.specs.Names.{namesSome}
 use Rattle.record_lines.proofs.Keeping.{keep-same, some-intro, some-elim}
 
 -- the numbers of a set by its lowest bit and the rest
@@ -105,25 +106,6 @@ module _ (low high : ℕ) (numbers : List ℕ) (rising : RisingWithin low high n
   pub named-once : (a b : ℕ) → a < 2 ^ length numbers → b < 2 ^ length numbers → named numbers a ≡ named numbers b → a ≡ b
   named-once a b ha hb e =
       holds-antisym a b (names-hold a b hb (λ number i. rw e i)) (names-hold b a ha (λ number i. rw e at i))
-
--- the test for a name
-pub names-intro : (number : ℕ) (set : List ℕ) → In number set → names number set ≡ true
-unfolding some
-names-intro number [] i = absurd (List·Memᴰ·not-nil i)
-names-intro number (x ∷ xs) i = cases (List·Memᴰ·cases-cons i) (names-intro number xs)
-  where
-    cases : (number ≡ x) ⊎ In number xs → (In number xs → names number xs ≡ true) → eqb number x || names number xs ≡ true
-    cases (inl e) rest = or-left (names number xs) (eq-eqb number x e)
-    cases (inr later) rest = or-right (eqb number x) (rest later)
-
-pub names-elim : (number : ℕ) (set : List ℕ) → names number set ≡ true → In number set
-unfolding some
-names-elim number [] h = clash {p = true} refl (sym h)
-names-elim number (x ∷ xs) h = cases (or-cases (eqb number x) (names number xs) h) (names-elim number xs)
-  where
-    cases : (eqb number x ≡ true) ⊎ (names number xs ≡ true) → (names number xs ≡ true → In number xs) → In number (x ∷ xs)
-    cases (inl e) rest = List·Memᴰ·head (eqb-true number x e)
-    cases (inr later) rest = List·Memᴰ·tail (rest later)
 
 -- ---- by part numbers
 

@@ -12,7 +12,7 @@ use lib.Dec.{eqb}
 use lib.ListN.{length, getD}
 use Rattle.answer.specs.declared.Verdict.the-variants.{Accepted}
 use Rattle.theory_sums.specs.Sums.{some}
-use Rattle.record_numbers.specs.Numbering.{named}
+use Rattle.record_numbers.specs.Numbering.{named, names}
 use Rattle.record_parts.specs.PartLists.{numbersOf}
 use Rattle.record_parts.specs.Changes.{single}
 use Rattle.record_parts.proofs.LeftOut.{named-single}
@@ -30,10 +30,11 @@ use Rattle.theory_sets.proofs.Tables.{has-packed}
 use Rattle.record.specs.Records.{Design}
 use Rattle.record.specs.RecordBytes.{DesignRules}
 use Rattle.record_lines.specs.Changes.{addPart, takeOut, addSet, keep, every, designWithout, changeRefusal, changed}
-use Rattle.record_lines.specs.Names.{namedSets, partNumberAt, names, namesSome, runs}
+use Rattle.record_lines.specs.Names.{namedSets, partNumberAt, namesSome, runs}
 use Rattle.record_lines.proofs.Keeping.{every-intro, every-elim, some-intro, some-elim}
 use Rattle.record_lines.proofs.MinimalSets.{minimal-exactly}
-use Rattle.record_lines.proofs.Names.{named-position, named-at, holds-names, names-intro, names-elim}
+use Rattle.record_lines.proofs.Names.{named-position, named-at, holds-names}
+use Rattle.record_numbers.proofs.Names.{names-intro, names-elim}
 use Rattle.record_lines.proofs.NamedChanges.{added-names, without-named, position-inside}
 use Rattle.record_lines.proofs.Rules.{with-set-within}
 

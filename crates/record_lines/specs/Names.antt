@@ -3,10 +3,9 @@ use mathlib.Core.Bool.{Bool, false, _||_}
 use mathlib.Core.List.{List, [], _∷_, map, List·Memᴰ}
 use mathlib.Core.Path.{_≡_}
 use Prim.Native.Nat.{ℕ, _-_}
-use lib.Dec.{eqb}
 use lib.ListN.{getD}
 use Rattle.theory_sums.specs.Sums.{some}
-use Rattle.record_numbers.specs.Numbering.{named}
+use Rattle.record_numbers.specs.Numbering.{named, names}
 use Rattle.record_parts.specs.PartLists.{numbersOf}
 use Rattle.record_parts.specs.Lines.{In}
 use Rattle.record.specs.Records.{Design}
@@ -19,10 +18,6 @@ namedSets d = map (named (numbersOf (d .parts))) (d .sets)
 -- the number of the part at a position, from 1
 abbrev pub partNumberAt : Design → ℕ → ℕ
 partNumberAt d position = getD (numbersOf (d .parts)) (position - 1) 0
-
--- a set of part numbers names a part
-abbrev pub names : ℕ → List ℕ → Bool
-names number set = some (λ other. eqb number other) set
 
 -- some number stands twice on a list
 abbrev pub repeated : List ℕ → Bool

@@ -14,15 +14,16 @@ use Rattle.answer.specs.declared.Value.the-variants as value
 use Rattle.answer.proofs.Outcomes.{valued-given}
 use Rattle.theory_sets.specs.Masks.{has, size}
 use Rattle.theory_sets.proofs.Masks.{odd, even, has-odd, has-even, holds-antisym}
-use Rattle.record_numbers.specs.Numbering.{RisingWithin, named, others}
+use Rattle.record_numbers.specs.Numbering.{RisingWithin, named, others, names}
 use Rattle.record_numbers.proofs.Others.{named-or-others}
 use Rattle.record_parts.specs.Lines.{In}
 use Rattle.record_parts.proofs.LeftOut.{in-named, others-counted}
 use Rattle.record_parts.proofs.Numbers.{rising-in, rising-wider}
 use Rattle.record_lines.specs.Changes.{keep, every}
-use Rattle.record_lines.specs.Names.{names, repeated}
+use Rattle.record_lines.specs.Names.{repeated}
 use Rattle.record_lines.proofs.Keeping.{keep-elim, keep-intro, every-intro, every-elim}
-use Rattle.record_lines.proofs.Names.{names-intro, names-elim, names-hold}
+use Rattle.record_lines.proofs.Names.{names-hold}
+use Rattle.record_numbers.proofs.Names.{names-intro, names-elim}
 use Rattle.record_naming.specs.Naming.{maskOf, maskOfRefusal, foundMask}
 use Rattle.record_naming.proofs.Steps.{mask-below}
 use Rattle.record_naming.proofs.Refusals.{wanted-right, mask-counted}

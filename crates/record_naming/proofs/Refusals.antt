@@ -14,7 +14,8 @@ use Rattle.answer.proofs.Outcomes.{refuse-accepted, given-valued}
 use Rattle.answer.proofs.Checks.{parts-passed, parts-right}
 use Rattle.numbers.proofs.Bools.{not-not}
 use Rattle.record_lines.specs.Changes.{every}
-use Rattle.record_lines.specs.Names.{names, repeated}
+use Rattle.record_lines.specs.Names.{repeated}
+use Rattle.record_numbers.specs.Numbering.{names}
 use Rattle.record_naming.specs.Naming.{maskOf, wantedRefusal, maskOfRefusal, foundMask}
 use Rattle.record_naming.proofs.Steps.{mask-small}
 

@@ -1,4 +1,4 @@
--- What one number more on a list does to the search for a number, to the position found, to the test of all, to the test for repeats and to
+-- What one number more on a list does to the position found, to the test of all, to the test for repeats and to
 -- the mask.
 -- Assumes nothing.
 use mathlib.Core.Path.{_≡_, refl, sym, ap, _∙_}
@@ -6,54 +6,37 @@ use mathlib.Core.Bool.{Bool, true, false, cond, _&&_, _||_}
 use mathlib.Core.List.{List, [], _∷_}
 use Prim.Native.Nat.{ℕ, suc, _+_, _*_, _^_, _≤_, _<_}
 use native.Mathlib.Nat.{pow-succ'}
-use native.Mathlib.Numerals.{add-one}
 use native.Mathlib.Omega.{arith}
 use borrow.Author.Tests.{eq-eqb, ne-eqb}
 use lib.ListN.{length, drop, getD, drop-of-length-le, length-drop}
 use lib.Pow.{pow-mono}
-use lib.Seq.{drop-cons}
-use Rattle.theory_sums.specs.Sums.{some}
+use Rattle.record_numbers.proofs.Names.{from-here}
 use Rattle.record_lines.specs.Changes.{every}
-use Rattle.record_lines.specs.Names.{names, repeated}
+use Rattle.record_lines.specs.Names.{repeated}
+use Rattle.record_numbers.specs.Numbering.{names}
 use Rattle.record_naming.specs.Naming.{positionFrom, maskOf}
 
 module _ (numbers : List ℕ) (i : ℕ) (inside : i < length numbers) where
-  -- the number at hand, and those behind it
-  pub from-here : drop i numbers ≡ getD numbers i 0 ∷ drop (i + 1) numbers
-  from-here = drop-cons numbers i 0 inside ∙ ap (λ (k : ℕ). getD numbers i 0 ∷ drop k numbers) (sym (add-one i))
-
-  pub names-here : (number : ℕ) → getD numbers i 0 ≡ number → names number (drop i numbers) ≡ true
-  unfolding some
-  names-here number e = ap (names number) from-here ∙ rw (eq-eqb number (getD numbers i 0) (sym e)) refl
-
-  pub names-past : (number : ℕ) → (getD numbers i 0 ≡ number → ⊥) → names number (drop i numbers) ≡ names number (drop (i + 1) numbers)
-  unfolding some
-  names-past number e = ap (names number) from-here ∙ rw (ne-eqb number (getD numbers i 0) (λ same. e (sym same))) refl
-
   pub position-here : (first number : ℕ) → getD numbers i 0 ≡ number → positionFrom first number (drop i numbers) ≡ first
   unfolding positionFrom
-  position-here first number e = ap (positionFrom first number) from-here ∙ rw (eq-eqb number (getD numbers i 0) (sym e)) refl
+  position-here first number e = ap (positionFrom first number) (from-here numbers i inside) ∙ rw (eq-eqb number (getD numbers i 0) (sym e)) refl
 
   pub position-past : (first number : ℕ) → (getD numbers i 0 ≡ number → ⊥) → positionFrom first number (drop i numbers) ≡ positionFrom (suc first) number (drop (i + 1) numbers)
   unfolding positionFrom
-  position-past first number e = ap (positionFrom first number) from-here ∙ rw (ne-eqb number (getD numbers i 0) (λ same. e (sym same))) refl
+  position-past first number e = ap (positionFrom first number) (from-here numbers i inside) ∙ rw (ne-eqb number (getD numbers i 0) (λ same. e (sym same))) refl
 
   pub every-here : (test : ℕ → Bool) → every test (drop i numbers) ≡ test (getD numbers i 0) && every test (drop (i + 1) numbers)
-  every-here test = ap (every test) from-here
+  every-here test = ap (every test) (from-here numbers i inside)
 
   pub repeats-here : repeated (drop i numbers) ≡ names (getD numbers i 0) (drop (i + 1) numbers) || repeated (drop (i + 1) numbers)
-  repeats-here = ap repeated from-here
+  repeats-here = ap repeated (from-here numbers i inside)
 
   pub mask-here : (wanted : List ℕ) → maskOf (drop i numbers) wanted ≡ cond (names (getD numbers i 0) wanted) 1 0 + 2 * maskOf (drop (i + 1) numbers) wanted
   unfolding maskOf
-  mask-here wanted = ap (λ (rest : List ℕ). maskOf rest wanted) from-here
+  mask-here wanted = ap (λ (rest : List ℕ). maskOf rest wanted) (from-here numbers i inside)
 
 -- at the end
 module _ (numbers : List ℕ) (i : ℕ) (end : length numbers ≤ i) where
-  pub names-end : (number : ℕ) → names number (drop i numbers) ≡ false
-  unfolding some
-  names-end number = ap (names number) (drop-of-length-le numbers end)
-
   pub position-end : (first number : ℕ) → positionFrom first number (drop i numbers) ≡ 0
   unfolding positionFrom
   position-end first number = ap (positionFrom first number) (drop-of-length-le numbers end)

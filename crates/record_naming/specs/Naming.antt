@@ -12,7 +12,8 @@ use Rattle.answer.specs.declared.Verdict.{Verdict}
 use Rattle.answer.specs.declared.Verdict.the-variants.{Accepted}
 use Rattle.answer.specs.declared.Value.{Value}
 use Rattle.record_lines.specs.Changes.{every}
-use Rattle.record_lines.specs.Names.{names, repeated}
+use Rattle.record_lines.specs.Names.{repeated}
+use Rattle.record_numbers.specs.Numbering.{names}
 
 -- ---- one part
 

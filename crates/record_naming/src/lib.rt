@@ -8,9 +8,9 @@ ghost use mathlib.Core.Path.{_≡_};
 ghost use Prim.Native.Nat.{_≤_};
 ghost use lib.ListN.{length};
 ghost use Rattle.answer.specs.Outcome.{outcome, delivered};
-ghost use Rattle.record_numbers.specs.Numbering.{mostParts, named};
+ghost use Rattle.record_numbers.specs.Numbering.{mostParts, named, names};
 ghost use Rattle.record_lines.specs.Changes.{every};
-ghost use Rattle.record_lines.specs.Names.{names as stands, repeated};
+ghost use Rattle.record_lines.specs.Names.{repeated};
 ghost use Rattle.record_naming.specs.Naming.{foundPosition, maskOf, maskOfRefusal, foundMask, namedRefusal};
 
 // The position, from 1, of the part that has a number.
@@ -90,7 +90,7 @@ fn mask(numbers: &[u64], wanted: &[u64]) -> usize
     while 0 < index {
         index -= 1;
         mask *= 2;
-        if stands(numbers[index], wanted) {
+        if record_numbers::stands(numbers[index], wanted) {
             mask += 1;
         }
     }
@@ -99,10 +99,10 @@ fn mask(numbers: &[u64], wanted: &[u64]) -> usize
 
 // Whether all numbers of one list stand in another.
 fn all_stand(wanted: &[u64], numbers: &[u64]) -> bool
-    ensures { λ r. ⌜ r ≡ every (λ number. stands number (now (numbers .entry))) (now (wanted .entry)) ⌝ }
+    ensures { λ r. ⌜ r ≡ every (λ number. names number (now (numbers .entry))) (now (wanted .entry)) ⌝ }
 {
     for i in 0..wanted.len() {
-        if !stands(wanted[i], numbers) {
+        if !record_numbers::stands(wanted[i], numbers) {
             return false;
         }
     }
@@ -114,19 +114,7 @@ fn repeats(numbers: &[u64]) -> bool
     ensures { λ r. ⌜ r ≡ repeated (now (numbers .entry)) ⌝ }
 {
     for i in 0..numbers.len() {
-        if stands(numbers[i], &numbers[i + 1..]) {
-            return true;
-        }
-    }
-    false
-}
-
-// Whether a number stands in a list.
-fn stands(number: u64, numbers: &[u64]) -> bool
-    ensures { λ r. ⌜ r ≡ stands number (now (numbers .entry)) ⌝ }
-{
-    for i in 0..numbers.len() {
-        if numbers[i] == number {
+        if record_numbers::stands(numbers[i], &numbers[i + 1..]) {
             return true;
         }
     }

@@ -2,7 +2,7 @@
 use mathlib.Core.Bool.{Bool, true, cond}
 use mathlib.Core.List.{List, [], _∷_, _++_}
 use Prim.Native.Nat.{ℕ, suc, _-_, _/_, _≤_, _<_, max}
-use lib.Dec.{leb, ltb}
+use lib.Dec.{leb, ltb, eqb}
 use lib.ListN.{length, replicate}
 use Rattle.answer.specs.Refusals.{wrongPartNumber}
 use Rattle.answer.specs.Checks.{partCountRefusal}
@@ -10,6 +10,7 @@ use Rattle.answer.specs.Outcome.{refuse}
 use Rattle.answer.specs.declared.Verdict.{Verdict}
 use Rattle.answer.specs.declared.Verdict.the-variants.{Accepted}
 use Rattle.theory_sets.specs.Masks.{has}
+use Rattle.theory_sums.specs.Sums.{some}
 use Rattle.codec.specs.Fields.{top}
 use Rattle.codec.specs.declared.Field.the-variants.{PartNumber}
 
@@ -47,6 +48,10 @@ numbersRefusal previous mark index (number ∷ numbers) =
 -- the first refusal of a part list: 1 for its count, and then 23
 unfoldable pub partListRefusal : ℕ → ℕ → List ℕ → Verdict
 partListRefusal count mark numbers = partCountRefusal 0 count (numbersRefusal 0 mark 0 numbers)
+
+-- a number is one of some numbers: it names a part of a set of part numbers
+abbrev pub names : ℕ → List ℕ → Bool
+names number numbers = some (λ other. eqb number other) numbers
 
 -- the highest of some numbers
 abbrev pub highest : List ℕ → ℕ

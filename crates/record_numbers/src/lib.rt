@@ -2,7 +2,7 @@
 use answer::Verdict;
 ghost use mathlib.Core.Path.{_≡_};
 ghost use lib.ListN.{length, take};
-ghost use Rattle.record_numbers.specs.Numbering.{mostParts, cellsOf, misnumbered, partListRefusal, highest, others};
+ghost use Rattle.record_numbers.specs.Numbering.{mostParts, cellsOf, misnumbered, partListRefusal, highest, names, others};
 
 // The most parts of a machine, and the top part number.
 pub const MOST_PARTS: usize = 16;
@@ -85,4 +85,16 @@ pub fn cells(numbers: &[u64], group: usize) -> [u64; MOST_PARTS]
         left_out /= 2;
     }
     cells
+}
+
+// Whether a number stands in a list.
+pub fn stands(number: u64, numbers: &[u64]) -> bool
+    ensures { λ r. ⌜ r ≡ names number (now (numbers .entry)) ⌝ }
+{
+    for i in 0..numbers.len() {
+        if numbers[i] == number {
+            return true;
+        }
+    }
+    false
 }

@@ -84,3 +84,8 @@ first-exactly numbers = (
   λ r. made-exactly (highest numbers) numbers .1
       (record { some = r .some; few = r .few; rising = rising-highest 0 topNumber numbers (r .rising); top = highest-below 0 topNumber numbers (r .rising) }),
 )
+
+-- the cells of a part list are enough for its numbers
+pub cells-enough : (list : PartList) → WellFormed list → list .count ≤ length (list .numbers)
+cells-enough list w =
+    omega (arith, ap length (w .spare), length-append (numbersOf list) (replicate (mostParts - length (numbersOf list)) 0), well-formed-counted list w)

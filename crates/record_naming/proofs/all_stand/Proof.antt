@@ -9,7 +9,7 @@ use lib.ListN.{length, drop, getD}
 use borrow.Author.Tests.{not-true, not-false}
 use borrow.Author.Needs.{needs}
 use Rattle.record_lines.specs.Changes.{every}
-use Rattle.record_lines.specs.Names.{names}
+use Rattle.record_numbers.specs.Numbering.{names}
 use Rattle.record_naming.proofs.Steps.{every-here, every-end}
 use Rattle.record_naming.proofs.all_stand.Statement.{statement}
 use Rattle.record_naming.proofs.all_stand.Tie as tie

@@ -8,7 +8,7 @@ use native.Mathlib.Omega.{arith}
 use denote.Ref.{now}
 use lib.ListN.{length, drop, getD}
 use borrow.Author.Needs.{needs}
-use Rattle.record_lines.specs.Names.{names}
+use Rattle.record_numbers.specs.Numbering.{names}
 use Rattle.record_naming.specs.Naming.{maskOf}
 use Rattle.record_naming.proofs.Steps.{mask-here, mask-end, mask-small}
 use Rattle.record_naming.proofs.mask.Statement.{statement}

@@ -10,7 +10,8 @@ use lib.ListN.{length, take, drop, getD, length-drop}
 use lib.Seq.{take-all}
 use borrow.Author.Needs.{needs}
 use Rattle.numbers.proofs.Bools.{or-left}
-use Rattle.record_lines.specs.Names.{names, repeated}
+use Rattle.record_lines.specs.Names.{repeated}
+use Rattle.record_numbers.specs.Numbering.{names}
 use Rattle.record_naming.proofs.Steps.{repeats-here, repeats-end}
 use Rattle.record_naming.proofs.repeats.Statement.{statement}
 use Rattle.record_naming.proofs.repeats.Tie as tie

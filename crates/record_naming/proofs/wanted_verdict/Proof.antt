@@ -8,7 +8,8 @@ use lib.ListN.{length}
 use borrow.Author.Tests.{not-true, not-false}
 use Rattle.answer.proofs.Checks.{parts-none, parts-over}
 use Rattle.record_lines.specs.Changes.{every}
-use Rattle.record_lines.specs.Names.{names, repeated}
+use Rattle.record_lines.specs.Names.{repeated}
+use Rattle.record_numbers.specs.Numbering.{names}
 use Rattle.record_naming.specs.Naming.{wantedRefusal}
 use Rattle.record_naming.proofs.Refusals.{wanted-unknown, wanted-twice, wanted-right, mask-counted}
 use borrow.Author.Needs.{needs}

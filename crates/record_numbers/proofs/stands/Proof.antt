@@ -1,4 +1,4 @@
--- `record_naming::stands` meets its contract. The loop's invariant: the number stands among those left exactly if it stands among all.
+-- `record_numbers::stands` meets its contract. The loop's invariant: the number stands among those left exactly if it stands among all.
 -- Assumes nothing.
 use mathlib.Core.Path.{_≡_, refl, sym, _∙_}
 use Prim.Native.Nat.{_-_, _≤_}
@@ -6,10 +6,10 @@ use native.Mathlib.Omega.{arith}
 use denote.Ref.{now}
 use lib.ListN.{length, drop}
 use borrow.Author.Needs.{needs}
-use Rattle.record_lines.specs.Names.{names}
-use Rattle.record_naming.proofs.Steps.{names-here, names-past, names-end}
-use Rattle.record_naming.proofs.stands.Statement.{statement}
-use Rattle.record_naming.proofs.stands.Tie as tie
+use Rattle.record_numbers.specs.Numbering.{names}
+use Rattle.record_numbers.proofs.Names.{names-here, names-past, names-end}
+use Rattle.record_numbers.proofs.stands.Statement.{statement}
+use Rattle.record_numbers.proofs.stands.Tie as tie
 
 abbrev Inv-loop : tie.InvT-loop
 Inv-loop number numbers i₀ i-end i = (i ≤ length numbers) × (names number (drop i numbers) ≡ names number numbers)

@@ -16,7 +16,7 @@ from ctypes import c_int64, c_size_t, c_uint8, c_uint16, c_uint64
 MOST_PARTS = 16
 MOST_ENTRIES = 17
 LONGEST_TABLE = 8192
-LONGEST_RECORD = 38732
+LONGEST_RECORD = 39217
 UNKNOWN_POSITION = 17
 
 

@@ -65,8 +65,8 @@ extern "C" {
  *   20  the record's mark is 2^48 - 1
  *   21  the bytes end before a number does; the length of the input
  *   22  a number is not written in its shortest form, is over its top value, or takes more bytes than that can; its first byte's position,
- *       from 0. Seven bytes are the most for a part number and the mark, five for n, the count and a set of a record, nine in a sheet. Bit
- *       7 set in the last of these is 22 also where the input ends there
+ *       from 0. Seven bytes are the most for the mark and a part number, retired or not, five for a record's other numbers, nine in a sheet.
+ *       Bit 7 set in the last of these is 22 also where the input ends there
  *   23  a part number is 0, not above the one before it, or above the mark, or the mark is above 2^48 - 1; its first byte's position. In
  *       nahokipe_entered_record the number's index, from 0, also of one above 2^48 - 1, and n for the mark
  *   24  a set is not above the one before it, or holds an earlier one; its first byte's position
@@ -76,14 +76,19 @@ extern "C" {
  *   28  a position stands twice on a line of a drawing's text, or a part number twice among those wanted; the line's number, from 1, and 0
  *       for a part number
  *   29  k is not 1 to n
+ *   30  a retired number is 0, not above the one before it, above the mark or in use, or there are over 64; its first byte's position, and
+ *       that of their count where there are over 64
+ *   31  a path count is not that of the record's sets; its first byte's position
+ *   32  the record has retired numbers, and is to be written as one of edition 1
  *
  * A record's own n, count and sets are refused with 1 to 5 as well, and then the place is the position of the number's first byte. A
  * drawing's text is refused with 1, 2, 3 and 17 as well, and then the place is the line's number, from 1.
  *
  * The first that holds in the order of checks is reported. That order is the one in which the functions below name their refusals, but
  * that 4 and 5 go entry by entry, that a record's numbers are judged one after the other, each as it is read: 21, 22, and then 1 for
- * n, 23 for a part number, 2 and 3 for the count, 4, 5 and 24 for a set; and that a text's lines are judged one after the other too: 27, 1
- * and 2 for the first, 3, 27, 17 and 28 for each of the others.
+ * n, 23 for a part number, 2 and 3 for the count, 4, 5 and 24 for a set, 30 for the count of retired numbers and for each of them, 31 for a
+ * path count; and that a text's lines are judged one after the other too: 27, 1 and 2 for the first, 3, 27, 17 and 28 for each of the
+ * others.
  */
 typedef struct nahokipe_answer {
     uint8_t number;
@@ -120,6 +125,9 @@ typedef struct nahokipe_answer {
 #define NAHOKIPE_WRONG_LINE 27
 #define NAHOKIPE_REPEATED_POSITION 28
 #define NAHOKIPE_WRONG_THRESHOLD 29
+#define NAHOKIPE_WRONG_RETIRED 30
+#define NAHOKIPE_DIFFERENT_COUNT 31
+#define NAHOKIPE_RETIRED_PRESENT 32
 
 /* The kinds of vectors by name; "Vectors", below, says what they are. */
 #define NAHOKIPE_PATH_COUNTS 1
@@ -128,17 +136,18 @@ typedef struct nahokipe_answer {
 #define NAHOKIPE_DOMINATION 4
 
 /*
- * Lengths that are always enough. In cells: the most parts, which bound a signature, importances, shares and part numbers; the most sets of
- * a list, and minimal sets and minimal cut sets of a machine; the most entries of a vector; the most coefficients of h(x,z). In bytes: no
- * table, record or sheet and no drawing's text that is written or accepted is longer than these, and the last two are enough for every
- * report and for the line of every refusal.
+ * Lengths that are always enough. In cells: the most parts, which bound a signature, importances, shares and part numbers; the most retired
+ * numbers of a record; the most sets of a list, and minimal sets and minimal cut sets of a machine; the most entries of a vector; the most
+ * coefficients of h(x,z). In bytes: no table, record of either edition or sheet and no drawing's text that is written or accepted is longer
+ * than these, and the last two are enough for every report and for the line of every refusal.
  */
 #define NAHOKIPE_MOST_PARTS 16
+#define NAHOKIPE_MOST_RETIRED 64
 #define NAHOKIPE_MOST_SETS 12870
 #define NAHOKIPE_MOST_ENTRIES 17
 #define NAHOKIPE_MOST_COEFFICIENTS 81
 #define NAHOKIPE_LONGEST_TABLE 8192
-#define NAHOKIPE_LONGEST_RECORD 38732
+#define NAHOKIPE_LONGEST_RECORD 39217
 #define NAHOKIPE_LONGEST_SHEET 155
 #define NAHOKIPE_LONGEST_DRAWING 553419
 #define NAHOKIPE_ENOUGH_FOR_REPORT 4096
@@ -303,15 +312,21 @@ typedef struct nahokipe_sheet {
 nahokipe_sheet nahokipe_read_sheet(const uint8_t *sheet, size_t sheet_len, int64_t *cells, size_t cells_len);
 
 /*
- * Design records: n; the mark, which is the highest part number ever issued; the n part numbers, rising; the count of minimal sets; the
- * minimal sets, rising. All are numbers in groups of seven bits, as in a sheet; the mark and the part numbers reach 2^48 - 1, the others
- * 2^32 - 1. NAHOKIPE_LONGEST_RECORD bytes are enough for every record.
+ * Design records, of edition 1: n; the mark, which is the highest part number ever issued; the n part numbers, rising; the count of minimal
+ * sets; the minimal sets, rising. Of edition 2: the bytes 00 02; the same numbers; the count of retired part numbers, at most 64; these,
+ * rising, each 1 to the mark and none in use; the path counts of the sets, for 0, 1, ..., n parts. All are numbers in groups of seven bits,
+ * as in a sheet; the mark and the part numbers, retired or not, reach 2^48 - 1, the others 2^32 - 1. A first byte 00 with no byte 02 behind
+ * it is n = 0. NAHOKIPE_LONGEST_RECORD bytes are enough for every record.
+ *
+ * A retired number is that of a part that has left. Every call that takes a record's bytes takes both editions. nahokipe_first_record,
+ * nahokipe_entered_record and nahokipe_record_of_drawing write edition 1, a change the edition that it read.
  */
 
 /*
  * What reading a record answers: number and value as in nahokipe_answer, with value 0 if it is accepted; how many parts it has, the mark,
  * the part numbers by position, cells behind them 0; how many minimal sets it has, and the stretch of the record's bytes that carries
- * them, from the first set's first byte to the last set's last. Of a refused record all is 0 beside number and value.
+ * them, from the first set's first byte to the last set's last. A record of edition 2 goes on behind them. Of a refused record all is 0
+ * beside number and value.
  */
 typedef struct nahokipe_record {
     uint8_t number;
@@ -324,14 +339,20 @@ typedef struct nahokipe_record {
     size_t length;
 } nahokipe_record;
 
-/* Reads the record that the bytes are. Refused: 21, 22, 1 to 5, 23, 24 number by number, 25. */
+/* Reads the record that the bytes are. Refused: 21, 22, 1 to 5, 23, 24, 30, 31 number by number, 25. */
 nahokipe_record nahokipe_whole_record(const uint8_t *bytes, size_t bytes_len);
 
 /*
  * Reads the record that stands at a position of the bytes, and does not look at what comes after it. Positions are counted from the
- * first byte that is lent. Refused: 21, 22, 1 to 5, 23, 24 number by number.
+ * first byte that is lent. Refused: 21, 22, 1 to 5, 23, 24, 30, 31 number by number.
  */
 nahokipe_record nahokipe_record_at(const uint8_t *bytes, size_t bytes_len, size_t start);
+
+/*
+ * value is the position behind the record that stands at a position of the bytes: where its last set ends, of edition 2 where its last path
+ * count does. A record that follows it stands there. Writes nothing. Refused: as nahokipe_record_at.
+ */
+nahokipe_answer nahokipe_record_end(const uint8_t *bytes, size_t bytes_len, size_t start);
 
 /* A step of a walk along the sets: given 1, a set, and where the walk goes on, with how many sets left; at the end all is 0. */
 typedef struct nahokipe_step {
@@ -389,7 +410,8 @@ nahokipe_answer nahokipe_numbers_of(const uint64_t *numbers, size_t numbers_len,
 
 /*
  * Changes of a record: each reads the whole record, is refused as nahokipe_whole_record is, then as it says itself, then with 11, and
- * writes the new record.
+ * writes the new record, of the edition that it read. In edition 2 the path counts are those of the new sets, and the numbers of parts that
+ * are taken out are filed among the retired ones; where over 64 would stand there, the lowest are dropped, even one just filed.
  */
 
 /* One part more at position n + 1, in no set. Its number is the mark and one, and so is the new mark. Refused: 19, 20. */
@@ -438,6 +460,29 @@ nahokipe_answer nahokipe_take_out_group(const uint8_t *bytes, size_t bytes_len, 
  * WARNING: positions are not part numbers. nahokipe_add_set_of_parts takes part numbers.
  */
 nahokipe_answer nahokipe_add_set(const uint8_t *bytes, size_t bytes_len, uint16_t set, uint8_t *buffer, size_t buffer_len);
+
+/* Editions of a record: which it is, the retired numbers, and the same record as one of the other edition. */
+
+/* value is the edition of the record that the bytes are, 1 or 2. Writes nothing. Refused: as nahokipe_whole_record. */
+nahokipe_answer nahokipe_edition(const uint8_t *bytes, size_t bytes_len);
+
+/*
+ * Writes the retired part numbers of a record, rising; of edition 1 there are none. NAHOKIPE_MOST_RETIRED cells are enough. Refused: as
+ * nahokipe_whole_record, 11.
+ */
+nahokipe_answer nahokipe_retired(const uint8_t *bytes, size_t bytes_len, uint64_t *numbers, size_t numbers_len);
+
+/*
+ * Writes the record as one of edition 1, which has no place for retired numbers: a record that has some is refused. One of edition 1 is
+ * written as it is. A buffer as long as the record is enough. Refused: as nahokipe_whole_record, 32, 11.
+ */
+nahokipe_answer nahokipe_to_edition_1(const uint8_t *bytes, size_t bytes_len, uint8_t *buffer, size_t buffer_len);
+
+/*
+ * Writes the record as one of edition 2, with no retired numbers and the path counts of its sets. One of edition 2 is written as it is,
+ * with its retired numbers. NAHOKIPE_LONGEST_RECORD bytes are enough. Refused: as nahokipe_whole_record, 11.
+ */
+nahokipe_answer nahokipe_to_edition_2(const uint8_t *bytes, size_t bytes_len, uint8_t *buffer, size_t buffer_len);
 
 /*
  * Drawings: the text that the drawing tool writes. Line 1 is `parts` and n, as `parts 5`; each line behind it is `set` and the positions of

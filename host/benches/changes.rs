@@ -5,10 +5,12 @@
 mod baseline {
     pub mod changes;
     mod closing;
+    mod editions;
     mod numbers;
     // Tables and walks are for other benchmarks.
     #[allow(dead_code)]
     mod records;
+    mod sizes;
     #[allow(dead_code)]
     mod table;
 }

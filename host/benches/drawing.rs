@@ -5,10 +5,13 @@
 mod baseline {
     mod closing;
     pub mod drawing;
+    // What is written of edition 2, tables and walks are for other benchmarks.
+    #[allow(dead_code)]
+    mod editions;
     mod numbers;
-    // Tables and walks are for other benchmarks.
     #[allow(dead_code)]
     mod records;
+    mod sizes;
     #[allow(dead_code)]
     mod table;
 }

@@ -5,6 +5,9 @@
 mod baseline {
     mod counts;
     pub mod figures;
+    // Path counts by themselves are for other benchmarks.
+    #[allow(dead_code)]
+    mod sizes;
     mod table;
 }
 mod timing;

@@ -4,9 +4,12 @@
 
 mod baseline {
     mod closing;
-    // The listed sets that reading hands on and the check of a table are for other benchmarks.
+    // What is written of edition 2, the listed sets that reading hands on and the check of a table are for other benchmarks.
+    #[allow(dead_code)]
+    mod editions;
     #[allow(dead_code)]
     pub mod records;
+    mod sizes;
     #[allow(dead_code)]
     mod table;
 }

@@ -6,12 +6,15 @@
 mod baseline {
     mod closing;
     mod counts;
-    // The checks of tables are for other benchmarks.
+    // What is written of edition 2 and the checks of tables are for other benchmarks.
+    #[allow(dead_code)]
+    mod editions;
     #[allow(dead_code)]
     mod figures;
     #[allow(dead_code)]
     mod records;
     pub mod report;
+    mod sizes;
     #[allow(dead_code)]
     mod table;
 }

@@ -1,4 +1,5 @@
-//! Changes of records. Each reads the whole record and gives the new one; the bytes that are read stay as they are.
+//! Changes of records. Each reads the whole record and gives the new one, of the same edition; the bytes that are read stay as they are. In
+//! edition 2 the numbers of parts that are taken out are filed among the retired ones, of which the 64 highest are kept.
 
 use crate::lent::{self, LONGEST_RECORD};
 use crate::{written, Refusal};

@@ -296,6 +296,8 @@ extern "C" {
         start: usize,
     ) -> RecordAnswer;
 
+    pub(crate) fn nahokipe_record_end(bytes: *const u8, bytes_len: usize, start: usize) -> Answer;
+
     pub(crate) fn nahokipe_next_set(
         bytes: *const u8,
         bytes_len: usize,
@@ -398,6 +400,29 @@ extern "C" {
         bytes: *const u8,
         bytes_len: usize,
         set: u16,
+        buffer: *mut u8,
+        buffer_len: usize,
+    ) -> Answer;
+
+    pub(crate) fn nahokipe_edition(bytes: *const u8, bytes_len: usize) -> Answer;
+
+    pub(crate) fn nahokipe_retired(
+        bytes: *const u8,
+        bytes_len: usize,
+        numbers: *mut u64,
+        numbers_len: usize,
+    ) -> Answer;
+
+    pub(crate) fn nahokipe_to_edition_1(
+        bytes: *const u8,
+        bytes_len: usize,
+        buffer: *mut u8,
+        buffer_len: usize,
+    ) -> Answer;
+
+    pub(crate) fn nahokipe_to_edition_2(
+        bytes: *const u8,
+        bytes_len: usize,
         buffer: *mut u8,
         buffer_len: usize,
     ) -> Answer;

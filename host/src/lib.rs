@@ -6,8 +6,9 @@
 //! # From a record to figures and a change
 //!
 //! A record keeps a machine: its parts by number, the highest number ever issued, which is its mark, and the minimal sets of parts that
-//! suffice to run it. Part numbers stay with their parts. Positions, 1 to n in the order of the part numbers, move when a part leaves. A set
-//! of positions is a mask: the part at position i is bit i - 1.
+//! suffice to run it. A record of edition 2 keeps the numbers of parts that left and the path counts too. Part numbers stay with their parts.
+//! Positions, 1 to n in the order of the part numbers, move when a part leaves. A set of positions is a mask: the part at position i is bit
+//! i - 1.
 //!
 //! ```
 //! use nahokipe::{add_part, add_set_of_parts, entered_record, figures, idle_parts, mask_of, report};
@@ -58,6 +59,7 @@ mod changes;
 mod cuts;
 mod declared;
 mod drawings;
+mod editions;
 mod figures;
 mod idle;
 mod kind;
@@ -75,13 +77,14 @@ pub use changes::{add_part, add_set_of_parts, take_out_part, take_out_parts};
 pub use changes::{add_set, take_out, take_out_group};
 pub use cuts::{dual, minimal_cuts, table_of_cuts};
 pub use drawings::{drawing_of_record, record_of_drawing};
+pub use editions::{edition, retired, to_edition_1, to_edition_2};
 pub use figures::{domination, figures, importance, path_counts, signature, tail, Figures};
 pub use idle::idle_parts;
 pub use kind::Kind;
 pub use part_numbers::{mask_of, numbers_of, position_of};
 pub use patterns::{table_of_pattern, Pattern};
 pub use records::{entered_record, first_record, record_at, table_of_record, whole_record, Record};
-pub use records::{next_set, sets_of_record, stretch, walk, Step, Walk};
+pub use records::{next_set, record_end, sets_of_record, stretch, walk, Step, Walk};
 pub use refusal::Refusal;
 pub use report::{refused_line, report};
 pub use shares::{reliability, shares_by_both_routes, shares_by_reliability, shares_by_sets};

@@ -1,10 +1,10 @@
 //! Design records: made, read, walked, and turned into tables.
 
-use crate::declared::{Answer, RecordAnswer, StepAnswer};
+use crate::declared::{nahokipe_record_end, Answer, RecordAnswer, StepAnswer};
 use crate::lent::{self, LONGEST_RECORD, LONGEST_TABLE};
 use crate::{written, Refusal};
 
-/// What a record says, beside its sets, and where their bytes stand.
+/// What a record of either edition says, beside its sets, and where their bytes stand.
 #[derive(Clone, Debug, PartialEq, Eq)]
 pub struct Record {
     /// The highest part number ever issued.
@@ -39,13 +39,25 @@ pub fn whole_record(bytes: &[u8]) -> Result<Record, Refusal> {
 ///
 /// ```
 /// let two = [1, 1, 1, 1, 1, 2, 9, 4, 8, 1, 3];
-/// let first = nahokipe::record_at(&two, 0)?;
-/// let second = nahokipe::record_at(&two, first.offset + first.length)?;
+/// let second = nahokipe::record_at(&two, nahokipe::record_end(&two, 0)?)?;
 /// assert_eq!(second.numbers, [4, 8]);
 /// # Ok::<(), nahokipe::Refusal>(())
 /// ```
 pub fn record_at(bytes: &[u8], start: usize) -> Result<Record, Refusal> {
     record_of(lent::record_at_answer(bytes, start))
+}
+
+/// The position behind the record that stands at a position of the bytes. A record of edition 2 goes on behind its sets.
+///
+/// ```
+/// // The first record is of edition 2, with number 2 retired: its sets end at position 7, and it ends at 11.
+/// let two = [0, 2, 1, 2, 1, 1, 1, 1, 2, 0, 1, 2, 9, 4, 8, 1, 3];
+/// assert_eq!(nahokipe::record_end(&two, 0)?, 11);
+/// assert_eq!(nahokipe::record_end(&two, 11)?, two.len());
+/// # Ok::<(), nahokipe::Refusal>(())
+/// ```
+pub fn record_end(bytes: &[u8], start: usize) -> Result<usize, Refusal> {
+    unsafe { nahokipe_record_end(bytes.as_ptr(), bytes.len(), start) }.given()
 }
 
 /// An accepted record, or the refusal.

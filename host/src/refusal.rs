@@ -15,6 +15,7 @@ use std::fmt;
 /// - 22 to 25: the position of the number's first byte, or of the first byte left, from 0; of an [`entered_record`](crate::entered_record) 23
 ///   has the index of the part number, from 0, or n for the mark
 /// - 27 and 28: the number of the drawing's line, from 1; where numbers are wanted by part number 28 has the place 0
+/// - 30 and 31: the position of the number's first byte, from 0
 ///
 /// A record's own n, count and sets are refused with 1 to 5 as well, and then the place is the position of the number's first byte. A
 /// drawing's text is refused with 1, 2, 3 and 17 as well, and then the place is the line's number.
@@ -37,7 +38,7 @@ pub struct Refusal {
 }
 
 /// The reasons from number 1 on, in the words of include/nahokipe.h.
-const REASONS: [&str; 29] = [
+const REASONS: [&str; 32] = [
     "n is not 1 to 16",
     "the list is empty",
     "the list has over 12,870 sets",
@@ -67,6 +68,9 @@ const REASONS: [&str; 29] = [
     "a line of a drawing's text is of another form",
     "a position stands twice on a line of a drawing's text, or a part number twice among those wanted",
     "k is not 1 to n",
+    "a retired number is 0, not above the one before it, above the mark or in use, or there are over 64",
+    "a path count is not that of the record's sets",
+    "the record has retired numbers, and is to be written as one of edition 1",
 ];
 
 impl Refusal {

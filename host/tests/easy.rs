@@ -2,14 +2,16 @@
 //! largest machine, for which their buffers are long enough.
 
 use nahokipe::{
-    add_part, add_set, add_set_of_parts, convert, domination, drawing_of_record, dual, figures,
-    first_record, idle_parts, importance, lent, minimal_cuts, minimal_sets, path_counts,
-    read_sheet, record_of_drawing, refused_line, reliability, report, sets_of_record,
-    shares_by_both_routes, shares_by_reliability, shares_by_sets, signature, table_of_cuts,
-    table_of_list, table_of_pattern, table_of_record, tail, take_out, take_out_group,
-    take_out_part, take_out_parts, vector_verdict, write_sheet, Figures, Kind, Refusal, Vector,
+    add_part, add_set, add_set_of_parts, convert, domination, drawing_of_record, dual, edition,
+    figures, first_record, idle_parts, importance, lent, minimal_cuts, minimal_sets, path_counts,
+    read_sheet, record_end, record_of_drawing, refused_line, reliability, report, retired,
+    sets_of_record, shares_by_both_routes, shares_by_reliability, shares_by_sets, signature,
+    table_of_cuts, table_of_list, table_of_pattern, table_of_record, tail, take_out,
+    take_out_group, take_out_part, take_out_parts, to_edition_1, to_edition_2, vector_verdict,
+    write_sheet, Figures, Kind, Refusal, Vector,
 };
 use nahokipe_testing::making::{damaged_drawing, damaged_record, flipped, largest_drawing};
+use nahokipe_testing::making::{damaged_edition_2, largest_edition_2, random_edition_2};
 use nahokipe_testing::making::{largest_record, random_drawing, random_group, random_list};
 use nahokipe_testing::making::{random_record, random_set, random_table, random_wanted};
 use nahokipe_testing::making::{sets_of_size, six_of_sixteen, table_of_sets, unknown_number};
@@ -17,7 +19,7 @@ use nahokipe_testing::naive_patterns::{self, PATTERNS};
 use nahokipe_testing::naive_records::{changed, whole_record, Change};
 use nahokipe_testing::seeded::Seeded;
 use nahokipe_testing::{naive, naive_cuts, naive_drawing, naive_figures, naive_idle};
-use nahokipe_testing::{naive_records, naive_report, naive_shares, naive_vectors};
+use nahokipe_testing::{naive_editions, naive_records, naive_report, naive_shares, naive_vectors};
 
 // ---- structures and figures
 
@@ -119,6 +121,7 @@ fn the_largest_machine() {
         }
     }
     compare_record(&largest_record());
+    compare_record(&largest_edition_2());
     compare_drawing(largest_drawing().as_bytes());
 }
 
@@ -132,6 +135,11 @@ fn compare_record(bytes: &[u8]) {
     assert!(drawing_of_record(bytes) == naive_drawing::drawing_of_record(bytes));
     let text = naive_report::report(bytes).map(|(_, text)| text.into_bytes());
     assert!(report(bytes) == text);
+    assert_eq!(edition(bytes), naive_editions::edition(bytes));
+    assert_eq!(retired(bytes), naive_editions::retired(bytes));
+    assert_eq!(record_end(bytes, 0), naive_editions::record_end(bytes, 0));
+    assert!(to_edition_1(bytes) == naive_editions::to_edition_1(bytes));
+    assert!(to_edition_2(bytes) == naive_editions::to_edition_2(bytes));
 }
 
 fn compare_drawing(text: &[u8]) {
@@ -170,21 +178,29 @@ fn compare_changes(seeded: &mut Seeded, bytes: &[u8], numbers: &[u64]) {
     }
 }
 
+/// A record, its changes, and those of a damaged one.
+fn compare_records(seeded: &mut Seeded, bytes: &[u8], damaged: &[u8]) {
+    let numbers = whole_record(bytes)
+        .expect("an accepted record")
+        .plain
+        .numbers;
+    for bytes in [bytes, damaged] {
+        compare_record(bytes);
+        compare_changes(seeded, bytes, &numbers);
+    }
+}
+
 #[test]
 fn records_and_changes() {
     let mut seeded = Seeded::new(322);
     for n in 1..=16 {
         for _ in 0..4 {
             let bytes = random_record(&mut seeded, n);
-            let numbers = whole_record(&bytes)
-                .expect("an accepted record")
-                .plain
-                .numbers;
             let damaged = damaged_record(&mut seeded, n);
-            for bytes in [&bytes, &damaged] {
-                compare_record(bytes);
-                compare_changes(&mut seeded, bytes, &numbers);
-            }
+            compare_records(&mut seeded, &bytes, &damaged);
+            let bytes = random_edition_2(&mut seeded, n);
+            let damaged = damaged_edition_2(&mut seeded, n);
+            compare_records(&mut seeded, &bytes, &damaged);
             compare_drawing(random_drawing(&mut seeded, n).as_bytes());
             compare_drawing(damaged_drawing(&mut seeded, n).as_bytes());
         }
@@ -195,14 +211,15 @@ fn records_and_changes() {
 #[test]
 fn changes_of_the_largest_record() {
     let mut seeded = Seeded::new(323);
-    let bytes = largest_record();
-    let numbers = whole_record(&bytes)
-        .expect("an accepted record")
-        .plain
-        .numbers;
-    compare_changes(&mut seeded, &bytes, &numbers);
-    let fewer = take_out(&bytes, 16).expect("a set left");
-    compare_changes(&mut seeded, &fewer, &numbers[..15]);
+    for bytes in [largest_record(), largest_edition_2()] {
+        let numbers = whole_record(&bytes)
+            .expect("an accepted record")
+            .plain
+            .numbers;
+        compare_changes(&mut seeded, &bytes, &numbers);
+        let fewer = take_out(&bytes, 16).expect("a set left");
+        compare_changes(&mut seeded, &fewer, &numbers[..15]);
+    }
 }
 
 // ---- vectors

@@ -477,6 +477,82 @@ static void test_changes_by_number(void)
     expect_bytes("add_set_of_parts", buffer, wider, sizeof buffer);
 }
 
+/* The bridge of edition 2, and without part 3, whose number is filed. */
+static const uint8_t second[21] = {0, 2, 5, 5, 1, 2, 3, 4, 5, 4, 0x09, 0x0E, 0x12, 0x15, 0, 0, 0, 2, 8, 5, 1};
+static const uint8_t filed[18] = {0, 2, 4, 5, 1, 2, 4, 5, 2, 0x05, 0x0A, 1, 3, 0, 0, 2, 4, 1};
+
+/* What is read of a record of edition 2, whole and among other bytes, and what is refused in it. */
+static void test_second_edition(void)
+{
+    static const uint8_t front[2] = {0, 1}, no_parts[3] = {0, 2, 0}, in_use[9] = {0, 2, 1, 2, 1, 1, 1, 1, 1};
+    static const uint8_t too_many[8] = {0, 2, 1, 1, 1, 1, 1, 65}, wrong_count[10] = {0, 2, 1, 1, 1, 1, 1, 0, 0, 2};
+    uint8_t two[34], table[4] = {0xA5, 0xA5, 0xA5, 0xA5};
+
+    memcpy(two, second, sizeof second);
+    memcpy(two + sizeof second, record, sizeof record);
+    two[33] = 0xFF;
+    expect_record("whole_record, edition 2", nahokipe_whole_record(second, 21), 10);
+    expect_record("record_at, edition 2", nahokipe_record_at(two, 34, 0), 10);
+    expect_record("record_at, behind edition 2", nahokipe_record_at(two, 34, 21), 29);
+    expect("record_end, edition 2", nahokipe_record_end(two, 34, 0), 0, 21);
+    expect("record_end, edition 1", nahokipe_record_end(two, 34, 21), 0, 33);
+    expect("record_end, behind both", nahokipe_record_end(two, 34, 33), NAHOKIPE_END_OF_BYTES, 34);
+    expect_refused_record("whole_record, bytes left", nahokipe_whole_record(two, 22), NAHOKIPE_BYTES_LEFT, 21);
+    expect_refused_record("whole_record, 00 01", nahokipe_whole_record(front, 2), NAHOKIPE_WRONG_PART_COUNT, 0);
+    expect_refused_record("whole_record, 00 alone", nahokipe_whole_record(front, 1), NAHOKIPE_WRONG_PART_COUNT, 0);
+    expect_refused_record("whole_record, no parts", nahokipe_whole_record(no_parts, 3), NAHOKIPE_WRONG_PART_COUNT, 2);
+    expect_refused_record("whole_record, in use", nahokipe_whole_record(in_use, 9), NAHOKIPE_WRONG_RETIRED, 8);
+    expect_refused_record("whole_record, 65 retired", nahokipe_whole_record(too_many, 8), NAHOKIPE_WRONG_RETIRED, 7);
+    expect_refused_record("whole_record, wrong count", nahokipe_whole_record(wrong_count, 10), NAHOKIPE_DIFFERENT_COUNT, 9);
+    expect("table_of_record, edition 2", nahokipe_table_of_record(second, 21, table, 4), 0, 4);
+    expect_bytes("table_of_record, edition 2", table, bridge, sizeof table);
+    expect("position_of, edition 2", nahokipe_position_of(filed, 18, 5), 0, 4);
+    expect("position_of, a retired number", nahokipe_position_of(filed, 18, 3), NAHOKIPE_UNKNOWN_POSITION, 0);
+}
+
+/* The edition and the retired numbers. */
+static void test_retired(void)
+{
+    static const uint64_t retired[2] = {3, 99};
+    uint64_t numbers[2] = {99, 99};
+
+    expect("edition, 1", nahokipe_edition(record, 12), 0, 1);
+    expect("edition, 2", nahokipe_edition(second, 21), 0, 2);
+    expect("edition, cut off", nahokipe_edition(second, 20), NAHOKIPE_END_OF_BYTES, 20);
+    expect("retired, edition 1", nahokipe_retired(record, 12, numbers, 2), 0, 0);
+    expect("retired, none", nahokipe_retired(second, 21, numbers, 0), 0, 0);
+    expect("retired", nahokipe_retired(filed, 18, numbers, 2), 0, 1);
+    expect("retired, short buffer", nahokipe_retired(filed, 18, numbers, 0), NAHOKIPE_SHORT_BUFFER, 1);
+    expect("retired, cut off", nahokipe_retired(filed, 17, numbers, 2), NAHOKIPE_END_OF_BYTES, 17);
+    expect_bytes("retired", numbers, retired, sizeof numbers);
+}
+
+/* Both conversions and a change of edition 2; refusals leave the buffer as it was. */
+static void test_editions(void)
+{
+    uint8_t untouched[22], buffer[22];
+
+    memset(untouched, 0xA5, sizeof untouched);
+    memset(buffer, 0xA5, sizeof buffer);
+    expect("to_edition_1, retired numbers", nahokipe_to_edition_1(filed, 18, buffer, 0), NAHOKIPE_RETIRED_PRESENT, 0);
+    expect("to_edition_1, short buffer", nahokipe_to_edition_1(second, 21, buffer, 11), NAHOKIPE_SHORT_BUFFER, 12);
+    expect("to_edition_2, short buffer", nahokipe_to_edition_2(record, 12, buffer, 20), NAHOKIPE_SHORT_BUFFER, 21);
+    expect("to_edition_2, cut off", nahokipe_to_edition_2(record, 11, buffer, 22), NAHOKIPE_END_OF_BYTES, 11);
+    expect("take_out, short buffer, edition 2", nahokipe_take_out(second, 21, 3, buffer, 17), NAHOKIPE_SHORT_BUFFER, 18);
+    expect_bytes("editions, refused", buffer, untouched, sizeof buffer);
+    expect("to_edition_1", nahokipe_to_edition_1(second, 21, buffer, 22), 0, 12);
+    expect_bytes("to_edition_1", buffer, record, 12);
+    expect_bytes("to_edition_1, behind the record", buffer + 12, untouched, 10);
+    expect("to_edition_2", nahokipe_to_edition_2(record, 12, buffer, 22), 0, 21);
+    expect_bytes("to_edition_2", buffer, second, sizeof second);
+    expect("to_edition_2, of edition 2", nahokipe_to_edition_2(filed, 18, buffer, 22), 0, 18);
+    expect_bytes("to_edition_2, of edition 2", buffer, filed, sizeof filed);
+    memset(buffer, 0xA5, sizeof buffer);
+    expect("take_out, edition 2", nahokipe_take_out(second, 21, 3, buffer, 22), 0, 18);
+    expect_bytes("take_out, edition 2", buffer, filed, sizeof filed);
+    expect_bytes("take_out, edition 2, behind the record", buffer + 18, untouched, 4);
+}
+
 /* A text that is read into a buffer of some length; its own words tell where it is not answered as it should be. */
 static void expect_read(const char *text, uint8_t *buffer, size_t length, unsigned number, size_t value)
 {
@@ -557,6 +633,9 @@ int main(void)
     test_entered();
     test_naming();
     test_changes_by_number();
+    test_second_edition();
+    test_retired();
+    test_editions();
     test_drawings();
     test_report();
     return failures != 0;

@@ -4,9 +4,11 @@
 use nahokipe::lent::{self, RecordAnswer};
 use nahokipe::{
     drawing_of_record, first_record, list_verdict, path_counts, record_of_drawing, refused_line,
-    reliability, report, table_of_record, whole_record, write_sheet, Kind, Refusal,
+    reliability, report, retired, table_of_record, take_out, whole_record, write_sheet, Kind,
+    Refusal,
 };
-use nahokipe_testing::making::{drawing_line, largest_record, sets_of_size, six_of_sixteen};
+use nahokipe_testing::making::{drawing_line, sets_of_size, six_of_sixteen};
+use nahokipe_testing::making::{largest_edition_2, largest_record};
 use nahokipe_testing::naive::refused;
 use nahokipe_testing::naive_figures::size;
 use std::collections::BTreeMap;
@@ -92,6 +94,7 @@ fn kinds() -> Constants {
 fn lengths() -> Constants {
     let lengths = [
         ("MOST_PARTS", lent::MOST_PARTS),
+        ("MOST_RETIRED", lent::MOST_RETIRED),
         ("MOST_SETS", lent::MOST_SETS),
         ("MOST_ENTRIES", lent::MOST_ENTRIES),
         ("MOST_COEFFICIENTS", lent::MOST_COEFFICIENTS),
@@ -229,15 +232,36 @@ fn entries_and_coefficients() {
     assert_eq!(coefficients.max(), Some(lent::MOST_COEFFICIENTS));
 }
 
-/// What is proved of records is what the header says, and the record with the most sets and the longest numbers is no longer.
+/// What is proved of records of edition 1 is what the header says of both, with what edition 2 has more: two bytes in front, one for the count
+/// of retired numbers, seven for each of them and two for each path count. The records with the most sets and the longest numbers are no
+/// longer.
 #[test]
 fn records_and_tables() {
-    let longest = bound("crates/record/proofs/Lengths.antt", "pub record-longest");
+    let edition_1 = bound("crates/record/proofs/Lengths.antt", "pub record-longest");
+    let longest = bound(
+        "crates/record_editions/proofs/Lengths.antt",
+        "pub stored-longest",
+    );
     assert_eq!(lent::LONGEST_RECORD, longest);
-    let record = largest_record();
-    assert!(record.len() <= longest && whole_record(&record).is_ok());
-    let table = table_of_record(&record).expect("an accepted record");
-    assert_eq!(table.len(), lent::LONGEST_TABLE);
+    for (record, longest) in [
+        (largest_record(), edition_1),
+        (largest_edition_2(), longest),
+    ] {
+        assert!(record.len() <= longest && whole_record(&record).is_ok());
+        let table = table_of_record(&record).expect("an accepted record");
+        assert_eq!(table.len(), lent::LONGEST_TABLE);
+    }
+}
+
+/// A record of edition 2 keeps so many retired numbers, and not one more.
+#[test]
+fn retired_numbers() {
+    let record = largest_edition_2();
+    let numbers = retired(&record).expect("an accepted record");
+    assert_eq!(numbers.len(), lent::MOST_RETIRED);
+    let fewer = take_out(&record, 16).expect("a set left");
+    let numbers = retired(&fewer).expect("an accepted record");
+    assert_eq!(numbers.len(), lent::MOST_RETIRED);
 }
 
 /// What is proved of sheets is what the header says.

@@ -26,8 +26,14 @@ fn the_bridge_is_read() {
         sets: vec![0x09, 0x0E, 0x12, 0x15],
     };
     assert_eq!(record_bytes(&plain), BRIDGE);
-    let (begin, end) = (8, 12);
-    assert_eq!(whole_record(&BRIDGE), Ok(Reading { plain, begin, end }));
+    let reading = Reading {
+        plain,
+        begin: 8,
+        end: 12,
+        retired: None,
+        behind: 12,
+    };
+    assert_eq!(whole_record(&BRIDGE), Ok(reading));
     let table = table_of_record(&BRIDGE);
     assert_eq!(table, Ok(vec![0x00, 0xEA, 0xEC, 0xEE]));
     let first = first_record(5, &[0x15, 0x0E, 0x1F, 0x12, 0x09, 0x15]);

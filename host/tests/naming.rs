@@ -3,8 +3,8 @@
 
 use nahokipe::lent;
 use nahokipe::{mask_of, numbers_of, position_of, take_out_part, whole_record, Refusal};
-use nahokipe_testing::comparing::with_every_damage;
-use nahokipe_testing::comparing::{buffers, front, make, same, same_change, same_change_into};
+use nahokipe_testing::comparing::{buffers_of_numbers, with_every_damage};
+use nahokipe_testing::comparing::{front, make, same, same_change, same_change_into};
 use nahokipe_testing::known::{CHANGED_BY_NUMBER, REFUSED_RECORDS, WANTED_MASKS};
 use nahokipe_testing::making::{every_plain, largest_record, lists_of, random_plain};
 use nahokipe_testing::making::{random_record, random_wanted, spoilt_record, unknown_number};
@@ -29,22 +29,13 @@ fn compare_mask(numbers: &[u64], wanted: &[u64]) -> Result<u16, Refusal> {
 fn compare_numbers(numbers: &[u64], mask: usize) -> Result<Vec<u64>, Refusal> {
     let expected = by_words::numbers_of(numbers, mask);
     let about = || format!("mask {mask:#b} of {:?}", front(numbers));
-    for before in room_for(&expected) {
+    for before in buffers_of_numbers(&expected, 16) {
         let mut after = before.clone();
         let answer = lent::numbers_of(numbers, mask, &mut after);
         same((answer, after), naive::delivered(&expected, &before), about);
     }
     assert_eq!(numbers_of(numbers, mask), expected, "{}", about());
     expected
-}
-
-/// Buffers around the length that is needed; for an empty mask that is none.
-fn room_for(expected: &Result<Vec<u64>, Refusal>) -> Vec<Vec<u64>> {
-    let patterns = [0x5A5A_5A5A_5A5A_5A5A, !0x5A5A_5A5A_5A5A_5A5A];
-    match expected {
-        Ok(cells) if cells.is_empty() => [0, 1, 9].map(|length| vec![patterns[0]; length]).into(),
-        _ => buffers(expected, 16, patterns),
-    }
 }
 
 /// The position of a number in some bytes, as the words have it.

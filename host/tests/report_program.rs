@@ -1,6 +1,7 @@
 //! The report program: what it prints for records on its standard input, against the naive report. The command is what the environment
 //! variable NAHOKIPE_REPORT says.
 
+use nahokipe_testing::making::{damaged_edition_2, largest_edition_2, random_edition_2};
 use nahokipe_testing::making::{damaged_record, largest_record, random_record};
 use nahokipe_testing::naive_report::printed;
 use nahokipe_testing::seeded::Seeded;
@@ -94,6 +95,23 @@ fn damaged_records() {
     }
 }
 
+/// Records of edition 2, accepted and damaged, and the two bytes in front of them with others behind.
+#[test]
+fn records_of_edition_2() {
+    let mut seeded = Seeded::new(185);
+    for n in 1..=16 {
+        for _ in 0..4 {
+            let bytes = random_edition_2(&mut seeded, n);
+            compare(&mut seeded, &bytes);
+            let bytes = damaged_edition_2(&mut seeded, n);
+            compare(&mut seeded, &bytes);
+        }
+    }
+    for bytes in [&[0][..], &[0, 1], &[0, 2], &[0, 2, 0x11], &[0, 0x82, 0]] {
+        compare(&mut seeded, bytes);
+    }
+}
+
 #[test]
 fn every_truncation_of_the_bridge() {
     let mut seeded = Seeded::new(182);
@@ -118,6 +136,20 @@ fn the_largest_record() {
         compare(&mut seeded, &bytes[..length]);
     }
     for length in [35_730, 39_999, 40_000, 40_001, 65_536, 200_000] {
+        let longer = [bytes.as_slice(), &vec![1; length - bytes.len()]].concat();
+        compare(&mut seeded, &longer);
+    }
+}
+
+/// The same of edition 2, which 40,000 bytes decide too.
+#[test]
+fn the_largest_record_of_edition_2() {
+    let mut seeded = Seeded::new(186);
+    let bytes = largest_edition_2();
+    for length in [2, 35_731, 35_732, 36_202, 36_203] {
+        compare(&mut seeded, &bytes[..length]);
+    }
+    for length in [36_204, 39_999, 40_000, 40_001, 200_000] {
         let longer = [bytes.as_slice(), &vec![1; length - bytes.len()]].concat();
         compare(&mut seeded, &longer);
     }

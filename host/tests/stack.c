@@ -15,9 +15,12 @@ enum { SETS = NAHOKIPE_MOST_SETS, BYTES = NAHOKIPE_LONGEST_RECORD, DRAWN = NAHOK
 
 static uint16_t sets[SETS], found[SETS];
 static uint8_t table[NAHOKIPE_LONGEST_TABLE], other[NAHOKIPE_LONGEST_TABLE], record[BYTES], written[BYTES], drawing[DRAWN];
+static uint8_t record_2[BYTES], filed_2[BYTES];
 static uint8_t text[NAHOKIPE_ENOUGH_FOR_REPORT], sheet[NAHOKIPE_LONGEST_SHEET];
 static int64_t counts[17], first[17], second[17], cells[81];
-static uint64_t parts[16], numbers[16];
+static uint64_t parts[16], numbers[16], gone[NAHOKIPE_MOST_RETIRED];
+static const uint64_t first_part[1] = {1};
+static size_t length_2, filed_length, gone_count;
 static size_t length, sheet_length, drawing_length, read_length, entered_length, set_count, cut_count;
 static unsigned refusals;
 static unsigned char *ground;
@@ -65,6 +68,18 @@ static void add_part(void) {
     given(nahokipe_add_part(written, left, record, BYTES));
 }
 static void report(void) { given(nahokipe_report(record, length, other, sizeof other, text, sizeof text)); }
+static void to_edition_2(void) { length_2 = given(nahokipe_to_edition_2(record, length, record_2, BYTES)); }
+static void to_edition_1(void) { given(nahokipe_to_edition_1(record_2, length_2, written, BYTES)); }
+static void edition(void) { given(nahokipe_edition(record_2, length_2)); }
+static void record_end(void) { given(nahokipe_record_end(record_2, length_2, 0)); }
+static void whole_record_2(void) { refusals += nahokipe_whole_record(record_2, length_2).number != 0; }
+static void take_out_group_2(void) { filed_length = given(nahokipe_take_out_group(record_2, length_2, 0x0C, filed_2, BYTES)); }
+static void retired(void) { gone_count = given(nahokipe_retired(filed_2, filed_length, gone, NAHOKIPE_MOST_RETIRED)); }
+static void add_set_2(void) { given(nahokipe_add_set(record_2, length_2, 0x7F, written, BYTES)); }
+static void add_part_2(void) { given(nahokipe_add_part(filed_2, filed_length, written, BYTES)); }
+static void take_out_parts_2(void) { given(nahokipe_take_out_parts(filed_2, filed_length, first_part, 1, written, BYTES)); }
+static void report_2(void) { given(nahokipe_report(record_2, length_2, other, sizeof other, text, sizeof text)); }
+static void drawing_of_record_2(void) { given(nahokipe_drawing_of_record(record_2, length_2, drawing, DRAWN)); }
 
 typedef void (*call)(void);
 
@@ -100,7 +115,12 @@ int main(void) {
         {"take_out_part", take_out_part}, {"take_out_parts", take_out_parts},
         {"add_set_of_parts", add_set_of_parts}, {"first_record", first_record}, {"whole_record", whole_record},
         {"table_of_record", table_of_record}, {"drawing_of_record", drawing_of_record}, {"record_of_drawing", record_of_drawing},
-        {"take_out", take_out}, {"take_out_group", take_out_group}, {"add_set", add_set}, {"report", report}, {"add_part", add_part},
+        {"take_out", take_out}, {"take_out_group", take_out_group}, {"add_set", add_set}, {"report", report},
+        {"to_edition_2", to_edition_2}, {"to_edition_1", to_edition_1}, {"edition", edition}, {"record_end", record_end},
+        {"whole_record of edition 2", whole_record_2}, {"take_out_group of edition 2", take_out_group_2}, {"retired", retired},
+        {"add_set of edition 2", add_set_2}, {"add_part of edition 2", add_part_2},
+        {"take_out_parts of edition 2", take_out_parts_2}, {"report of edition 2", report_2},
+        {"drawing_of_record of edition 2", drawing_of_record_2}, {"add_part", add_part},
     };
     const char *largest = "";
     size_t most = 0, count = 0, bare;
@@ -119,6 +139,6 @@ int main(void) {
     }
     printf("stack: the largest call is %s with %zu bytes\n", largest, most);
     if (refusals != 0) fprintf(stderr, "stack: refused calls: %u\n", refusals);
-    if (refusals != 0 || set_count != SETS || cut_count != SETS || read_length != length || most > PROMISED) return 1;
+    if (refusals != 0 || set_count != SETS || cut_count != SETS || read_length != length || gone_count != 2 || most > PROMISED) return 1;
     return 0;
 }

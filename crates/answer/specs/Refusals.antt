@@ -116,3 +116,15 @@ repeatedPosition = 28
 -- the threshold k of a pattern is not 1 to n
 abbrev pub wrongThreshold : ℕ
 wrongThreshold = 29
+
+-- a retired number of a record is 0, does not rise, is above the mark or in use, or there are more than 64
+abbrev pub wrongRetired : ℕ
+wrongRetired = 30
+
+-- a path count of a record is not that of its sets
+abbrev pub differentCount : ℕ
+differentCount = 31
+
+-- a record that is to be written as one of edition 1 has retired numbers
+abbrev pub retiredPresent : ℕ
+retiredPresent = 32

@@ -86,6 +86,12 @@ pub const REPEATED_POSITION: u8 = 28;
 
 pub const WRONG_THRESHOLD: u8 = 29;
 
+pub const WRONG_RETIRED: u8 = 30;
+
+pub const DIFFERENT_COUNT: u8 = 31;
+
+pub const RETIRED_PRESENT: u8 = 32;
+
 // A refusal by its number and place, as a verdict.
 pub fn refused(number: u8, place: usize) -> Verdict
     ensures { λ r. ⌜ r ≡ Verdict.Refused (at number place) ⌝ }

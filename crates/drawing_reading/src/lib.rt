@@ -41,7 +41,7 @@ struct Drawn {
     verdict: Verdict,
 }
 
-// The record of a drawing's text, into a lent buffer: part numbers 1 to n, mark n, the minimal sets.
+// The record of a drawing's text, into a lent buffer: one of edition 1, with part numbers 1 to n, mark n, the minimal sets.
 pub fn record_of_drawing(text: &[u8], buffer: &mut [u8]) -> Written
     ensures { λ r. ⌜ outcome r (now (buffer .exit)) ≡ recordOfDrawing (now (text .entry)) (now (buffer .entry)) ⌝ }
 {

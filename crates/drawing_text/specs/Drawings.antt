@@ -61,6 +61,6 @@ drawnParts text = numberOn (firstLine text)
 abbrev pub drawnSets : List ℕ → List ℕ
 drawnSets text = map setOn (drop 1 (linesOf text))
 
--- the record of a text, for a lent buffer: part numbers 1 to n, mark n, the minimal sets
+-- the record of a text, for a lent buffer: one of edition 1, with part numbers 1 to n, mark n, the minimal sets
 unfoldable pub recordOfDrawing : List ℕ → List ℕ → Outcome Written (List ℕ)
 recordOfDrawing text buffer = delivered (drawingRefusal text) (recordBytes (firstDesign (drawnParts text) (drawnSets text))) buffer

@@ -8,7 +8,8 @@ use Rattle.answer.specs.declared.Written.{Written}
 use Rattle.numbers.specs.Tables.{tabulate}
 use Rattle.codec.specs.Reads.{Read, found, refused}
 use Rattle.record_parts.specs.PartLists.{listOf}
-use Rattle.record.specs.Records.{Design, design, wholeRecord}
+use Rattle.record.specs.Records.{Design, design}
+use Rattle.record_editions.specs.Editions.{wholeRecord}
 use Rattle.drawing_text.specs.Forms.{partsWord, lineOf, setLines}
 use Rattle.drawing_text.specs.Sets.{positionsOf}
 use Rattle.drawing_text.specs.Drawings.{recordOfDrawing}
@@ -25,7 +26,7 @@ textOf n sets = lineOf partsWord (n ∷ []) ++ linesOfSets sets
 unfoldable pub drawingOf : Design → List ℕ
 drawingOf d = textOf (d .parts .count) (d .sets)
 
--- the text of a record, for a lent buffer: the reader's refusal, or the text or 11
+-- the text of a record of either edition, for a lent buffer: the reader's refusal, or the text of its design or 11
 abbrev pub drawingRead : Read Design → List ℕ → Outcome Written (List ℕ)
 drawingRead (refused r) buffer = delivered (Refused r) [] buffer
 drawingRead (found d next) buffer = delivered Accepted (drawingOf d) buffer

@@ -1,4 +1,5 @@
-// A design record as a text of the drawing tool (02, §1): its length is worked out first, and it is written where there is room for all of it.
+// A design record of either edition as a text of the drawing tool (02, §1): the text's length is worked out first, and it is written where there
+// is room for all of it.
 use answer::Verdict;
 use answer::Written;
 ghost use mathlib.Core.Path.{_≡_};

@@ -220,7 +220,7 @@ fn show_text(text: &[u8], length: usize) {
 
 // A design by its part numbers.
 fn design(name: &[u8], record: &[u8]) {
-    let contents = record::whole_record(record);
+    let contents = record_editions::whole_record(record);
     let list = contents.list;
     say(name);
     say(b": parts");

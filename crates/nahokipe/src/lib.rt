@@ -24,8 +24,10 @@ ghost use Rattle.shares_claim.specs.Claim.{groupCounts};
 ghost use Rattle.shares.specs.Both.{both, bothDelivered};
 ghost use Rattle.vector_kind.specs.Kinds.{kindOf, kindRefusal};
 ghost use Rattle.vector_conversion.specs.Vectors.{vectorRefusal, converted};
-ghost use Rattle.record.specs.Contents.{wholeContents, contentsAt, cursor, stepAt, recordRefusal, designIn};
-ghost use Rattle.record_lines.specs.Changes.{addPart, takeOut, takeOutGroup, addSet};
+ghost use Rattle.record.specs.Contents.{cursor, stepAt};
+ghost use Rattle.record_editions.specs.declared.Edition.the-variants.{First, Second};
+ghost use Rattle.record_editions.specs.Contents.{wholeContents, contentsAt, recordRefusal, designIn, editionGiven, retiredGiven, endGiven};
+ghost use Rattle.record_lines.specs.Changes.{addPart, takeOut, takeOutGroup, addSet, convert};
 ghost use Rattle.record_lines.specs.Records.{enteredRecord, firstRecord, changedRecord};
 ghost use Rattle.record_numbers.specs.Numbering.{named};
 ghost use Rattle.record_naming.specs.Naming.{foundMask, namedRefusal};
@@ -322,7 +324,7 @@ pub extern "C" fn nahokipe_read_sheet(bytes: &[u8], cells: &mut [i64]) -> Sheet
 pub extern "C" fn nahokipe_whole_record(bytes: &[u8]) -> Record
     ensures { λ r. ⌜ r ≡ ofContents (wholeContents (now (bytes .entry))) ⌝ }
 {
-    of_contents(record::whole_record(bytes))
+    of_contents(record_editions::whole_record(bytes))
 }
 
 // What stands in the record at a position; what comes after it is not looked at.
@@ -330,7 +332,7 @@ pub extern "C" fn nahokipe_whole_record(bytes: &[u8]) -> Record
 pub extern "C" fn nahokipe_record_at(bytes: &[u8], start: usize) -> Record
     ensures { λ r. ⌜ r ≡ ofContents (contentsAt (now (bytes .entry)) start) ⌝ }
 {
-    of_contents(record::read_record(bytes, start))
+    of_contents(record_editions::read_record(bytes, start))
 }
 
 // The next set of a record where it stands, on a walk that has so many left.
@@ -347,7 +349,47 @@ pub extern "C" fn nahokipe_next_set(bytes: &[u8], next: usize, left: usize) -> N
 pub extern "C" fn nahokipe_table_of_record(bytes: &[u8], table: &mut [u8]) -> Answer
     ensures { λ r. ⌜ outcome r (now (table .exit)) ≡ retold ofWritten (delivered (recordRefusal (now (bytes .entry))) (tableOf (designIn (now (bytes .entry)) .parts .count) (listed (designIn (now (bytes .entry)) .sets))) (now (table .entry))) ⌝ }
 {
-    of_written(record::table_of_record(bytes, table))
+    of_written(record_editions::table_of_record(bytes, table))
+}
+
+// The position after the record that stands at a position.
+#[no_mangle]
+pub extern "C" fn nahokipe_record_end(bytes: &[u8], start: usize) -> Answer
+    ensures { λ r. ⌜ r ≡ ofValue (endGiven (now (bytes .entry)) start) ⌝ }
+{
+    of_value(record_editions::record_end(bytes, start))
+}
+
+// The edition of a record: 1 or 2.
+#[no_mangle]
+pub extern "C" fn nahokipe_edition(bytes: &[u8]) -> Answer
+    ensures { λ r. ⌜ r ≡ ofValue (editionGiven (now (bytes .entry))) ⌝ }
+{
+    of_value(record_editions::edition_of(bytes))
+}
+
+// The retired numbers of a record.
+#[no_mangle]
+pub extern "C" fn nahokipe_retired(bytes: &[u8], numbers: &mut [u64]) -> Answer
+    ensures { λ r. ⌜ outcome r (now (numbers .exit)) ≡ retold ofWritten (retiredGiven (now (bytes .entry)) (now (numbers .entry))) ⌝ }
+{
+    of_written(record_editions::retired_of(bytes, numbers))
+}
+
+// A record in edition 1.
+#[no_mangle]
+pub extern "C" fn nahokipe_to_edition_1(bytes: &[u8], buffer: &mut [u8]) -> Answer
+    ensures { λ r. ⌜ outcome r (now (buffer .exit)) ≡ retold ofWritten (changedRecord (convert First) (now (bytes .entry)) (now (buffer .entry))) ⌝ }
+{
+    of_written(record_changes::to_edition_1(bytes, buffer))
+}
+
+// A record in edition 2.
+#[no_mangle]
+pub extern "C" fn nahokipe_to_edition_2(bytes: &[u8], buffer: &mut [u8]) -> Answer
+    ensures { λ r. ⌜ outcome r (now (buffer .exit)) ≡ retold ofWritten (changedRecord (convert Second) (now (bytes .entry)) (now (buffer .entry))) ⌝ }
+{
+    of_written(record_changes::to_edition_2(bytes, buffer))
 }
 
 // A first record, of a list of sets.

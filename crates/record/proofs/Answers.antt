@@ -1,26 +1,22 @@
 -- What an answer of one of the reading functions tells of what stands at the bytes.
 -- Assumes nothing.
 use mathlib.Core.Path.{_≡_, refl, sym, ap, ap₂, _∙_, subst}
-use mathlib.Core.Bool.{Bool, cond, _&&_, and-false}
+use mathlib.Core.Bool.{_&&_, and-false}
 use mathlib.Core.List.{List, [], List·Memᴰ}
-use Prim.Native.Nat.{ℕ, _^_, _≤_, _<_, min}
+use Prim.Native.Nat.{ℕ, _^_, _≤_, min}
 use native.Mathlib.Nat.{zero-add}
-use borrow.Author.Tests.{lt-ltb, le-ltb}
 use lib.Dec.{ltb}
 use lib.ListN.{length, replicate}
-use Rattle.answer.specs.Outcome.{at}
-use Rattle.answer.specs.Refusals.{bytesLeft}
 use Rattle.answer.specs.declared.Refusal.{Refusal}
 use Rattle.answer.specs.declared.Verdict.{Verdict}
 use Rattle.answer.specs.declared.Verdict.the-variants.{Accepted, Refused}
 use Rattle.codec.specs.declared.Field.the-variants.{Set}
-use Rattle.codec.specs.Reads.{Read, found, refused, then, alone}
+use Rattle.codec.specs.Reads.{Read, found, refused}
 use Rattle.codec.proofs.FieldReads.{fields-counted}
 use Rattle.record.specs.declared.SetsRead.{SetsRead}
-use Rattle.record.specs.declared.WithWords.{WithWords}
 use Rattle.record_head.specs.Headings.{Head, headAt}
-use Rattle.record.specs.Records.{setRefusal, setsAt, DesignAt, recordAt, onlyRecord}
-use Rattle.record.specs.Contents.{contentsOf, contentsAt, wholeContents, structureWords, withWordsOf, wholeWithWords}
+use Rattle.record.specs.Records.{setRefusal, setsAt, DesignAt, recordAt}
+use Rattle.record.specs.Contents.{contentsOf, structureWords, withWordsOf}
 use Rattle.record.specs.Inside.{setsReadOf, passed, Pass, risingAt, decided}
 use Rattle.theory_sets.specs.Structures.{listed}
 use Rattle.structure_words.specs.Words.{inWords, wordsOf, among}
@@ -94,47 +90,6 @@ module _ (bytes : List ℕ) (start : ℕ) where
         ∙ rw (e, d)
 
 -- the contents are those beside the words
-words-contents : (read : Read DesignAt) → withWordsOf read .contents ≡ contentsOf read
+pub words-contents : (read : Read DesignAt) → withWordsOf read .contents ≡ contentsOf read
 words-contents (found here next) = refl
 words-contents (refused why) = refl
-
-pub contents-at : (bytes : List ℕ) (start : ℕ) (w : WithWords) → w ≡ withWordsOf (recordAt bytes start) → w .contents ≡ contentsAt bytes start
-unfolding contentsAt
-contents-at bytes start w e = ap (λ (x : WithWords). x .contents) e ∙ words-contents (recordAt bytes start)
-
-pub contents-whole : (bytes : List ℕ) (w : WithWords) → w ≡ wholeWithWords bytes → w .contents ≡ wholeContents bytes
-unfolding wholeContents wholeWithWords
-contents-whole bytes w e = ap (λ (x : WithWords). x .contents) e ∙ words-contents (onlyRecord bytes)
-
--- ---- 25, after the record
-
-module _ (bytes : List ℕ) where
-  left-refused : (read : Read DesignAt) (why : Refusal) → withWordsOf read .contents .verdict ≡ Refused why → withWordsOf read ≡ withWordsOf (then read (alone bytes))
-  left-refused (refused r) why v = refl
-  left-refused (found here next) why v = not-both refl v
-
-  left-some : (read : Read DesignAt) → withWordsOf read .contents .verdict ≡ Accepted → withWordsOf read .contents .next < length bytes
-      → withWordsOf (refused (at bytesLeft (withWordsOf read .contents .next))) ≡ withWordsOf (then read (alone bytes))
-  left-some (refused r) v h = not-both v refl
-  left-some (found here next) v h = sym (ap (λ (t : Bool). withWordsOf (cond t (refused (at bytesLeft next)) (found here next))) (lt-ltb next (length bytes) h))
-
-  left-none : (read : Read DesignAt) → withWordsOf read .contents .verdict ≡ Accepted → length bytes ≤ withWordsOf read .contents .next
-      → withWordsOf read ≡ withWordsOf (then read (alone bytes))
-  left-none (refused r) v h = not-both v refl
-  left-none (found here next) v h = sym (ap (λ (t : Bool). withWordsOf (cond t (refused (at bytesLeft next)) (found here next))) (le-ltb next (length bytes) h))
-
-module _ (bytes : List ℕ) (w : WithWords) (read : w ≡ withWordsOf (recordAt bytes 0)) where
-  pub whole-refused : (why : Refusal) → w .contents .verdict ≡ Refused why → w ≡ wholeWithWords bytes
-  unfolding wholeWithWords onlyRecord
-  whole-refused why v = read ∙ left-refused bytes (recordAt bytes 0) why (sym (ap (λ (k : WithWords). k .contents .verdict) read) ∙ v)
-
-  pub whole-left : w .contents .verdict ≡ Accepted → w .contents .next < length bytes → withWordsOf (refused (at bytesLeft (w .contents .next))) ≡ wholeWithWords bytes
-  unfolding wholeWithWords onlyRecord
-  whole-left v h =
-      ap (λ (k : WithWords). withWordsOf (refused (at bytesLeft (k .contents .next)))) read
-      ∙ left-some bytes (recordAt bytes 0) (sym (ap (λ (k : WithWords). k .contents .verdict) read) ∙ v) (subst (λ (k : WithWords). k .contents .next < length bytes) read h)
-
-  pub whole-alone : w .contents .verdict ≡ Accepted → length bytes ≤ w .contents .next → w ≡ wholeWithWords bytes
-  unfolding wholeWithWords onlyRecord
-  whole-alone v h =
-      read ∙ left-none bytes (recordAt bytes 0) (sym (ap (λ (k : WithWords). k .contents .verdict) read) ∙ v) (subst (λ (k : WithWords). length bytes ≤ k .contents .next) read h)

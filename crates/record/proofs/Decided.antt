@@ -1,17 +1,14 @@
 -- The first 40,000 bytes decide: a record is read by its first 38,744 bytes at the most, so that an input of at least 40,000 bytes never ends
 -- inside a number and always has a byte left.
 -- Assumes nothing.
-use mathlib.Core.Path.{_≡_, refl, sym, ap, _∙_}
+use mathlib.Core.Path.{_≡_, ap}
 use mathlib.Core.List.{List, []}
 use Prim.Native.Nat.{ℕ, _+_, _^_, _≤_}
 use native.Mathlib.Omega.{arith}
-use borrow.Author.Tests.{lt-ltb}
 use lib.ListN.{length, take}
 use lib.Pow.{pow-mono}
-use lib.Seq.{length-take-le}
-use Rattle.answer.specs.declared.Refusal.{Refusal}
 use Rattle.codec.specs.declared.Field.the-variants.{Count, PartNumber, Set}
-use Rattle.codec.specs.Reads.{Read, found, refused, then, alone}
+use Rattle.codec.specs.Reads.{Read, found, then}
 use Rattle.codec.specs.FieldReads.{fieldAt}
 use Rattle.codec.proofs.ByteForms.{bytes-at-most}
 use Rattle.codec.specs.Bytes.{Bytes}
@@ -20,13 +17,10 @@ use Rattle.codec.proofs.Window.{field-first, field-next, NoneLonger, none-longe
 use Rattle.record_parts.specs.declared.PartList.{PartList}
 use Rattle.record_parts.specs.PartLists.{listOf}
 use Rattle.record_head.specs.Headings.{partsRefusal, markRefusal, partNumberJudge, setCountRefusal, numbersAt, partsAt, Head, headAt}
-use Rattle.record.specs.Records.{setRefusal, setsAt, Design, DesignAt, designAt, recordAt, onlyRecord, wholeRecord}
-use Rattle.record.specs.Contents.{wholeContents}
+use Rattle.record.specs.Records.{setRefusal, setsAt, DesignAt, designAt, recordAt}
 use Rattle.record_head.proofs.PartNumbers.{count-few}
 use Rattle.record_head.proofs.RoundTrip.{head-found}
 use Rattle.record.proofs.Sets.{set-right}
-use Rattle.record.proofs.RoundTrip.{whole-found}
-use Rattle.record.proofs.Whole.{refused-contents}
 
 -- a set of at most 16 parts takes at most three bytes
 pub set-longest : (n : ℕ) → n ≤ 16 → NoneLonger Set (setRefusal n) 3
@@ -107,30 +101,3 @@ module _ (bytes : List ℕ) (small : Bytes bytes) (most : ℕ) (long : most ≤ 
       let n : ℕ = head .parts .count in
       ap (λ (r : Read (List ℕ)). then r (λ sets end. found (designAt (head .parts) sets begin end) end))
       (fields-first bytes small Set (setRefusal n) 3 (set-longest n (read .parts .rules .few)) most long (head .count) [] begin (omega (arith, read .most))))
-
--- any input of at least 40,000 bytes is decided by its first 40,000
-pub whole-first : (bytes : List ℕ) → Bytes bytes → 40000 ≤ length bytes → wholeRecord (take 40000 bytes) ≡ wholeRecord bytes
-unfolding wholeRecord onlyRecord
-whole-first bytes small long =
-    ap (λ (only : Read DesignAt). then only (λ here next. found (here .design) next))
-    (then-alike (recordAt bytes 0) (recordAt (take 40000 bytes) 0) (alone bytes) (alone (take 40000 bytes)) (record-first bytes small 40000 long 0 (omega arith))
-    (λ here next e.
-    let near = record-next bytes small 0 here next e in
-    let all : length (take 40000 bytes) ≡ 40000 = length-take-le 40000 bytes long in
-    simp (lt-ltb next (length bytes) (omega arith), lt-ltb next (length (take 40000 bytes)) (omega arith))))
-
--- such an input is always refused: a record that ends sooner leaves a byte
-pub long-refused : (bytes : List ℕ) → Bytes bytes → 40000 ≤ length bytes → (why : Refusal) × (wholeRecord bytes ≡ refused why)
-long-refused bytes small long = cases (wholeRecord bytes) refl
-  where
-    cases : (whole : Read Design) → wholeRecord bytes ≡ whole → (why : Refusal) × (wholeRecord bytes ≡ refused why)
-    cases (refused why) e = (why, e)
-    cases (found d end) e =
-        let w = whole-found bytes d end e in
-        absurd (omega (arith, w .nothing-left, record-next bytes small 0 (w .here) end (w .read)))
-
--- and gets the same answer from the first 40,000 bytes
-pub contents-first : (bytes : List ℕ) → Bytes bytes → 40000 ≤ length bytes → wholeContents (take 40000 bytes) ≡ wholeContents bytes
-contents-first bytes small long =
-    let w = long-refused bytes small long in
-    refused-contents (take 40000 bytes) (w .0) (whole-first bytes small long ∙ w .1) ∙ sym (refused-contents bytes (w .0) (w .1))

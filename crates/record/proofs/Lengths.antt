@@ -1,7 +1,7 @@
 -- No record is longer than 38,732 bytes: one for n, seven for the mark and each of 16 part numbers, two for the count and three for each of
 -- 12,870 sets.
 -- Assumes nothing.
-use mathlib.Core.Path.{_≡_, refl, subst}
+use mathlib.Core.Path.{_≡_, refl}
 use mathlib.Core.List.{List, [], _∷_, List·Memᴰ, List·Memᴰ·head, List·Memᴰ·tail}
 use Prim.Native.Nat.{ℕ, zero, suc, _+_, _^_, _≤_, _<_}
 use native.Mathlib.Omega.{arith}
@@ -9,17 +9,14 @@ use lib.ListN.{length, getD, length-append}
 use lib.Pow.{pow-mono}
 use Rattle.codec.specs.declared.Field.the-variants.{PartNumber}
 use Rattle.codec.specs.ByteForm.{bytesOf, formsOf}
-use Rattle.codec.specs.Reads.{found}
 use Rattle.codec.proofs.ByteForms.{bytes-at-most, forms-most}
 use Rattle.codec.proofs.FieldReads.{forms-allowed}
-use Rattle.codec.specs.Bytes.{Bytes}
 use Rattle.record_parts.specs.PartLists.{numbersOf}
 use Rattle.record_parts.proofs.WellFormed.{well-formed-counted}
 use Rattle.record_head.specs.HeadingBytes.{partsBytes, headBytes}
 use Rattle.record_head.proofs.PartNumbers.{rising-allowed}
-use Rattle.record.specs.Records.{Design, wholeRecord}
+use Rattle.record.specs.Records.{Design}
 use Rattle.record.specs.RecordBytes.{recordBytes, DesignRules}
-use Rattle.record.proofs.RoundTrip.{whole-written}
 
 -- no set of a design takes more than three bytes
 set-small : (sets : List ℕ) → ((a : ℕ) → List·Memᴰ a sets → a < 2 ^ 16) → (i : ℕ) → getD sets i 0 < 2 ^ 16
@@ -46,9 +43,3 @@ record-longest d r =
     let small = set-small (d .sets) (λ a m. omega (arith, r .sets .within a m .0)) in
     let sets = forms-most 3 (d .sets) (λ i. bytes-at-most 3 (getD (d .sets) i 0) (omega arith) (omega (arith, small i))) in
     omega (arith, record-sum d, well-formed-counted (d .parts) (r .parts), parts .few, r .sets .most)
-
--- and what is accepted
-pub accepted-longest : (bytes : List ℕ) → Bytes bytes → (d : Design) (next : ℕ) → wholeRecord bytes ≡ found d next → length bytes ≤ 38732
-accepted-longest bytes small d next e =
-    let w = whole-written bytes d next small e in
-    subst (λ (l : List ℕ). length l ≤ 38732) (w .1) (record-longest d (w .0))

@@ -4,7 +4,6 @@ pub mod Answers
 pub mod Passes
 pub mod RoundTrip
 pub mod MinimalSets
-pub mod Whole
+pub mod Walks
 pub mod Decided
 pub mod Lengths
-pub mod Examples

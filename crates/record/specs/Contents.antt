@@ -5,7 +5,6 @@ use Prim.Native.Nat.{ℕ, zero, suc, _-_, _^_}
 use lib.Dec.{ltb}
 use lib.ListN.{length, take, drop}
 use Rattle.answer.specs.declared.Refusal.{Refusal}
-use Rattle.answer.specs.declared.Verdict.{Verdict}
 use Rattle.answer.specs.declared.Verdict.the-variants.{Accepted, Refused}
 use Rattle.codec.specs.declared.Field.the-variants as field
 use Rattle.codec.specs.Reads.{Read, found, refused}
@@ -20,7 +19,7 @@ use Rattle.record.specs.declared.Cursor.{Cursor}
 use Rattle.record.specs.declared.Step.{Step}
 use Rattle.record.specs.declared.Step.the-variants.{Set, End}
 use Rattle.record.specs.declared.WithWords.{WithWords}
-use Rattle.record.specs.Records.{Design, design, DesignAt, recordAt, onlyRecord, wholeRecord}
+use Rattle.record.specs.Records.{design, DesignAt}
 
 -- of a refused record: the refusal, a list of no parts and an empty stretch
 abbrev pub nothing : Refusal → Contents
@@ -38,26 +37,6 @@ contentsOf (found here next) = record {
 }
 contentsOf (refused refusal) = nothing refusal
 
--- the contents of the record at that position
-unfoldable pub contentsAt : List ℕ → ℕ → Contents
-contentsAt bytes start = contentsOf (recordAt bytes start)
-
--- and of the record that the bytes are, 25 included
-unfoldable pub wholeContents : List ℕ → Contents
-wholeContents bytes = contentsOf (onlyRecord bytes)
-
--- the first refusal of a whole record
-abbrev pub recordRefusal : List ℕ → Verdict
-recordRefusal bytes = wholeContents bytes .verdict
-
--- the design in a record; of a refused one, a design of no parts and no sets
-abbrev pub designOr : Read Design → Design
-designOr (found d end) = d
-designOr (refused refusal) = design (listOf 0 []) []
-
-unfoldable pub designIn : List ℕ → Design
-designIn bytes = designOr (wholeRecord bytes)
-
 -- the words of the structure that sets of n parts give: the bit of each set of these parts that holds one of them, and no other
 abbrev pub structureWords : ℕ → List ℕ → List ℕ
 structureWords n sets = wordsOf (λ a. ltb a (2 ^ n) && listed sets a)
@@ -67,10 +46,6 @@ abbrev pub withWordsOf : Read DesignAt → WithWords
 withWordsOf (found here next) =
     record { contents = contentsOf (found here next); words = structureWords (here .design .parts .count) (here .design .sets) }
 withWordsOf (refused refusal) = record { contents = nothing refusal; words = structureWords 0 [] }
-
--- those of the record that the bytes are
-unfoldable pub wholeWithWords : List ℕ → WithWords
-wholeWithWords bytes = withWordsOf (onlyRecord bytes)
 
 -- the table that words give for n parts; empty where no structure has so many
 abbrev pub tableOfWords : ℕ → List ℕ → List ℕ
@@ -85,10 +60,6 @@ stretchOf contents bytes = take (contents .end - contents .begin) (drop (content
 -- where a walk is: the position of the next set, and how many sets are left
 abbrev pub cursor : ℕ → ℕ → Cursor
 cursor next left = record { next = next; left = left }
-
--- at the first set; of a refused record no set is left
-abbrev pub firstCursor : List ℕ → Cursor
-firstCursor bytes = cursor (wholeContents bytes .begin) (wholeContents bytes .sets)
 
 -- one step: the set at the cursor and the cursor behind it. Where no set is left, or no number stands there, the walk is at its end.
 abbrev pub stepOn : Read ℕ → ℕ → Step

@@ -1,5 +1,5 @@
--- What design record stands at bytes from a position on (01, "Records on disk"), or which refusal at which place: each number is judged as it
--- is read, and places are counted in the whole input.
+-- What design record of edition 1 stands at bytes from a position on (01, "Records on disk"), or which refusal at which place: each number is
+-- judged as it is read, and places are counted in the whole input. In a record of edition 2 the same fields stand behind the edition.
 use mathlib.Core.Bool.{Bool, false, _||_}
 use mathlib.Core.List.{List, [], _∷_}
 use Prim.Native.Nat.{ℕ}
@@ -10,7 +10,7 @@ use Rattle.answer.specs.Checks.{maskRefusal}
 use Rattle.answer.specs.declared.Verdict.{Verdict}
 use Rattle.answer.specs.declared.Verdict.the-variants as verdict
 use Rattle.codec.specs.declared.Field.the-variants.{Set}
-use Rattle.codec.specs.Reads.{Read, found, then, alone}
+use Rattle.codec.specs.Reads.{Read, found, then}
 use Rattle.codec.specs.FieldReads.{fieldsAt}
 use Rattle.record_parts.specs.declared.PartList.{PartList}
 use Rattle.theory_sets.specs.Masks.{holds}
@@ -56,11 +56,3 @@ recordAt bytes start =
     then (headAt bytes start) (λ head begin.
     then (setsAt bytes (head .parts .count) (head .count) [] begin) (λ sets end.
     found (designAt (head .parts) sets begin end) end))
-
--- the record that the bytes are
-unfoldable pub onlyRecord : List ℕ → Read DesignAt
-onlyRecord bytes = then (recordAt bytes 0) (alone bytes)
-
--- and its design
-unfoldable pub wholeRecord : List ℕ → Read Design
-wholeRecord bytes = then (onlyRecord bytes) (λ here next. found (here .design) next)

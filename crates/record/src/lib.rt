@@ -1,4 +1,4 @@
-// Design records (01, "Records on disk"): read from a position, checked whole, and walked set by set.
+// Design records of edition 1 (01, "Records on disk"): read from a position, and walked set by set.
 use answer::Refusal;
 use answer::Verdict;
 use answer::Written;
@@ -8,15 +8,12 @@ use record_parts::PartList;
 ghost use mathlib.Core.Path.{_≡_};
 ghost use mathlib.Core.List.{[]};
 ghost use Prim.Native.Nat.{_+_, _≤_, _<_};
-ghost use denote.Ref.{ptr};
 ghost use Rattle.answer.specs.Outcome.{at, outcome, delivered};
-ghost use Rattle.theory_sets.specs.Structures.{listed};
-ghost use Rattle.theory_sets.specs.Tables.{tableOf};
 ghost use Rattle.structure_words.specs.Words.{inWords};
 ghost use Rattle.codec.specs.Reads.{refused, readingOf};
 ghost use Rattle.codec.specs.FieldReads.{fieldAt};
 ghost use Rattle.record.specs.Records.{setsAt, recordAt};
-ghost use Rattle.record.specs.Contents.{contentsAt, wholeContents, recordRefusal, designIn, structureWords, withWordsOf, wholeWithWords, tableOfWords, stretchOf, firstCursor, stepAt};
+ghost use Rattle.record.specs.Contents.{structureWords, withWordsOf, tableOfWords, stepAt};
 ghost use Rattle.record.specs.Inside.{setsReadOf, risingRefusal, risingAt, markedOf, nestedAt};
 
 // What reading a record finds: its part list, the number of its sets, where their bytes begin and end, and the position after the record.
@@ -65,112 +62,8 @@ struct SetsRead {
     verdict: Verdict,
 }
 
-// The contents of the record that stands at a position. What comes after it is not looked at.
-pub fn read_record(bytes: &[u8], start: usize) -> Contents
-    ensures { λ r. ⌜ r ≡ contentsAt (now (bytes .entry)) start ⌝ }
-{
-    let read = read_with_words(bytes, start);
-    read.contents
-}
-
-// The contents of the record that the bytes are.
-pub fn whole_record(bytes: &[u8]) -> Contents
-    ensures { λ r. ⌜ r ≡ wholeContents (now (bytes .entry)) ⌝ }
-{
-    let read = whole_with_words(bytes);
-    read.contents
-}
-
-// The contents of the record that the bytes are and the words of its structure, from one reading.
-pub fn whole_with_words(bytes: &[u8]) -> WithWords
-    ensures { λ r. ⌜ r ≡ wholeWithWords (now (bytes .entry)) ⌝ }
-{
-    let read = read_with_words(bytes, 0);
-    let contents = read.contents;
-    let verdict = contents.verdict;
-    match verdict {
-        Verdict::Refused(_) => read,
-        Verdict::Accepted => {
-            let next = contents.next;
-            if next < bytes.len() {
-                return refused_with_words(answer::BYTES_LEFT, next);
-            }
-            read
-        }
-    }
-}
-
-// The bytes that carry a record's sets: a part of the very slice that is handed in, and empty for a refused record.
-pub fn sets_of(bytes: &[u8]) -> &[u8]
-    ensures { λ r. ⌜ now r ≡ stretchOf (wholeContents (now (bytes .entry))) (now (bytes .entry)) ⌝ }
-    ensures { λ r. ⌜ ptr r ≡ (ptr (bytes .entry) .0, ptr (bytes .entry) .1 + wholeContents (now (bytes .entry)) .begin) ⌝ }
-{
-    let contents = whole_record(bytes);
-    let begin = contents.begin;
-    let end = contents.end;
-    &bytes[begin..end]
-}
-
-impl Cursor {
-    // At the first set of a record; no set is left of a refused one.
-    pub fn first(bytes: &[u8]) -> Cursor
-        ensures { λ r. ⌜ r ≡ firstCursor (now (bytes .entry)) ⌝ }
-    {
-        let contents = whole_record(bytes);
-        Cursor {
-            next: contents.begin,
-            left: contents.sets,
-        }
-    }
-
-    // The set at the cursor and the cursor behind it, on the bytes that the walk began with.
-    pub fn step(self, bytes: &[u8]) -> Step
-        ensures { λ r. ⌜ r ≡ stepAt (now (bytes .entry)) self ⌝ }
-    {
-        let left = self.left;
-        if left == 0 {
-            return Step::End;
-        }
-        let next = self.next;
-        let number = codec::read_number(bytes, next, Field::Set);
-        match number {
-            Reading::Refused(_) => Step::End,
-            Reading::Number { value, next: after } => Step::Set {
-                set: value,
-                cursor: Cursor {
-                    next: after,
-                    left: left - 1,
-                },
-            },
-        }
-    }
-}
-
-// The table of a record, into a lent buffer.
-pub fn table_of_record(bytes: &[u8], table: &mut [u8]) -> Written
-    ensures { λ r. ⌜ outcome r (now (table .exit)) ≡ delivered (recordRefusal (now (bytes .entry))) (tableOf (designIn (now (bytes .entry)) .parts .count) (listed (designIn (now (bytes .entry)) .sets))) (now (table .entry)) ⌝ }
-{
-    store_table(whole_with_words(bytes), table)
-}
-
-// The table of a record that was read with its words, into a lent buffer.
-pub fn store_table(read: WithWords, table: &mut [u8]) -> Written
-    ensures { λ r. ⌜ outcome r (now (table .exit)) ≡ delivered (read .contents .verdict) (tableOfWords (read .contents .list .count) (read .words)) (now (table .entry)) ⌝ }
-{
-    let contents = read.contents;
-    let verdict = contents.verdict;
-    match verdict {
-        Verdict::Refused(refusal) => Written::Refused(refusal),
-        Verdict::Accepted => {
-            let list = contents.list;
-            let words = read.words;
-            structure::hand_out_table(list.count, &words, table)
-        }
-    }
-}
-
-// The contents and the structure of the record that stands at a position.
-fn read_with_words(bytes: &[u8], start: usize) -> WithWords
+// The contents and the structure of the record of edition 1 that stands at a position. What comes after it is not looked at.
+pub fn read_with_words(bytes: &[u8], start: usize) -> WithWords
     ensures { λ r. ⌜ r ≡ withWordsOf (recordAt (now (bytes .entry)) start) ⌝ }
 {
     let heading = record_head::read_heading(bytes, start);
@@ -203,6 +96,46 @@ fn read_with_words(bytes: &[u8], start: usize) -> WithWords
     }
 }
 
+impl Cursor {
+    // The set at the cursor and the cursor behind it, on the bytes that the walk began with.
+    pub fn step(self, bytes: &[u8]) -> Step
+        ensures { λ r. ⌜ r ≡ stepAt (now (bytes .entry)) self ⌝ }
+    {
+        let left = self.left;
+        if left == 0 {
+            return Step::End;
+        }
+        let next = self.next;
+        let number = codec::read_number(bytes, next, Field::Set);
+        match number {
+            Reading::Refused(_) => Step::End,
+            Reading::Number { value, next: after } => Step::Set {
+                set: value,
+                cursor: Cursor {
+                    next: after,
+                    left: left - 1,
+                },
+            },
+        }
+    }
+}
+
+// The table of a record that was read with its words, into a lent buffer.
+pub fn store_table(read: WithWords, table: &mut [u8]) -> Written
+    ensures { λ r. ⌜ outcome r (now (table .exit)) ≡ delivered (read .contents .verdict) (tableOfWords (read .contents .list .count) (read .words)) (now (table .entry)) ⌝ }
+{
+    let contents = read.contents;
+    let verdict = contents.verdict;
+    match verdict {
+        Verdict::Refused(refusal) => Written::Refused(refusal),
+        Verdict::Accepted => {
+            let list = contents.list;
+            let words = read.words;
+            structure::hand_out_table(list.count, &words, table)
+        }
+    }
+}
+
 // A set of n parts that rises above the one before it; whether it holds an earlier one is not asked here.
 fn read_set(bytes: &[u8], start: usize, n: usize, previous: u64) -> Reading
     requires { ⌜ n ≤ 16 ⌝ }
@@ -226,7 +159,8 @@ fn read_set(bytes: &[u8], start: usize, n: usize, previous: u64) -> Reading
     }
 }
 
-fn refused_with_words(number: u8, place: usize) -> WithWords
+// Of a refused record, by its number and place.
+pub fn refused_with_words(number: u8, place: usize) -> WithWords
     ensures { λ r. ⌜ r ≡ withWordsOf (refused (at number place)) ⌝ }
 {
     let contents = Contents {

@@ -22,15 +22,16 @@ use Rattle.record_parts.specs.Changes.{single}
 use Rattle.record_parts.specs.Lines.{In}
 use Rattle.record_parts.proofs.LeftOut.{in-named, named-single}
 use Rattle.record_parts.proofs.WellFormed.{well-formed-counted}
-use Rattle.record.specs.Records.{Design, wholeRecord}
+use Rattle.record.specs.Records.{Design}
+use Rattle.record_editions.specs.Editions.{wholeRecord}
 use Rattle.record.specs.RecordBytes.{DesignRules}
-use Rattle.record.proofs.RoundTrip.{whole-written}
+use Rattle.record_editions.proofs.RoundTrip.{design-rules}
 use Rattle.record_lines.specs.Changes.{Change, takeOut, takeOutGroup, addSet, designWithout, changed}
 use Rattle.record_lines.specs.Names.{partNumberAt}
 use Rattle.record_lines.specs.Records.{changedRecord}
 use Rattle.record_lines.proofs.NamedChanges.{with-set-names}
 use Rattle.record_lines.proofs.Rules.{take-out-accepted, group-out-accepted}
-use Rattle.record_lines.proofs.Written.{Made, made-read}
+use Rattle.record_lines.proofs.Written.{DesignMade, made-read}
 use Rattle.record_naming.specs.Naming.{maskOf, wantedRefusal, foundPosition, foundMask}
 use Rattle.record_naming.proofs.Masks.{mask-names}
 use Rattle.record_naming.proofs.Positions.{position-exactly}
@@ -54,7 +55,7 @@ module _ (bytes : List ℕ) (d : Design) (next : ℕ) (small : Bytes bytes) (rea
   numbers = numbersOf (d .parts)
 
   rules : DesignRules d
-  rules = whole-written bytes d next small read .0
+  rules = design-rules bytes d next small read .0
 
   counted : length numbers ≡ d .parts .count
   counted = well-formed-counted (d .parts) (rules .parts)
@@ -92,8 +93,8 @@ module _ (bytes : List ℕ) (d : Design) (next : ℕ) (small : Bytes bytes) (rea
         subst (λ (m : ℕ). In number (named numbers m) ↔ In number wanted) (g .1) (mask-names numbers wanted known number)
 
   -- what a change by position or mask made
-  made : (change : Change) (buffer : List ℕ) (k : ℕ) → changedRecord change bytes buffer .answer ≡ written.Length k → Made change d (changedRecord change bytes buffer) k
-  made change buffer k e = made-read change bytes buffer k e d next read rules
+  made : (change : Change) (buffer : List ℕ) (k : ℕ) (e : changedRecord change bytes buffer .answer ≡ written.Length k) → DesignMade change bytes buffer k e d
+  made change buffer k e = made-read change bytes buffer k e small d next read
 
   -- Exactly the part with that number leaves.
   pub part-leaves : (number : ℕ) (buffer : List ℕ) (k : ℕ) → changedThere takeOut (partPosition bytes number) bytes buffer .answer ≡ written.Length k

@@ -17,10 +17,11 @@ use Rattle.record_parts.specs.declared.PartList.{PartList}
 use Rattle.record_parts.specs.PartLists.{numbersOf}
 use Rattle.record_parts.proofs.WellFormed.{well-formed-counted, cells-enough}
 use Rattle.record.specs.declared.Contents.{Contents}
-use Rattle.record.specs.Records.{Design, wholeRecord}
+use Rattle.record.specs.Records.{Design}
+use Rattle.record_editions.specs.Editions.{wholeRecord}
 use Rattle.record.specs.RecordBytes.{DesignRules}
-use Rattle.record.specs.Contents.{wholeContents}
-use Rattle.record.proofs.Whole.{accepted-design, refused-contents, design-read}
+use Rattle.record_editions.specs.Contents.{wholeContents}
+use Rattle.record_editions.proofs.Whole.{accepted-design, refused-contents, design-read}
 use Rattle.record_lines.specs.Changes.{Change}
 use Rattle.record_lines.specs.Records.{changedRecord}
 use Rattle.record_naming.specs.Naming.{foundMask}

@@ -20,18 +20,20 @@ use Rattle.answer.proofs.Deliveries.{refused-kept}
 use Rattle.answer.proofs.Checks.{group-passed}
 use Rattle.numbers.proofs.Bools.{same-test, neither}
 use Rattle.codec.specs.Bytes.{Bytes}
-use Rattle.codec.specs.Reads.{Read, found, refused}
+use Rattle.codec.specs.Reads.{Read, found, refused, then}
 use Rattle.theory_sums.specs.Sums.{indicator, sum, some}
 use Rattle.theory_orders.specs.Orders.{times}
 use Rattle.record_numbers.specs.Numbering.{named, names}
 use Rattle.record_parts.specs.PartLists.{numbersOf}
 use Rattle.record_parts.proofs.WellFormed.{well-formed-counted}
-use Rattle.record.specs.Records.{Design, wholeRecord}
-use Rattle.record.specs.RecordBytes.{recordBytes}
-use Rattle.record.proofs.RoundTrip.{whole-written}
-use Rattle.record_lines.specs.Changes.{takeOut, takeOutGroup, changeRefusal, changed}
+use Rattle.record.specs.Records.{Design}
+use Rattle.record_editions.specs.Editions.{Stored, designOf, wholeStored, wholeRecord}
+use Rattle.record_editions.specs.EditionBytes.{storedBytes}
+use Rattle.record_editions.proofs.RoundTrip.{whole-design, design-rules}
+use Rattle.record_lines.specs.Changes.{takeOut, takeOutGroup}
 use Rattle.record_lines.specs.Names.{repeated}
-use Rattle.record_lines.specs.Records.{changedRead, changedRecord}
+use Rattle.record_lines.specs.Records.{storedRefusal, changedStored, changedRead, changedRecord}
+use Rattle.record_lines.proofs.Refusals.{unconverted-refusal}
 use Rattle.record_lines.specs.Lines.{outcomeOf}
 use Rattle.record_numbers.proofs.Names.{names-intro, names-elim}
 use Rattle.record_naming.specs.Naming.{positionOf, maskOf, wantedRefusal, foundPosition}
@@ -45,37 +47,45 @@ use Rattle.record_by_number.proofs.Effects.{wanted-judged, wanted-named
 
 -- ---- one part
 
+-- the design of what was read
+abbrev designRead : Read Stored → Read Design
+designRead read = then read (λ s next. found (designOf s) next)
+
 module _ (number : ℕ) (buffer : List ℕ) where
   -- a part taken out where it was found, of what was read
-  abbrev foundRead : Value → Read Design → Outcome Written (List ℕ)
+  abbrev foundRead : Value → Read Stored → Outcome Written (List ℕ)
   foundRead (value.Refused why) read = outcome (written.Refused why) buffer
   foundRead (value.Given position) read = changedRead (takeOut position) read buffer
 
-  same-read : (v : Value) (bytes : List ℕ) → changedThere takeOut v bytes buffer ≡ foundRead v (wholeRecord bytes)
+  same-read : (v : Value) (bytes : List ℕ) → changedThere takeOut v bytes buffer ≡ foundRead v (wholeStored bytes)
   unfolding changedRecord
   same-read (value.Refused why) bytes = refl
   same-read (value.Given position) bytes = refl
 
   -- a position that was not found is 0, which is refused as well
-  same-position : (d : Design) (next position : ℕ)
-      → foundRead (valued (refuse (eqb position 0) unknownPosition 0 Accepted) position) (found d next) ≡ changedRead (takeOut position) (found d next) buffer
-  same-position d next position = cases (eqb position 0) refl
+  same-position : (s : Stored) (next position : ℕ)
+      → foundRead (valued (refuse (eqb position 0) unknownPosition 0 Accepted) position) (found s next) ≡ changedRead (takeOut position) (found s next) buffer
+  same-position s next position = cases (eqb position 0) refl
     where
-      cases : (p : Bool) → eqb position 0 ≡ p → foundRead (valued (refuse p unknownPosition 0 Accepted) position) (found d next) ≡ changedRead (takeOut position) (found d next) buffer
+      cases : (p : Bool) → eqb position 0 ≡ p → foundRead (valued (refuse p unknownPosition 0 Accepted) position) (found s next) ≡ changedRead (takeOut position) (found s next) buffer
       cases true e =
-          refused-kept (changeRefusal (takeOut position) d) (recordBytes (changed (takeOut position) d)) buffer (at unknownPosition 0)
-          (refuse-held (eqb position 0) unknownPosition 0 _ e)
+          refused-kept (storedRefusal (takeOut position) s) (storedBytes (changedStored (takeOut position) s)) buffer (at unknownPosition 0)
+          (unconverted-refusal (takeOut position) s refl ∙ refuse-held (eqb position 0) unknownPosition 0 _ e)
       cases false e = refl
 
-  same-call : (read : Read Design) → foundRead (lookedUp (λ numbers. foundPosition numbers number) read) read ≡ changedRead (takeOut (positionIn read number)) read buffer
+  same-call : (read : Read Stored) → foundRead (lookedUp (λ numbers. foundPosition numbers number) (designRead read)) read ≡ changedRead (takeOut (positionIn (designRead read) number)) read buffer
   same-call (refused why) = refl
-  same-call (found d next) = same-position d next (positionOf (numbersOf (d .parts)) number)
+  same-call (found s next) = same-position s next (positionOf (numbersOf (designOf s .parts)) number)
 
   -- The call that takes a part out by its number is the call of a series of single take-outs.
   pub part-call : (bytes : List ℕ)
       → changedThere takeOut (partPosition bytes number) bytes buffer ≡ outcomeOf (callFor (record { number = number; buffer = buffer }) bytes) bytes
   unfolding partPosition changedRecord
-  part-call bytes = same-read (partPosition bytes number) bytes ∙ same-call (wholeRecord bytes)
+  part-call bytes =
+      same-read (partPosition bytes number) bytes
+      ∙ ap (λ (r : Read Design). foundRead (lookedUp (λ numbers. foundPosition numbers number) r) (wholeStored bytes)) (whole-design bytes)
+      ∙ same-call (wholeStored bytes)
+      ∙ ap (λ (r : Read Design). changedRead (takeOut (positionIn r number)) (wholeStored bytes) buffer) (sym (whole-design bytes))
 
 -- ---- several parts
 
@@ -104,7 +114,7 @@ module _ (bytes : List ℕ) (d : Design) (next : ℕ) (small : Bytes bytes) (rea
   -- the wanted numbers are an order of the mask's numbers
   wanted-order : Reordered wanted (named numbers mask)
   wanted-order number =
-      let rising = whole-written bytes d next small read .0 .parts .rules .rising in
+      let rising = design-rules bytes d next small read .0 .parts .rules .rising in
       let same = wanted-named bytes d next small read wanted mask e number in
       once-times wanted (wanted-accepted numbers wanted (judged .0) .1) number
       ∙ ap indicator
@@ -119,6 +129,6 @@ module _ (bytes : List ℕ) (d : Design) (next : ℕ) (small : Bytes bytes) (rea
       → NotShort (resultOf (record { change = takeOutGroup mask; buffer = buffer }) bytes) → NotShort (series parts bytes)
       → resultOf (record { change = takeOutGroup mask; buffer = buffer }) bytes ≡ series parts bytes
   wanted-any-order some buffer parts order =
-      let w = whole-written bytes d next small read .0 .parts in
+      let w = design-rules bytes d next small read .0 .parts in
       let below : mask < 2 ^ (d .parts .count) = rw (← well-formed-counted (d .parts) w, ← judged .1) (mask-below numbers wanted) in
       any-order bytes d next small read mask (group-passed (d .parts .count) mask Accepted some below) buffer parts (λ number. order number ∙ wanted-order number)

@@ -7,7 +7,8 @@ use lib.ListN.{take}
 use Rattle.codec.specs.Reads.{found}
 use Rattle.record_parts.specs.PartLists.{numbersOf}
 use Rattle.record_parts.specs.Lines.{In}
-use Rattle.record.specs.Records.{Design, wholeRecord}
+use Rattle.record.specs.Records.{Design}
+use Rattle.record_editions.specs.Editions.{wholeRecord}
 use Rattle.record_lines.specs.Names.{namedSets, LeastNamed}
 use Rattle.record_groups.specs.Without.{Without}
 

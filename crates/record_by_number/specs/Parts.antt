@@ -8,7 +8,8 @@ use Rattle.answer.specs.declared.Written.{Written}
 use Rattle.answer.specs.declared.Written.the-variants as written
 use Rattle.codec.specs.Reads.{Read, found, refused}
 use Rattle.record_parts.specs.PartLists.{numbersOf}
-use Rattle.record.specs.Records.{Design, wholeRecord}
+use Rattle.record.specs.Records.{Design}
+use Rattle.record_editions.specs.Editions.{wholeRecord}
 use Rattle.record_lines.specs.Changes.{Change}
 use Rattle.record_lines.specs.Records.{changedRecord}
 use Rattle.record_naming.specs.Naming.{foundPosition, foundMask}

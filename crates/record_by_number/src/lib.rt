@@ -12,7 +12,7 @@ ghost use Rattle.record_by_number.specs.Parts.{partPosition, partsMask, 
 pub fn position_of(bytes: &[u8], number: u64) -> Value
     ensures { λ r. ⌜ r ≡ partPosition (now (bytes .entry)) number ⌝ }
 {
-    let contents = record::whole_record(bytes);
+    let contents = record_editions::whole_record(bytes);
     let verdict = contents.verdict;
     if let Verdict::Refused(refusal) = verdict {
         return Value::Refused(refusal);
@@ -60,7 +60,7 @@ pub fn add_set_of_parts(bytes: &[u8], wanted: &[u64], buffer: &mut [u8]) -> Writ
 fn mask_in(bytes: &[u8], wanted: &[u64]) -> Value
     ensures { λ r. ⌜ r ≡ partsMask (now (bytes .entry)) (now (wanted .entry)) ⌝ }
 {
-    let contents = record::whole_record(bytes);
+    let contents = record_editions::whole_record(bytes);
     let verdict = contents.verdict;
     if let Verdict::Refused(refusal) = verdict {
         return Value::Refused(refusal);

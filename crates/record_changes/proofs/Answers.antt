@@ -1,18 +1,18 @@
--- A record that was opened for a change: a refused one refuses the change. What the design of an accepted one refuses the change for is the
--- answer, and else the changed design is written.
+-- A record that was opened for a change: a refused one refuses the change. What an accepted one refuses the change for is the answer, and else
+-- the changed design is written in its edition.
 -- Assumes nothing.
 use mathlib.Core.Path.{_≡_, refl, sym, ap, ap₂, _∙_, subst}
-use mathlib.Core.List.{List}
-use Prim.Native.Nat.{ℕ}
+use mathlib.Core.List.{List, [], _∷_}
+use Prim.Native.Nat.{ℕ, _-_, _≤_}
 use native.Mathlib.Omega.{arith}
-use lib.ListN.{length}
-use Rattle.answer.specs.Refusals.{inEverySet}
+use lib.ListN.{length, replicate, length-append}
+use Rattle.answer.specs.Refusals.{inEverySet, retiredPresent}
 use Rattle.answer.specs.Outcome.{at, outcome, andThen, delivered}
 use Rattle.answer.specs.declared.Refusal.{Refusal}
 use Rattle.answer.specs.declared.Verdict.{Verdict}
 use Rattle.answer.specs.declared.Verdict.the-variants.{Accepted, Refused}
 use Rattle.answer.specs.declared.Written.the-variants as written
-use Rattle.answer.proofs.Outcomes.{refuse-passed, refuse-held}
+use Rattle.answer.proofs.Outcomes.{refuse-passed, refuse-held, then-refused}
 use Rattle.answer.proofs.Checks.{group-passed}
 use Rattle.record_parts.specs.declared.PartList.{PartList}
 use Rattle.record_parts.specs.declared.Changed.{Changed}
@@ -25,56 +25,113 @@ use Rattle.record_parts.proofs.OneChange.{added-whole, group-taken-out-whole, t
 use Rattle.record_parts.proofs.WellFormed.{listed-verdict}
 use Rattle.masks.specs.Groups.{meets}
 use Rattle.codec.specs.Reads.{Read}
-use Rattle.record.specs.Records.{Design, design, wholeRecord}
-use Rattle.record.specs.RecordBytes.{recordBytes, DesignRules}
+use Rattle.record.specs.Records.{Design, design}
+use Rattle.record_numbers.specs.Numbering.{named}
+use Rattle.record_parts.specs.PartLists.{numbersOf}
+use Rattle.record_retired.specs.declared.Retired.{Retired}
+use Rattle.record_retired.specs.Retired.{mostRetired, filedAll}
+use Rattle.record_retired.proofs.Cells.{numbers-back}
+use Rattle.record_editions.specs.declared.Edition.{Edition}
+use Rattle.record_editions.specs.declared.Edition.the-variants.{First}
+use Rattle.record_editions.specs.Editions.{Stored, designOf, retiredIn, editionOf, wholeStored}
+use Rattle.record_editions.specs.EditionBytes.{storedBytes}
+use Rattle.record_editions.proofs.RoundTrip.{rules-design}
+use Rattle.record.specs.RecordBytes.{DesignRules}
 use Rattle.record.proofs.MinimalSets.{design-list}
-use Rattle.record_lines.specs.Changes.{Change, addPart, takeOutGroup, addSet, every, setsWithout, designWithout, withoutRefusal, takeOutGroupRefusal, changeRefusal, changed}
-use Rattle.record_lines.specs.Records.{changedRead, changedRecord}
+use Rattle.record_lines.specs.Changes.{Change, addPart, takeOutGroup, addSet, every, setsWithout, designWithout, withoutRefusal, takeOutGroupRefusal, changeRefusal, changed, leftIn}
+use Rattle.record_lines.specs.Records.{editionAfter, inEdition, backRefusal, storedRefusal, changedStored, changedRead, changedRecord}
+use Rattle.record_lines.proofs.Refusals.{unconverted-refusal}
+use Rattle.record_lines.proofs.Stored.{retired-rules}
+use Rattle.record_changes.specs.Inside.{retiredNumbers}
 use Rattle.record_lines.proofs.TakenOut.{without-none, without-some}
 use Rattle.record_lines.proofs.Rules.{changed-rules, group-out-agrees}
 use Rattle.record_opening.specs.declared.Opened.{Opened}
 use Rattle.record_opening.specs.Opening.{openedOf}
-use Rattle.record_opening.proofs.Designs.{DesignOpened, opened-why}
+use Rattle.record_opening.proofs.Designs.{RecordOpened, opened-why}
 use Rattle.record_sets.specs.Lists.{withSetRefusal}
 
-module _ (bytes : List ℕ) (o : Opened) (e : o ≡ openedOf (wholeRecord bytes)) where
+module _ (bytes : List ℕ) (o : Opened) (e : o ≡ openedOf (wholeStored bytes)) where
   -- a record that is refused refuses every change
   pub opened-refused : (why : Refusal) → o .verdict ≡ Refused why → (change : Change) (buffer : List ℕ) → outcome (written.Refused why) buffer ≡ changedRecord change bytes buffer
   unfolding changedRecord
-  opened-refused why v change buffer = ap (λ (r : Read Design). changedRead change r buffer) (sym (opened-why bytes o e why v))
+  opened-refused why v change buffer = ap (λ (r : Read Stored). changedRead change r buffer) (sym (opened-why bytes o e why v))
 
-module _ {bytes : List ℕ} {o : Opened} (w : DesignOpened bytes o) where
-  -- what refuses a change of the design is the answer
-  pub change-refused : (change : Change) (why : Refusal) → changeRefusal change (w .d) ≡ Refused why → (buffer : List ℕ)
-      → outcome (written.Refused why) buffer ≡ changedRecord change bytes buffer
-  unfolding changedRecord
-  change-refused change why h buffer =
-      ap (λ (v : Verdict). delivered v (recordBytes (changed change (w .d))) buffer) (sym h) ∙ ap (λ (r : Read Design). changedRead change r buffer) (sym (w .read))
+module _ {bytes : List ℕ} {o : Opened} (w : RecordOpened bytes o) where
+  -- the design of the record, and its rules
+  abbrev pub d : Design
+  d = designOf (w .s)
 
-  -- and else the changed design keeps the rules and is written
-  pub change-rules : (change : Change) → changeRefusal change (w .d) ≡ Accepted → (list : PartList) (sets : List ℕ) → list ≡ changed change (w .d) .parts → sets ≡ changed change (w .d) .sets
-      → DesignRules (design list sets)
-  change-rules change h list sets lists same = subst DesignRules (sym (ap₂ design lists same)) (changed-rules change (w .d) (w .rules) h)
+  pub design-kept : DesignRules d
+  design-kept = rules-design (w .s) (w .rules)
 
-  pub change-made : (change : Change) → changeRefusal change (w .d) ≡ Accepted → (list : PartList) (sets buffer : List ℕ) → list ≡ changed change (w .d) .parts
-      → sets ≡ changed change (w .d) .sets → delivered Accepted (recordBytes (design list sets)) buffer ≡ changedRecord change bytes buffer
-  unfolding changedRecord
-  change-made change h list sets buffer lists same =
-      ap₂ (λ (l : PartList) (s : List ℕ). delivered Accepted (recordBytes (design l s)) buffer) lists same
-      ∙ ap (λ (v : Verdict). delivered v (recordBytes (changed change (w .d))) buffer) (sym h)
-      ∙ ap (λ (r : Read Design). changedRead change r buffer) (sym (w .read))
+  -- its retired numbers stand in front of their cells
+  pub retired-few : o .retired .count ≤ mostRetired
+  retired-few = subst (λ (r : Retired). r .count ≤ mostRetired) (sym (w .retired)) (retired-rules (w .s) (w .rules) .most)
+
+  pub retired-inside : o .retired .count ≤ length (o .retired .numbers)
+  retired-inside =
+      subst (λ (r : Retired). r .count ≤ length (r .numbers)) (sym (w .retired))
+      (omega (arith, length-append (retiredIn (w .s)) (replicate (mostRetired - length (retiredIn (w .s))) 0)))
+
+  pub retired-are : retiredNumbers (o .retired) ≡ retiredIn (w .s)
+  retired-are = ap retiredNumbers (w .retired) ∙ numbers-back (retiredIn (w .s))
+
+  -- and stay as they are where no number leaves
+  pub kept-retired : retiredNumbers (o .retired) ≡ filedAll [] (retiredIn (w .s))
+  unfolding filedAll
+  kept-retired = retired-are
+
+  module _ (change : Change) where
+    -- what refuses a change of the record is the answer
+    pub stored-refused : (why : Refusal) → storedRefusal change (w .s) ≡ Refused why → (buffer : List ℕ) → outcome (written.Refused why) buffer ≡ changedRecord change bytes buffer
+    unfolding changedRecord
+    stored-refused why h buffer =
+        ap (λ (v : Verdict). delivered v (storedBytes (changedStored change (w .s))) buffer) (sym h) ∙ ap (λ (r : Read Stored). changedRead change r buffer) (sym (w .read))
+
+    pub change-refused : (why : Refusal) → changeRefusal change d ≡ Refused why → (buffer : List ℕ) → outcome (written.Refused why) buffer ≡ changedRecord change bytes buffer
+    change-refused why h = stored-refused why (then-refused (backRefusal (editionAfter change (editionOf (w .s))) (retiredIn (w .s))) h)
+
+    -- the changed design keeps the rules
+    pub change-rules : changeRefusal change d ≡ Accepted → (list : PartList) (sets : List ℕ) → list ≡ changed change d .parts → sets ≡ changed change d .sets → DesignRules (design list sets)
+    change-rules h list sets lists same = subst DesignRules (sym (ap₂ design lists same)) (changed-rules change d design-kept h)
+
+    -- and where nothing refuses it, it is written in its edition, with the numbers that left filed
+    pub change-made : storedRefusal change (w .s) ≡ Accepted → (edition : Edition) (list : PartList) (sets retired buffer : List ℕ) → edition ≡ editionAfter change (editionOf (w .s)) → list ≡ changed change d .parts
+        → sets ≡ changed change d .sets → retired ≡ filedAll (leftIn change d) (retiredIn (w .s))
+        → delivered Accepted (storedBytes (inEdition edition (design list sets) retired)) buffer ≡ changedRecord change bytes buffer
+    unfolding changedRecord changedStored
+    change-made h edition list sets retired buffer editions lists same filed =
+        ap (λ (t : Stored). delivered Accepted (storedBytes t) buffer) (all edition (design list sets) retired editions (ap₂ design lists same) filed)
+        ∙ ap (λ (v : Verdict). delivered v (storedBytes (changedStored change (w .s))) buffer) (sym h)
+        ∙ ap (λ (r : Read Stored). changedRead change r buffer) (sym (w .read))
+      where
+        all : (e : Edition) (x : Design) (l : List ℕ) → e ≡ editionAfter change (editionOf (w .s)) → x ≡ changed change d → l ≡ filedAll (leftIn change d) (retiredIn (w .s))
+            → inEdition e x l ≡ inEdition (editionAfter change (editionOf (w .s))) (changed change d) (filedAll (leftIn change d) (retiredIn (w .s)))
+        all e x l a b c = ap (λ (k : Edition). inEdition k x l) a ∙ ap₂ (λ (y : Design) (k : List ℕ). inEdition (editionAfter change (editionOf (w .s))) y k) b c
 
   -- what was opened keeps the rules, and without a group it is the record without the group
-  module _ (list : PartList) (sets : List ℕ) (lists : list ≡ w .d .parts) (same : sets ≡ w .d .sets) where
+  module _ (list : PartList) (sets : List ℕ) (lists : list ≡ d .parts) (same : sets ≡ d .sets) where
     pub opened-rules : DesignRules (design list sets)
-    opened-rules = subst DesignRules (sym (ap₂ design lists same)) (w .rules)
+    opened-rules = subst DesignRules (sym (ap₂ design lists same)) design-kept
 
-    pub opened-without : (group : ℕ) (buffer : List ℕ)
-        → delivered (takeOutGroupRefusal group (design list sets)) (recordBytes (designWithout group (design list sets))) buffer ≡ changedRecord (takeOutGroup group) bytes buffer
-    unfolding changedRecord
-    opened-without group buffer =
-        ap (λ (d : Design). delivered (takeOutGroupRefusal group d) (recordBytes (designWithout group d)) buffer) (ap₂ design lists same)
-        ∙ ap (λ (r : Read Design). changedRead (takeOutGroup group) r buffer) (sym (w .read))
+    pub opened-without : (edition : Edition) (retired : Retired) → edition ≡ editionOf (w .s) → retired ≡ o .retired → (group : ℕ) (buffer : List ℕ)
+        → delivered (takeOutGroupRefusal group (design list sets)) (storedBytes (inEdition edition (designWithout group (design list sets)) (filedAll (named (numbersOf list) group) (retiredNumbers retired)))) buffer
+        ≡ changedRecord (takeOutGroup group) bytes buffer
+    unfolding changedRecord changedStored
+    opened-without edition retired editions filed group buffer =
+        ap₂ (λ (e : Edition) (x : Design). delivered (takeOutGroupRefusal group x) (storedBytes (inEdition e (designWithout group x) (filedAll (named (numbersOf (x .parts)) group) (retiredNumbers retired)))) buffer) editions (ap₂ design lists same)
+        ∙ ap (λ (l : List ℕ). delivered (takeOutGroupRefusal group d) (storedBytes (inEdition (editionOf (w .s)) (designWithout group d) (filedAll (named (numbersOf (d .parts)) group) l))) buffer) (ap retiredNumbers filed ∙ retired-are)
+        ∙ ap (λ (v : Verdict). delivered v (storedBytes (inEdition (editionOf (w .s)) (designWithout group d) (filedAll (named (numbersOf (d .parts)) group) (retiredIn (w .s))))) buffer) (sym (unconverted-refusal (takeOutGroup group) (w .s) refl))
+        ∙ ap (λ (r : Read Stored). changedRead (takeOutGroup group) r buffer) (sym (w .read))
+
+-- 32 is said exactly where there are retired numbers
+pub back-held : (retired : List ℕ) → (length retired ≡ 0 → ⊥) → backRefusal First retired ≡ Refused (at retiredPresent 0)
+back-held [] some = absurd (some refl)
+back-held (number ∷ numbers) some = refl
+
+pub back-passed : (retired : List ℕ) → length retired ≡ 0 → backRefusal First retired ≡ Accepted
+back-passed [] none = refl
+back-passed (number ∷ numbers) none = absurd (omega (arith, none))
 
 -- ---- what the part list answers, and what it means for the design
 

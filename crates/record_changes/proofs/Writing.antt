@@ -1,22 +1,38 @@
 -- Laws of numbers written one after the other, whatever their width: the form of one more stands behind that of those before it, and placing
 -- form after form is placing them all; and the pieces of a record.
 -- Assumes nothing.
-use mathlib.Core.Path.{_≡_, refl, sym, ap, _∙_}
+use mathlib.Core.Path.{_≡_, refl, sym, ap, ap₂, _∙_}
 use mathlib.Core.List.{List, [], _∷_, _++_, append-assoc, append-nil}
-use Prim.Native.Nat.{ℕ, _+_, _≤_, _<_}
+use Prim.Native.Nat.{ℕ, _+_, _*_, _^_, _≤_, _<_}
 use native.Mathlib.Numerals.{add-one}
 use native.Mathlib.Omega.{arith}
 use lib.ListN.{length, getD, take, drop, length-append, take-append-drop}
 use lib.Seq.{take-suc, take-all}
-use Rattle.answer.specs.Outcome.{outcome}
+use Rattle.answer.specs.Outcome.{outcome, delivered}
+use Rattle.answer.specs.declared.Verdict.the-variants.{Accepted}
+use Rattle.answer.specs.declared.Written.the-variants.{Length}
+use Rattle.answer.proofs.Outcomes.{in-front-none, in-front-delivered}
+use Rattle.answer.proofs.Placing.{in-front-more}
 use Rattle.answer.specs.Placed.{placed}
 use Rattle.codec.specs.ByteForm.{bytesOf, formsOf}
+use Rattle.codec.proofs.ByteForms.{bytes-at-most, forms-most}
+use Rattle.record_tail.specs.TailBytes.{tailBytes}
 use Rattle.answer.proofs.Forms.{placed-more, wrote-none}
-use Rattle.record_parts.specs.PartLists.{listOf}
-use Rattle.record_parts.proofs.WellFormed.{numbers-of-list}
-use Rattle.record.specs.Records.{design}
+use Rattle.numbers.specs.Tables.{tabulate}
+use Rattle.theory_sets.specs.Structures.{listed}
+use Rattle.theory_orders.specs.Formulas.{pathCount}
+use Rattle.record_parts.specs.declared.PartList.{PartList}
+use Rattle.record_parts.specs.PartLists.{listOf, numbersOf}
+use Rattle.record_parts.proofs.WellFormed.{numbers-of-list, well-formed-list}
+use Rattle.record.specs.Records.{Design, design}
+use Rattle.record_editions.specs.declared.Edition.{Edition}
+use Rattle.record_editions.specs.declared.Edition.the-variants.{First, Second}
+use Rattle.record_editions.specs.Editions.{freshCounts}
+use Rattle.record_editions.specs.EditionBytes.{storedBytes}
+use Rattle.record_lines.specs.Records.{inEdition}
+use Rattle.record_changes.specs.Inside.{secondBytes}
 use Rattle.record_head.specs.HeadingBytes.{partsBytes, headBytes}
-use Rattle.record.specs.RecordBytes.{recordBytes}
+use Rattle.record.specs.RecordBytes.{recordBytes, DesignRules}
 use Rattle.record.proofs.Lengths.{record-sum}
 
 pub forms-append : (front behind : List ℕ) → formsOf (front ++ behind) ≡ formsOf front ++ formsOf behind
@@ -77,3 +93,44 @@ pub record-length : (mark : ℕ) (numbers sets : List ℕ) → length (recordByt
     ≡ length (bytesOf (length numbers)) + length (bytesOf mark) + length (formsOf numbers) + length (bytesOf (length sets)) + length (formsOf sets)
 record-length mark numbers sets =
     omega (arith, record-sum (design (listOf mark numbers) sets), ap (λ (l : List ℕ). length (formsOf l)) (numbers-of-list mark numbers))
+
+-- what is placed in front of a lent buffer that has room for it is delivered
+pub placed-delivered : (buffer form exit : List ℕ) (next : ℕ) → length form ≤ length buffer → outcome next exit ≡ placed buffer 0 form → outcome (Length next) exit ≡ delivered Accepted form buffer
+placed-delivered buffer form exit next fits wrote =
+    in-front-delivered buffer form exit next (in-front-more (in-front-none buffer) form exit next fits wrote) fits
+
+-- ---- what stands behind the sets in edition 2, piece by piece
+
+pub tail-length : (retired counts : List ℕ) → length (tailBytes retired counts) ≡ length (bytesOf (length retired)) + length (formsOf retired) + length (formsOf counts)
+unfolding tailBytes
+tail-length retired counts = omega (arith, length-append (bytesOf (length retired)) (formsOf retired ++ formsOf counts), length-append (formsOf retired) (formsOf counts))
+
+pub tail-pieces : (retired counts : List ℕ) → tailBytes retired counts ≡ bytesOf (length retired) ++ formsOf retired ++ formsOf counts
+unfolding tailBytes
+tail-pieces retired counts = sym (append-assoc (bytesOf (length retired)) (formsOf retired) (formsOf counts))
+
+-- numbers of 64 bits take ten bytes each at the most
+pub forms-ten : (numbers : List ℕ) → ((i : ℕ) → getD numbers i 0 < 128 ^ 10) → length (formsOf numbers) ≤ 10 * length numbers
+forms-ten numbers small = forms-most 10 numbers (λ i. bytes-at-most 10 (getD numbers i 0) (omega arith) (small i))
+
+-- ---- in an edition
+
+module _ (list : PartList) (sets retired buffer : List ℕ) (rules : DesignRules (design list sets)) where
+  -- a well-formed list is the list of its mark and its numbers
+  same-design : design (listOf (list .mark) (numbersOf list)) sets ≡ design list sets
+  same-design = ap (λ (l : PartList). design l sets) (sym (well-formed-list list (rules .parts)))
+
+  pub first-is : (edition : Edition) → edition ≡ First
+      → delivered Accepted (recordBytes (design (listOf (list .mark) (numbersOf list)) sets)) buffer ≡ delivered Accepted (storedBytes (inEdition edition (design list sets) retired)) buffer
+  unfolding storedBytes
+  first-is edition e =
+      ap (λ (d : Design). delivered Accepted (recordBytes d) buffer) same-design
+      ∙ ap (λ (x : Edition). delivered Accepted (storedBytes (inEdition x (design list sets) retired)) buffer) (sym e)
+
+  pub second-is : (counts : List ℕ) → take (list .count + 1) counts ≡ tabulate (list .count + 1) (pathCount (list .count) (listed sets)) → (edition : Edition) → edition ≡ Second
+      → delivered Accepted (secondBytes (design (listOf (list .mark) (numbersOf list)) sets) retired (take (list .count + 1) counts)) buffer
+      ≡ delivered Accepted (storedBytes (inEdition edition (design list sets) retired)) buffer
+  unfolding storedBytes freshCounts
+  second-is counts fresh edition e =
+      ap₂ (λ (d : Design) (l : List ℕ). delivered Accepted (secondBytes d retired l) buffer) same-design fresh
+      ∙ ap (λ (x : Edition). delivered Accepted (storedBytes (inEdition x (design list sets) retired)) buffer) (sym e)

@@ -1,22 +1,33 @@
-// Changes of design records (01, "Records on disk"; 02, §2): records to start from, and the four changes of record bytes. The whole record is
-// checked as a reader checks it, then the change, then the new record is written.
+// Changes of design records (01, "Records on disk"; 02, §2 and §8): records to start from, the four changes of record bytes, and conversions to
+// the other edition. The whole record is checked as a reader checks it, then the change, then the new record is written in its edition.
 use answer::Verdict;
 use answer::Written;
+use record_editions::Edition;
 use record_parts::Numbered;
 use record_parts::PartList;
+use record_retired::Retired;
 ghost use mathlib.Core.Path.{_≡_};
+ghost use mathlib.Core.List.{[], _∷_};
 ghost use Prim.Native.Nat.{_+_, _≤_};
-ghost use lib.ListN.{length};
+ghost use lib.ListN.{length, take};
+ghost use Rattle.numbers.specs.Tables.{tabulate};
+ghost use Rattle.theory_sets.specs.Structures.{listed};
+ghost use Rattle.theory_orders.specs.Formulas.{pathCount};
 ghost use Rattle.answer.specs.Outcome.{outcome, delivered};
 ghost use Rattle.answer.specs.Placed.{placed};
 ghost use Rattle.theory_orders.specs.Antichains.{mostSets};
-ghost use Rattle.record_numbers.specs.Numbering.{mostParts};
-ghost use Rattle.record_parts.specs.PartLists.{listOf};
+ghost use Rattle.record_numbers.specs.Numbering.{mostParts, named};
+ghost use Rattle.record_parts.specs.PartLists.{listOf, numbersOf, WellFormed};
 ghost use Rattle.codec.specs.ByteForm.{formsOf};
 ghost use Rattle.record.specs.Records.{design};
-ghost use Rattle.record.specs.RecordBytes.{recordBytes, DesignRules};
-ghost use Rattle.record_lines.specs.Changes.{addPart, takeOut, takeOutGroup, addSet, setsWithout, designWithout, takeOutGroupRefusal};
-ghost use Rattle.record_lines.specs.Records.{changedRecord, enteredRecord, firstRecord};
+ghost use Rattle.record.specs.RecordBytes.{recordBytes, SetRules, DesignRules};
+ghost use Rattle.record_retired.specs.Retired.{mostRetired, filedAll, retiredOf};
+ghost use Rattle.record_tail.specs.TailBytes.{tailBytes};
+ghost use Rattle.record_editions.specs.declared.Edition.the-variants.{First, Second};
+ghost use Rattle.record_editions.specs.EditionBytes.{storedBytes};
+ghost use Rattle.record_lines.specs.Changes.{addPart, takeOut, takeOutGroup, addSet, convert, setsWithout, designWithout, takeOutGroupRefusal};
+ghost use Rattle.record_lines.specs.Records.{inEdition, changedRecord, enteredRecord, firstRecord};
+ghost use Rattle.record_changes.specs.Inside.{retiredNumbers, secondBytes};
 
 // Add part: position n+1, part number mark+1, in no set.
 pub fn add_part(bytes: &[u8], buffer: &mut [u8]) -> Written
@@ -36,7 +47,9 @@ pub fn add_part(bytes: &[u8], buffer: &mut [u8]) -> Written
     let list = changed.list;
     let sets = opened.sets;
     let count = opened.count;
-    write_design(list, &sets[..count], buffer)
+    let edition = opened.edition;
+    let retired = opened.retired;
+    write_stored(edition, list, &sets[..count], retired, buffer)
 }
 
 // Take out the part at a position: the group of that one part.
@@ -59,7 +72,9 @@ pub fn take_out(bytes: &[u8], position: usize, buffer: &mut [u8]) -> Written
     let sets = opened.sets;
     let count = opened.count;
     let single = numbers::power_of_two(position - 1);
-    write_without(list, &sets[..count], single, buffer)
+    let edition = opened.edition;
+    let retired = opened.retired;
+    write_without(edition, list, &sets[..count], retired, single, buffer)
 }
 
 // Take out the parts of a group, a mask of positions: the sets that name one of them go, the other parts move down past all that left, part
@@ -75,7 +90,9 @@ pub fn take_out_group(bytes: &[u8], group: usize, buffer: &mut [u8]) -> Written
     let list = opened.list;
     let sets = opened.sets;
     let count = opened.count;
-    write_without(list, &sets[..count], group, buffer)
+    let edition = opened.edition;
+    let retired = opened.retired;
+    write_without(edition, list, &sets[..count], retired, group, buffer)
 }
 
 // Add set: the minimal sets of the old ones and the new one.
@@ -91,12 +108,49 @@ pub fn add_set(bytes: &[u8], set: u16, buffer: &mut [u8]) -> Written
     let n = list.count;
     let sets = opened.sets;
     let count = opened.count;
+    let edition = opened.edition;
+    let retired = opened.retired;
     let mut minimal = [0u16; 12870];
     let found = record_sets::minimal_with(n, &sets[..count], set, &mut minimal);
     match found {
         Written::Refused(refusal) => Written::Refused(refusal),
-        Written::Length(left) => write_design(list, &minimal[..left], buffer),
+        Written::Length(left) => { write_stored(edition, list, &minimal[..left], retired, buffer) }
     }
+}
+
+// The record in edition 1, where it has no retired numbers.
+pub fn to_edition_1(bytes: &[u8], buffer: &mut [u8]) -> Written
+    ensures { λ r. ⌜ outcome r (now (buffer .exit)) ≡ changedRecord (convert First) (now (bytes .entry)) (now (buffer .entry)) ⌝ }
+{
+    let opened = record_opening::open_record(bytes);
+    let verdict = opened.verdict;
+    if let Verdict::Refused(refusal) = verdict {
+        return Written::Refused(refusal);
+    }
+    let retired = opened.retired;
+    if retired.count != 0 {
+        return answer::unwritten(answer::RETIRED_PRESENT, 0);
+    }
+    let list = opened.list;
+    let sets = opened.sets;
+    let count = opened.count;
+    write_stored(Edition::First, list, &sets[..count], retired, buffer)
+}
+
+// The record in edition 2: from edition 1 it comes with no retired numbers.
+pub fn to_edition_2(bytes: &[u8], buffer: &mut [u8]) -> Written
+    ensures { λ r. ⌜ outcome r (now (buffer .exit)) ≡ changedRecord (convert Second) (now (bytes .entry)) (now (buffer .entry)) ⌝ }
+{
+    let opened = record_opening::open_record(bytes);
+    let verdict = opened.verdict;
+    if let Verdict::Refused(refusal) = verdict {
+        return Written::Refused(refusal);
+    }
+    let list = opened.list;
+    let sets = opened.sets;
+    let count = opened.count;
+    let retired = opened.retired;
+    write_stored(Edition::Second, list, &sets[..count], retired, buffer)
 }
 
 // A record of parts that already have numbers, from these and the mark, which is the highest number ever issued, and a list of sets over the
@@ -129,10 +183,19 @@ pub fn first_record(n: usize, list: &[u16], buffer: &mut [u8]) -> Written
     entered_record(n as u64, &numbers[..n], list, buffer)
 }
 
-// Writes the record without the parts of a group, or says what refuses the group or how many bytes it needs.
-fn write_without(list: PartList, sets: &[u16], group: usize, buffer: &mut [u8]) -> Written
+// Writes the record without the parts of a group, whose numbers are filed, or says what refuses the group or how many bytes it needs.
+fn write_without(
+    edition: Edition,
+    list: PartList,
+    sets: &[u16],
+    retired: Retired,
+    group: usize,
+    buffer: &mut [u8],
+) -> Written
     requires { ⌜ DesignRules (design list (now sets)) ⌝ }
-    ensures { λ r. ⌜ outcome r (now (buffer .exit)) ≡ delivered (takeOutGroupRefusal group (design list (now (sets .entry)))) (recordBytes (designWithout group (design list (now (sets .entry))))) (now (buffer .entry)) ⌝ }
+    requires { ⌜ retired .count ≤ mostRetired ⌝ }
+    requires { ⌜ retired .count ≤ length (retired .numbers) ⌝ }
+    ensures { λ r. ⌜ outcome r (now (buffer .exit)) ≡ delivered (takeOutGroupRefusal group (design list (now (sets .entry)))) (storedBytes (inEdition edition (designWithout group (design list (now (sets .entry)))) (filedAll (named (numbersOf list) group) (retiredNumbers retired)))) (now (buffer .entry)) ⌝ }
 {
     let listed = list.take_out_group(group);
     let verdict = listed.verdict;
@@ -145,7 +208,22 @@ fn write_without(list: PartList, sets: &[u16], group: usize, buffer: &mut [u8]) 
     if left == 0 {
         return answer::unwritten(answer::IN_EVERY_SET, 0);
     }
-    write_design(others, &kept[..left], buffer)
+    let filed = file_group(list, retired, group);
+    write_stored(edition, others, &kept[..left], filed, buffer)
+}
+
+// The retired numbers with those of a group of the part list.
+fn file_group(list: PartList, retired: Retired, group: usize) -> Retired
+    requires { ⌜ WellFormed list ⌝ }
+    requires { ⌜ retired .count ≤ mostRetired ⌝ }
+    requires { ⌜ retired .count ≤ length (retired .numbers) ⌝ }
+    ensures { λ r. ⌜ r ≡ retiredOf (filedAll (named (numbersOf list) group) (retiredNumbers retired)) ⌝ }
+{
+    let numbers = list.numbers;
+    let count = list.count;
+    let earlier = retired.numbers;
+    let filed = retired.count;
+    record_retired::filed_group(&earlier[..filed], &numbers[..count], group)
 }
 
 // The sets that have no part of a group, with higher positions moved down, into a local array, and how many they are.
@@ -160,14 +238,49 @@ fn sets_left(sets: &[u16], group: usize, kept: &mut [u16]) -> usize
     }
 }
 
-// Writes the record of this part list and these minimal sets into a lent buffer, or says how many bytes it needs.
-fn write_design(list: PartList, sets: &[u16], buffer: &mut [u8]) -> Written
+// Writes the record of this part list and these minimal sets in an edition into a lent buffer, in edition 2 with these retired numbers, or says
+// how many bytes it needs.
+fn write_stored(
+    edition: Edition,
+    list: PartList,
+    sets: &[u16],
+    retired: Retired,
+    buffer: &mut [u8],
+) -> Written
     requires { ⌜ DesignRules (design list (now sets)) ⌝ }
-    ensures { λ r. ⌜ outcome r (now (buffer .exit)) ≡ delivered Verdict.Accepted (recordBytes (design list (now (sets .entry)))) (now (buffer .entry)) ⌝ }
+    requires { ⌜ retired .count ≤ mostRetired ⌝ }
+    requires { ⌜ retired .count ≤ length (retired .numbers) ⌝ }
+    ensures { λ r. ⌜ outcome r (now (buffer .exit)) ≡ delivered Verdict.Accepted (storedBytes (inEdition edition (design list (now (sets .entry))) (retiredNumbers retired))) (now (buffer .entry)) ⌝ }
 {
     let numbers = list.numbers;
-    let count = list.count;
-    write_record(list.mark, &numbers[..count], sets, buffer)
+    let n = list.count;
+    let filed = retired.numbers;
+    let count = retired.count;
+    match edition {
+        Edition::First => write_record(list.mark, &numbers[..n], sets, buffer),
+        Edition::Second => {
+            let counts = fresh_counts(n, sets);
+            write_second(
+                list.mark,
+                &numbers[..n],
+                sets,
+                &filed[..count],
+                &counts[..n + 1],
+                buffer,
+            )
+        }
+    }
+}
+
+// The path counts of n parts and these minimal sets, in front of the cells.
+fn fresh_counts(n: usize, sets: &[u16]) -> [u64; 17]
+    requires { ⌜ SetRules n (now sets) ⌝ }
+    requires { ⌜ n ≤ mostParts ⌝ }
+    ensures { λ r. ⌜ take (n + 1) r ≡ tabulate (n + 1) (pathCount n (listed (now (sets .entry)))) ⌝ }
+{
+    let marks = structure_words::marked(sets);
+    let words = structure_closure::spread(&marks, n);
+    figures_counts::counts_by_size(&words)
 }
 
 // Writes the record with this mark, these part numbers and these sets into a lent buffer, or says how many bytes it needs.
@@ -180,20 +293,77 @@ fn write_record(mark: u64, numbers: &[u64], sets: &[u16], buffer: &mut [u8]) -> 
     if buffer.len() < needed {
         return answer::short(needed);
     }
-    let end = write_pieces(mark, numbers, sets, buffer);
+    let end = write_pieces(mark, numbers, sets, buffer, 0);
     Written::Length(end)
 }
 
-// Writes that record, where there is room for all of it.
-fn write_pieces(mark: u64, numbers: &[u64], sets: &[u16], buffer: &mut [u8]) -> usize
-    requires { ⌜ length (recordBytes (design (listOf mark (now numbers)) (now sets))) ≤ length (now buffer) ⌝ }
-    ensures { λ r. ⌜ outcome (Written.Length r) (now (buffer .exit)) ≡ delivered Verdict.Accepted (recordBytes (design (listOf mark (now (numbers .entry))) (now (sets .entry)))) (now (buffer .entry)) ⌝ }
+// Writes the record of edition 2 with these retired numbers and these path counts behind the sets into a lent buffer, or says how many bytes it
+// needs.
+fn write_second(
+    mark: u64,
+    numbers: &[u64],
+    sets: &[u16],
+    retired: &[u64],
+    counts: &[u64],
+    buffer: &mut [u8],
+) -> Written
+    requires { ⌜ length (now numbers) ≤ mostParts ⌝ }
+    requires { ⌜ length (now sets) ≤ mostSets ⌝ }
+    requires { ⌜ length (now retired) ≤ mostRetired ⌝ }
+    requires { ⌜ length (now counts) ≤ mostRetired ⌝ }
+    ensures { λ r. ⌜ outcome r (now (buffer .exit)) ≡ delivered Verdict.Accepted (secondBytes (design (listOf mark (now (numbers .entry))) (now (sets .entry))) (now (retired .entry)) (now (counts .entry))) (now (buffer .entry)) ⌝ }
 {
-    let first = codec::write_number(buffer, 0, numbers.len() as u64);
+    let body = record_length(mark, numbers, sets);
+    let whole = 2 + body + tail_length(retired, counts);
+    if buffer.len() < whole {
+        return answer::short(whole);
+    }
+    let begin = write_edition(buffer);
+    let middle = write_pieces(mark, numbers, sets, buffer, begin);
+    let end = write_tail(buffer, middle, retired, counts);
+    Written::Length(end)
+}
+
+// Writes the numbers 0 and 2 in front of a buffer.
+fn write_edition(buffer: &mut [u8]) -> usize
+    requires { ⌜ 2 ≤ length (now buffer) ⌝ }
+    ensures { λ r. ⌜ outcome r (now (buffer .exit)) ≡ placed (now (buffer .entry)) 0 (0 ∷ 2 ∷ []) ⌝ }
+{
+    buffer[0] = 0;
+    buffer[1] = 2;
+    2
+}
+
+// Writes that record of edition 1 from a position on, where there is room for all of it, and answers the position after it.
+fn write_pieces(mark: u64, numbers: &[u64], sets: &[u16], buffer: &mut [u8], at: usize) -> usize
+    requires { ⌜ at + length (recordBytes (design (listOf mark (now numbers)) (now sets))) ≤ length (now buffer) ⌝ }
+    ensures { λ r. ⌜ outcome r (now (buffer .exit)) ≡ placed (now (buffer .entry)) at (recordBytes (design (listOf mark (now (numbers .entry))) (now (sets .entry)))) ⌝ }
+{
+    let first = codec::write_number(buffer, at, numbers.len() as u64);
     let second = codec::write_number(buffer, first, mark);
     let third = write_numbers(buffer, second, numbers);
     let fourth = codec::write_number(buffer, third, sets.len() as u64);
     write_sets(buffer, fourth, sets)
+}
+
+// Writes retired numbers and path counts from a position on, where there is room for all of them, and answers the position after them.
+fn write_tail(buffer: &mut [u8], at: usize, retired: &[u64], counts: &[u64]) -> usize
+    requires { ⌜ at + length (tailBytes (now retired) (now counts)) ≤ length (now buffer) ⌝ }
+    ensures { λ r. ⌜ outcome r (now (buffer .exit)) ≡ placed (now (buffer .entry)) at (tailBytes (now (retired .entry)) (now (counts .entry))) ⌝ }
+{
+    let first = codec::write_number(buffer, at, retired.len() as u64);
+    let second = write_numbers(buffer, first, retired);
+    write_numbers(buffer, second, counts)
+}
+
+// How many bytes these take.
+fn tail_length(retired: &[u64], counts: &[u64]) -> usize
+    requires { ⌜ length (now retired) ≤ mostRetired ⌝ }
+    requires { ⌜ length (now counts) ≤ mostRetired ⌝ }
+    ensures { λ r. ⌜ r ≡ length (tailBytes (now (retired .entry)) (now (counts .entry))) ⌝ }
+    ensures { λ r. ⌜ r ≤ 1290 ⌝ }
+{
+    codec::number_length(retired.len() as u64) + numbers_length(retired) + numbers_length(counts)
 }
 
 // How many bytes that record takes.
@@ -201,6 +371,7 @@ fn record_length(mark: u64, numbers: &[u64], sets: &[u16]) -> usize
     requires { ⌜ length (now numbers) ≤ mostParts ⌝ }
     requires { ⌜ length (now sets) ≤ mostSets ⌝ }
     ensures { λ r. ⌜ r ≡ length (recordBytes (design (listOf mark (now (numbers .entry))) (now (sets .entry)))) ⌝ }
+    ensures { λ r. ⌜ r ≤ 38800 ⌝ }
 {
     let front = codec::number_length(numbers.len() as u64) + codec::number_length(mark);
     let head = front + numbers_length(numbers) + codec::number_length(sets.len() as u64);
@@ -231,9 +402,9 @@ fn write_sets(buffer: &mut [u8], at: usize, sets: &[u16]) -> usize
     next
 }
 
-// How many bytes these part numbers take in a record.
+// How many bytes these numbers take in a record.
 fn numbers_length(numbers: &[u64]) -> usize
-    requires { ⌜ length (now numbers) ≤ mostParts ⌝ }
+    requires { ⌜ length (now numbers) ≤ mostRetired ⌝ }
     ensures { λ r. ⌜ r ≡ length (formsOf (now (numbers .entry))) ⌝ }
 {
     let mut total = 0;
@@ -243,7 +414,7 @@ fn numbers_length(numbers: &[u64]) -> usize
     total
 }
 
-// Writes these part numbers from a position on, where there is room for all of them, and answers the position after them.
+// Writes these numbers from a position on, where there is room for all of them, and answers the position after them.
 fn write_numbers(buffer: &mut [u8], at: usize, numbers: &[u64]) -> usize
     requires { ⌜ at + length (formsOf (now numbers)) ≤ length (now buffer) ⌝ }
     ensures { λ r. ⌜ outcome r (now (buffer .exit)) ≡ placed (now (buffer .entry)) at (formsOf (now (numbers .entry))) ⌝ }

@@ -1,14 +1,16 @@
 -- "Records accepted until now read as before" (02, §7): bytes that were accepted while part numbers reached 2^32-1 give the same part list, the
--- same sets, stretch and table, and are what is written of them; what a change wrote then it writes now. They are exactly the bytes that are
--- accepted now with a mark of 2^32-1 at most.
+-- same sets, stretch and table, as a record of edition 1, and are what is written of them; what a change wrote then it writes now. They are
+-- exactly the bytes that are accepted now in edition 1 with a mark of 2^32-1 at most.
 -- Assumes nothing.
 use mathlib.Core.Path.{_≡_, refl, sym, ap, ap₂, _∙_, subst}
+use mathlib.Core.Bool.{Bool, false}
 use mathlib.Core.List.{List, []}
 use mathlib.Core.Logic.{_↔_}
 use Prim.Native.Nat.{ℕ, _-_, _^_, _≤_, _<_}
 use native.Mathlib.Omega.{arith}
 use borrow.Author.Tests.{eqb-false}
 use lib.Dec.{eqb}
+use Rattle.numbers.proofs.Bools.{false-of}
 use Rattle.answer.specs.Refusals.{fullMachine, numbersSpent}
 use Rattle.answer.specs.Outcome.{outcome, delivered}
 use Rattle.answer.specs.declared.Verdict.{Verdict}
@@ -27,17 +29,23 @@ use Rattle.theory_sets.specs.Structures.{listed}
 use Rattle.theory_sets.specs.Tables.{tableOf}
 use Rattle.record_numbers.specs.Numbering.{mostParts, topNumber}
 use Rattle.record_parts.specs.declared.Changed.{Changed}
+use Rattle.record_parts.specs.PartLists.{numbersOf}
 use Rattle.record_parts.proofs.OneChange.{added-given}
 use Rattle.record_head.specs.Headings.{setCountRefusal, partsAt, Head, headAt}
 use Rattle.record.specs.declared.Contents.{Contents}
-use Rattle.record.specs.Records.{setsAt, Design, design, DesignAt, designAt, recordAt, onlyRecord, wholeRecord}
+use Rattle.record.specs.Records.{setsAt, Design, design, DesignAt, designAt, recordAt}
 use Rattle.record.specs.RecordBytes.{recordBytes, DesignRules}
-use Rattle.record.specs.Contents.{contentsOf, wholeContents, designOr, designIn, withWordsOf, wholeWithWords, stretchOf}
-use Rattle.record.proofs.RoundTrip.{whole-written}
+use Rattle.record.specs.Contents.{contentsOf, withWordsOf, stretchOf}
+use Rattle.record_tail.specs.Tails.{tailAt}
+use Rattle.record_editions.specs.Editions.{Stored, first, second, StoredAt, freshCounts, secondThere, secondAt, editionAt, storedAt, onlyStored, wholeStored, bodyOf, onlyRecord, wholeRecord, formerOnly}
+use Rattle.record_editions.specs.EditionBytes.{storedBytes}
+use Rattle.record_editions.specs.Contents.{wholeContents, designOr, designIn, wholeWithWords}
+use Rattle.record_editions.proofs.RoundTrip.{stored-written}
+use Rattle.record_editions.proofs.AsBefore.{other-as-before, accepted-as-before, read-as-before as stored-as-before}
 use Rattle.record_lines.specs.Changes.{changeRefusal, changed}
-use Rattle.record_lines.specs.Records.{changedRead, changedRecord}
-use Rattle.record_lines.proofs.Refusals.{add-part-exactly}
-use Rattle.record_former.specs.Former.{FormerChange, addPart, takeOut, addSet, asNow, formerField, formerPartsAt, formerHeadAt, formerRecordAt, formerRecord, formerChangeRefusal, formerChanged, formerChangedRead, formerChangedRecord, ReadAsBefore}
+use Rattle.record_lines.specs.Records.{storedRefusal, changedStored, changedRead, changedRecord}
+use Rattle.record_lines.proofs.Refusals.{add-part-exactly, unconverted-refusal}
+use Rattle.record_former.specs.Former.{FormerChange, addPart, takeOut, addSet, asNow, formerField, formerPartsAt, formerHeadAt, formerRecordAt, formerRecord, formerChangeRefusal, formerChanged, formerChangedRead, formerChangedRecord, inFirst, ReadAsBefore}
 use Rattle.record_former.proofs.Fields.{parts-now, parts-marked, parts-then}
 
 module _ (bytes : List ℕ) (small : Bytes bytes) where
@@ -54,8 +62,8 @@ module _ (bytes : List ℕ) (small : Bytes bytes) where
   record-now start here next =
       then-other (formerHeadAt bytes start) (headAt bytes start) _ here next (λ head begin e later. head-now start head begin e)
 
-  only-now : (here : DesignAt) (next : ℕ) → formerRecord bytes ≡ found here next → onlyRecord bytes ≡ found here next
-  unfolding formerRecord onlyRecord
+  only-now : (here : DesignAt) (next : ℕ) → formerRecord bytes ≡ found here next → formerOnly bytes ≡ found here next
+  unfolding formerRecord formerOnly
   only-now here next =
       then-other (formerRecordAt bytes 0) (recordAt bytes 0) (alone bytes) here next (λ at end e later. record-now 0 at end e)
 
@@ -102,31 +110,53 @@ module _ (bytes : List ℕ) (small : Bytes bytes) where
       let same : designAt (head .parts) (b .0) begin (b .1) ≡ here = cc (b .3) in
       head-then start head begin (subst (λ (w : DesignAt). w .design .parts .mark ≤ top formerField) (sym same) low) e)
 
-  only-then : (here : DesignAt) (next : ℕ) → here .design .parts .mark ≤ top formerField → onlyRecord bytes ≡ found here next → formerRecord bytes ≡ found here next
-  unfolding formerRecord onlyRecord
+  only-then : (here : DesignAt) (next : ℕ) → here .design .parts .mark ≤ top formerField → formerOnly bytes ≡ found here next → formerRecord bytes ≡ found here next
+  unfolding formerRecord formerOnly
   only-then here next low =
       then-other (recordAt bytes 0) (formerRecordAt bytes 0) (alone bytes) here next (λ at end e later.
       record-then 0 at end (subst (λ (w : DesignAt). w .design .parts .mark ≤ top formerField) (sym (alone-found bytes at end here next later .0)) low) e)
 
-  -- bytes were accepted exactly if they are accepted now with a mark of 2^32-1 at most
-  pub accepted-before : (here : DesignAt) (next : ℕ) → (formerRecord bytes ≡ found here next) ↔ ((onlyRecord bytes ≡ found here next) × (here .design .parts .mark ≤ 2 ^ 32 - 1))
-  accepted-before here next = (λ e. (only-now here next e, only-marked here next e), λ both. only-then here next (both .1) (both .0))
+  -- of a record of edition 1 the numbers 0 and 2 do not stand in front
+  no-second : (here : DesignAt) (next : ℕ) → onlyStored bytes ≡ found (inFirst here) next → secondThere bytes 0 ≡ false
+  unfolding onlyStored storedAt
+  no-second here next e = false-of (secondThere bytes 0) (λ there.
+      let a = then-found (editionAt (secondThere bytes 0) bytes 0) (alone bytes) (inFirst here) next e in
+      let last = alone-found bytes (a .0) (a .1) (inFirst here) next (a .3) in
+      let b = then-found (recordAt bytes 2) (secondAt bytes) (a .0) (a .1) (ap (λ (q : Bool). editionAt q bytes 0) (sym there) ∙ a .2) in
+      let c = then-found (tailAt bytes (b .0 .design .parts .mark) (numbersOf (b .0 .design .parts)) (freshCounts (b .0 .design)) (b .1)) _ (a .0) (a .1) (b .3) in
+      let two : record { stored = second (b .0 .design) (c .0); begin = b .0 .begin; end = b .0 .end } ≡ a .0 = cc (c .3) in
+      let z : _≡_ {A = ℕ} 0 1 = cc (ap (λ (x : StoredAt). x .stored) (two ∙ last .0)) in
+      omega arith)
+
+  first-then : (here : DesignAt) (next : ℕ) → onlyStored bytes ≡ found (inFirst here) next → formerOnly bytes ≡ found here next
+  unfolding onlyRecord
+  first-then here next e = sym (other-as-before bytes (no-second here next e)) ∙ ap bodyOf e
+
+  -- bytes were accepted exactly if they are accepted now in edition 1 with a mark of 2^32-1 at most
+  pub accepted-before : (here : DesignAt) (next : ℕ) → (formerRecord bytes ≡ found here next) ↔ ((onlyStored bytes ≡ found (inFirst here) next) × (here .design .parts .mark ≤ 2 ^ 32 - 1))
+  accepted-before here next = (
+    λ e. (accepted-as-before bytes small here next (only-now here next e), only-marked here next e),
+    λ both. only-then here next (both .1) (first-then here next (both .0)),
+  )
 
   -- ---- what they give
 
   pub read-as-before : (here : DesignAt) (next : ℕ) → formerRecord bytes ≡ found here next → ReadAsBefore bytes here next
-  unfolding wholeRecord wholeContents wholeWithWords designIn
+  unfolding wholeRecord onlyRecord wholeContents wholeWithWords designIn storedBytes
   read-as-before here next e =
-      let only : onlyRecord bytes ≡ found here next = only-now here next e in
+      let before = only-now here next e in
+      let edition : wholeStored bytes ≡ found (first (here .design)) next = stored-as-before bytes small here next before in
+      let only : onlyRecord bytes ≡ found here next = ap bodyOf (accepted-as-before bytes small here next before) in
       let design : wholeRecord bytes ≡ found (here .design) next = ap (λ (r : Read DesignAt). then r (λ at end. found (at .design) end)) only in
       let contents : wholeContents bytes ≡ contentsOf (found here next) = ap contentsOf only in
       record {
+        edition = edition;
         design = design;
         contents = contents;
         stretch = ap (λ (c : Contents). stretchOf c bytes) contents;
         words = ap withWordsOf only;
         table = λ buffer. ap₂ (λ (v : Verdict) (d : Design). delivered v (tableOf (d .parts .count) (listed (d .sets))) buffer) (ap (λ (c : Contents). c .verdict) contents) (ap designOr design);
-        written = whole-written bytes (here .design) next small design .1;
+        written = stored-written bytes (first (here .design)) next small edition .1;
       }
 
   -- ---- what a change writes
@@ -145,6 +175,14 @@ module _ (bytes : List ℕ) (small : Bytes bytes) where
         ap (λ (c : Changed). design (c .list) (d .sets)) (added-given (d .parts) (rules .parts) few under),
       )
 
+  -- of a record of edition 1 each of these changes writes edition 1, and 32 is not asked
+  change-first : (change : FormerChange) (d : Design)
+      → (storedRefusal (asNow change) (first d) ≡ changeRefusal (asNow change) d) × (storedBytes (changedStored (asNow change) (first d)) ≡ recordBytes (changed (asNow change) d))
+  unfolding changedStored storedBytes
+  change-first addPart d = (unconverted-refusal (asNow addPart) (first d) refl, refl)
+  change-first (takeOut position) d = (unconverted-refusal (asNow (takeOut position)) (first d) refl, refl)
+  change-first (addSet set) d = (unconverted-refusal (asNow (addSet set)) (first d) refl, refl)
+
   -- what a change wrote then, it writes now, and answers and leaves the buffer as it did
   pub change-as-before : (change : FormerChange) (buffer : List ℕ) (n : ℕ) → formerChangedRecord change bytes buffer .answer ≡ Length n
       → changedRecord (asNow change) bytes buffer ≡ formerChangedRecord change bytes buffer
@@ -152,13 +190,14 @@ module _ (bytes : List ℕ) (small : Bytes bytes) where
   change-as-before change buffer n = cases (formerRecord bytes) refl
     where
       cases : (read : Read DesignAt) → formerRecord bytes ≡ read → formerChangedRead change read buffer .answer ≡ Length n
-          → changedRead (asNow change) (wholeRecord bytes) buffer ≡ formerChangedRead change read buffer
+          → changedRead (asNow change) (wholeStored bytes) buffer ≡ formerChangedRead change read buffer
       cases (refused r) here e = let z : _≡_ {A = ℕ} 0 1 = cc in absurd (omega arith)
       cases (found at next) here e =
           let d : Design = at .design in
-          let read = read-as-before at next here .design in
+          let before = read-as-before at next here in
           let left = formerChangedRead change (found at next) buffer .buffer in
           let g = given (formerChangeRefusal change d) (recordBytes (formerChanged change d)) buffer left n (ap (λ (w : Written). outcome w left) (sym e)) in
-          let same = change-now change d (whole-written bytes d next small read .0) (only-marked at next here) (g .accepted) in
-          ap (λ (r : Read Design). changedRead (asNow change) r buffer) read
-          ∙ ap₂ (λ (v : Verdict) (x : Design). delivered v (recordBytes x) buffer) (same .0 ∙ sym (g .accepted)) (same .1)
+          let same = change-now change d (stored-written bytes (first d) next small (before .edition) .0) (only-marked at next here) (g .accepted) in
+          let one = change-first change d in
+          ap (λ (r : Read Stored). changedRead (asNow change) r buffer) (before .edition)
+          ∙ ap₂ (λ (v : Verdict) (l : List ℕ). delivered v l buffer) (one .0 ∙ same .0 ∙ sym (g .accepted)) (one .1 ∙ ap recordBytes (same .1))

@@ -1,5 +1,5 @@
--- Design records as they were read and changed while part numbers reached 2^32-1 (01, "Records on disk", before 02, §7). Kept for one claim:
--- "Records accepted until now read as before".
+-- Design records as they were read and changed while part numbers reached 2^32-1 (01, "Records on disk", before 02, §7 and §8), in the one edition
+-- that there was. Kept for one claim: "Records accepted until now read as before".
 use mathlib.Core.Bool.{true, cond}
 use mathlib.Core.List.{List, []}
 use mathlib.Core.Path.{_≡_}
@@ -22,8 +22,10 @@ use Rattle.record_parts.specs.declared.PartList.{PartList}
 use Rattle.record_parts.specs.PartLists.{listOf}
 use Rattle.record_parts.specs.Changes.{withPart}
 use Rattle.record_head.specs.Headings.{partsRefusal, markRefusal, lastNumber, setCountRefusal, Head}
-use Rattle.record.specs.Records.{setsAt, Design, design, DesignAt, designAt, wholeRecord}
-use Rattle.record.specs.Contents.{contentsOf, wholeContents, recordRefusal, designIn, withWordsOf, wholeWithWords, stretchOf}
+use Rattle.record.specs.Records.{setsAt, Design, design, DesignAt, designAt}
+use Rattle.record_editions.specs.Editions.{first, StoredAt, wholeStored, wholeRecord}
+use Rattle.record.specs.Contents.{contentsOf, withWordsOf, stretchOf}
+use Rattle.record_editions.specs.Contents.{wholeContents, recordRefusal, designIn, wholeWithWords}
 use Rattle.record.specs.RecordBytes.{recordBytes}
 use Rattle.record_lines.specs.Changes.{Change, changeRefusal, changed}
 use Rattle.record_lines.specs.Changes as changes
@@ -65,8 +67,14 @@ formerRecordAt bytes start =
 unfoldable pub formerRecord : List ℕ → Read DesignAt
 formerRecord bytes = then (formerRecordAt bytes 0) (alone bytes)
 
+-- a design where it stands, as a record of edition 1
+abbrev pub inFirst : DesignAt → StoredAt
+inFirst here = record { stored = first (here .design); begin = here .begin; end = here .end }
+
 -- What it means that bytes, read then as a design that stands there, read as before: each answer is what that design gives.
 pub record ReadAsBefore (bytes : List ℕ) (here : DesignAt) (next : ℕ) : Type 0 where
+  -- it is a record of edition 1
+  pub edition : wholeStored bytes ≡ found (first (here .design)) next
   -- the part list and the sets
   pub design : wholeRecord bytes ≡ found (here .design) next
   -- the part list, the number of sets, and from where to where their bytes stand

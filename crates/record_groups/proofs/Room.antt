@@ -1,4 +1,5 @@
--- Which buffers are long enough: with at least as many bytes as the record that is read no take-out is refused for its buffer, one alone or in a series.
+-- Which buffers are long enough: with at least as many bytes as the record that is read, of either edition, no take-out is refused for its buffer,
+-- one alone or in a series.
 -- Assumes nothing.
 use mathlib.Core.Path.{_≡_, refl, sym, ap, _∙_}
 use mathlib.Core.Bool.{Bool, true, false}
@@ -16,15 +17,18 @@ use Rattle.codec.specs.Bytes.{Bytes}
 use Rattle.masks.specs.Groups.{meets}
 use Rattle.codec.specs.Reads.{found}
 use Rattle.record_parts.specs.Changes.{single}
-use Rattle.record.specs.Records.{Design, wholeRecord}
-use Rattle.record.specs.RecordBytes.{recordBytes, DesignRules}
-use Rattle.record.proofs.RoundTrip.{whole-written, whole-read}
-use Rattle.record_lines.specs.Changes.{takeOutGroup, every, withoutRefusal, takeOutRefusal, takeOutGroupRefusal, changeRefusal, changed}
+use Rattle.record.specs.Records.{Design}
+use Rattle.record_editions.specs.Editions.{Stored, designOf, wholeStored, wholeRecord}
+use Rattle.record_editions.specs.EditionBytes.{storedBytes, StoredRules}
+use Rattle.record_editions.proofs.RoundTrip.{stored-written, whole-stored, design-found}
+use Rattle.record_lines.specs.Changes.{takeOut, takeOutGroup, every, withoutRefusal, takeOutRefusal, takeOutGroupRefusal}
+use Rattle.record_lines.specs.Records.{storedRefusal, changedStored}
 use Rattle.record_lines.specs.Lines.{Call}
-use Rattle.record_lines.proofs.Rules.{changed-rules}
+use Rattle.record_lines.proofs.Refusals.{unconverted-refusal}
+use Rattle.record_lines.proofs.Stored.{stored-rules}
 use Rattle.record_groups.specs.Series.{Result, resultOf, NotShort, positionIn, Leaving, callFor, ending, seriesFrom, series}
 use Rattle.record_groups.proofs.Series.{call-made, call-refused}
-use Rattle.record_groups.proofs.Shorter.{without-shorter}
+use Rattle.record_groups.proofs.Shorter.{taken-out-shorter}
 
 -- a verdict is not 11
 abbrev Other : Verdict → Type 0
@@ -56,54 +60,68 @@ group-other group d =
     other-refused (eqb group 0) emptyGroup 0 _ (λ e. omega arith)
     (other-refused (leb (2 ^ (d .parts .count)) group) unknownGroupPart 0 _ (λ e. omega arith) (without-other group d))
 
+-- nor of a record, since 32 is not asked of a take-out
+stored-position-other : (position : ℕ) (s : Stored) → Other (storedRefusal (takeOut position) s)
+stored-position-other position s needed e = position-other position (designOf s) needed (sym (unconverted-refusal (takeOut position) s refl) ∙ e)
+
+stored-group-other : (group : ℕ) (s : Stored) → Other (storedRefusal (takeOutGroup group) s)
+stored-group-other group s needed e = group-other group (designOf s) needed (sym (unconverted-refusal (takeOutGroup group) s refl) ∙ e)
+
+-- a single take-out leaves no longer a record either
+single-shorter : (position : ℕ) (s : Stored) → StoredRules s → length (storedBytes (changedStored (takeOut position) s)) ≤ length (storedBytes s)
+unfolding changedStored
+single-shorter position s r = taken-out-shorter (single position) s r
+
 -- so a call that has room for the new record is not too short
-call-not-short : (call : Call) (bytes : List ℕ) (d : Design) (next : ℕ) → wholeRecord bytes ≡ found d next → Other (changeRefusal (call .change) d)
-    → length (recordBytes (changed (call .change) d)) ≤ length (call .buffer) → NotShort (resultOf call bytes)
-call-not-short call bytes d next read other room = cases (changeRefusal (call .change) d) refl
+call-not-short : (call : Call) (bytes : List ℕ) (s : Stored) (next : ℕ) → wholeStored bytes ≡ found s next → Other (storedRefusal (call .change) s)
+    → length (storedBytes (changedStored (call .change) s)) ≤ length (call .buffer) → NotShort (resultOf call bytes)
+call-not-short call bytes s next read other room = cases (storedRefusal (call .change) s) refl
   where
-    cases : (v : Verdict) → changeRefusal (call .change) d ≡ v → NotShort (resultOf call bytes)
-    cases Accepted e needed short = other-accepted needed (sym (ap (λ (r : Result). r .verdict) (call-made call bytes d next read e room)) ∙ short)
-    cases (Refused why) e needed short = other needed (e ∙ sym (ap (λ (r : Result). r .verdict) (call-refused call bytes d next read why e)) ∙ short)
+    cases : (v : Verdict) → storedRefusal (call .change) s ≡ v → NotShort (resultOf call bytes)
+    cases Accepted e needed short = other-accepted needed (sym (ap (λ (r : Result). r .verdict) (call-made call bytes s next read e room)) ∙ short)
+    cases (Refused why) e needed short = other needed (e ∙ sym (ap (λ (r : Result). r .verdict) (call-refused call bytes s next read why e)) ∙ short)
 
 -- one part after the other
-series-room : (parts : List Leaving) (began bytes : List ℕ) (d : Design) (next : ℕ) → wholeRecord bytes ≡ found d next → DesignRules d → recordBytes d ≡ bytes
+series-room : (parts : List Leaving) (began bytes : List ℕ) (s : Stored) (next : ℕ) → wholeStored bytes ≡ found s next → StoredRules s → storedBytes s ≡ bytes
     → ((part : Leaving) → List·Memᴰ part parts → length bytes ≤ length (part .buffer)) → NotShort (seriesFrom began parts bytes)
-series-room [] began bytes d next read r written room = other-accepted
-series-room (part ∷ parts) began bytes d next read r written room =
-    cases (changeRefusal (call .change) d) refl (λ accepted.
-    let rules = changed-rules (call .change) d r accepted in
-    series-room parts began (recordBytes new) new _ (whole-read new rules) rules refl (λ other m. le-trans shorter (room other (List·Memᴰ·tail m))))
+series-room [] began bytes s next read r written room = other-accepted
+series-room (part ∷ parts) began bytes s next read r written room =
+    cases (storedRefusal (call .change) s) refl (λ accepted.
+    let rules = stored-rules (call .change) s r accepted in
+    series-room parts began (storedBytes new) new _ (whole-stored new rules) rules refl (λ other m. le-trans shorter (room other (List·Memᴰ·tail m))))
   where
     call : Call
     call = callFor part bytes
 
-    new : Design
-    new = changed (call .change) d
+    new : Stored
+    new = changedStored (call .change) s
 
-    shorter : length (recordBytes new) ≤ length bytes
-    shorter = omega (arith, without-shorter (single (positionIn (wholeRecord bytes) (part .number))) d r, ap length written)
+    shorter : length (storedBytes new) ≤ length bytes
+    shorter = omega (arith, single-shorter (positionIn (wholeRecord bytes) (part .number)) s r, ap length written)
 
-    enough : length (recordBytes new) ≤ length (part .buffer)
+    enough : length (storedBytes new) ≤ length (part .buffer)
     enough = le-trans shorter (room part (List·Memᴰ·head refl))
 
-    cases : (v : Verdict) → changeRefusal (call .change) d ≡ v → (changeRefusal (call .change) d ≡ Accepted → NotShort (seriesFrom began parts (recordBytes new)))
+    cases : (v : Verdict) → storedRefusal (call .change) s ≡ v → (storedRefusal (call .change) s ≡ Accepted → NotShort (seriesFrom began parts (storedBytes new)))
         → NotShort (seriesFrom began (part ∷ parts) bytes)
     cases Accepted e later needed short =
-        later e needed (sym (ap (λ (r : Result). ending (r .verdict) began (seriesFrom began parts (r .bytes)) .verdict) (call-made call bytes d next read e enough)) ∙ short)
+        later e needed (sym (ap (λ (r : Result). ending (r .verdict) began (seriesFrom began parts (r .bytes)) .verdict) (call-made call bytes s next read e enough)) ∙ short)
     cases (Refused why) e later needed short =
-        position-other (positionIn (wholeRecord bytes) (part .number)) d needed
-        (e ∙ sym (ap (λ (r : Result). ending (r .verdict) began (seriesFrom began parts (r .bytes)) .verdict) (call-refused call bytes d next read why e)) ∙ short)
+        stored-position-other (positionIn (wholeRecord bytes) (part .number)) s needed
+        (e ∙ sym (ap (λ (r : Result). ending (r .verdict) began (seriesFrom began parts (r .bytes)) .verdict) (call-refused call bytes s next read why e)) ∙ short)
 
 -- ---- of an accepted record
 
 module _ (bytes : List ℕ) (d : Design) (next : ℕ) (small : Bytes bytes) (read : wholeRecord bytes ≡ found d next) where
   pub group-fits : (group : ℕ) (buffer : List ℕ) → length bytes ≤ length buffer → NotShort (resultOf (record { change = takeOutGroup group; buffer = buffer }) bytes)
   group-fits group buffer room =
-      let written = whole-written bytes d next small read in
-      call-not-short (record { change = takeOutGroup group; buffer = buffer }) bytes d next read (group-other group d)
-      (omega (arith, without-shorter group d (written .0), ap length (written .1)))
+      let f = design-found bytes d next read in
+      let written = stored-written bytes (f .stored) next small (f .read) in
+      call-not-short (record { change = takeOutGroup group; buffer = buffer }) bytes (f .stored) next (f .read) (stored-group-other group (f .stored))
+      (omega (arith, taken-out-shorter group (f .stored) (written .0), ap length (written .1)))
 
   pub series-fits : (parts : List Leaving) → ((part : Leaving) → List·Memᴰ part parts → length bytes ≤ length (part .buffer)) → NotShort (series parts bytes)
   series-fits parts room =
-      let written = whole-written bytes d next small read in
-      series-room parts bytes bytes d next read (written .0) (written .1) room
+      let f = design-found bytes d next read in
+      let written = stored-written bytes (f .stored) next small (f .read) in
+      series-room parts bytes bytes (f .stored) next (f .read) (written .0) (written .1) room

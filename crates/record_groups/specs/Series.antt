@@ -1,4 +1,4 @@
--- Parts taken out of a record one after the other (02, §2): "singly in any order, each traced by its part number".
+-- Parts taken out of a record of either edition one after the other (02, §2 and §8): "singly in any order, each traced by its part number".
 use mathlib.Core.List.{List, [], _∷_, map}
 use mathlib.Core.Path.{_≡_}
 use Prim.Native.Nat.{ℕ}
@@ -12,7 +12,8 @@ use Rattle.codec.specs.Reads.{Read, found, refused}
 use Rattle.theory_orders.specs.Orders.{times}
 use Rattle.record_parts.specs.PartLists.{numbersOf}
 use Rattle.record_naming.specs.Naming.{positionOf}
-use Rattle.record.specs.Records.{Design, wholeRecord}
+use Rattle.record.specs.Records.{Design}
+use Rattle.record_editions.specs.Editions.{wholeRecord}
 use Rattle.record_lines.specs.Changes.{takeOut}
 use Rattle.record_lines.specs.Lines.{Call, outcomeOf, after}
 

@@ -36,25 +36,27 @@ use Rattle.record_parts.specs.Changes.{single}
 use Rattle.record_parts.specs.Lines.{In}
 use Rattle.record_parts.proofs.LeftOut.{in-named}
 use Rattle.record_parts.proofs.WellFormed.{well-formed-counted}
-use Rattle.record.specs.Records.{Design, wholeRecord}
-use Rattle.record.specs.RecordBytes.{recordBytes, DesignRules}
+use Rattle.record.specs.Records.{Design}
+use Rattle.record_editions.specs.Editions.{Stored, editionOf, wholeRecord}
+use Rattle.record_editions.specs.EditionBytes.{storedBytes, StoredRules}
+use Rattle.record.specs.RecordBytes.{DesignRules}
 use Rattle.record.proofs.MinimalSets.{design-table, design-minimal}
-use Rattle.record.proofs.RoundTrip.{whole-written}
-use Rattle.record_lines.specs.Changes.{Change, addPart, takeOut, takeOutGroup, every, designWithout, changeRefusal, changed}
+use Rattle.record_editions.proofs.RoundTrip.{stored-written, DesignFound, design-found, design-rules}
+use Rattle.record_lines.specs.Changes.{Change, addPart, takeOut, takeOutGroup, every, changeRefusal, changed}
 use Rattle.record_lines.specs.Names.{namedSets, repeated, namesSome, runs}
-use Rattle.record_lines.specs.Records.{changedRecord}
+use Rattle.record_lines.specs.Records.{editionAfter, changedStored, changedRecord}
 use Rattle.record_lines.proofs.Keeping.{every-intro, keep-same, keep-all, keep-elim, some-elim}
 use Rattle.record_lines.proofs.Names.{Position, named-position, named-at, named-has, names-hold}
 use Rattle.record_numbers.proofs.Names.{names-intro, names-elim}
 use Rattle.record_lines.proofs.NamedChanges.{added-numbers, added-unnamed}
-use Rattle.record_lines.proofs.Refusals.{take-out-exactly, take-out-group-exactly, change-given}
+use Rattle.record_lines.proofs.Refusals.{take-out-exactly, take-out-group-exactly, change-given, unconverted-refusal}
 use Rattle.record_lines.proofs.Rules.{changed-rules}
 use Rattle.record_naming.specs.Naming.{maskOf}
 use Rattle.record_naming.proofs.Masks.{mask-names}
 use Rattle.record_naming.proofs.Refusals.{wanted-right}
 use Rattle.record_naming.proofs.Steps.{mask-below}
 use Rattle.record_groups.specs.Without.{Without}
-use Rattle.record_groups.proofs.Shorter.{without-shorter}
+use Rattle.record_groups.proofs.Shorter.{taken-out-shorter}
 use Rattle.record_by_number.specs.Parts.{partPosition, partsMask, changedThere}
 use Rattle.record_by_number.specs.Effects.{Leave}
 use Rattle.record_by_number.proofs.Effects.{part-position-exactly, part-leaves, wanted-judged, wanted-leave}
@@ -165,19 +167,36 @@ none-idle-left d r gone new without idle number i =
 
 -- ---- the calls
 
+-- the part at a position taken out is the group of that one part taken out
+single-group : (position : ℕ) (s : Stored) → changedStored (takeOut position) s ≡ changedStored (takeOutGroup (single position)) s
+unfolding changedStored
+single-group position s = refl
+
 module _ (bytes : List ℕ) (d : Design) (next : ℕ) (small : Bytes bytes) (read : wholeRecord bytes ≡ found d next) where
   rules : DesignRules d
-  rules = whole-written bytes d next small read .0
+  rules = design-rules bytes d next small read .0
 
   leave-stays : (gone buffer : List ℕ) (k : ℕ) → Leave gone d buffer k → ((number : ℕ) → In number gone → In number (idleNumbers d)) → SetsStay d buffer k
   leave-stays gone buffer k l idle = record { new = l .new; read = l .read; sets = idle-stay d rules gone (l .new) (l .without) idle }
 
+  -- the record that was read, of either edition, and its length
+  abbrev here : DesignFound bytes d next
+  here = design-found bytes d next read
+
+  abbrev s : Stored
+  s = here .stored
+
+  form : StoredRules s × (storedBytes s ≡ bytes) × (next ≡ length bytes)
+  form = stored-written bytes s next small (here .read)
+
   -- a change of an idle part or group, which nothing refuses, is made where there is room for the record as it is
-  given : (change : Change) (group : ℕ) (buffer : List ℕ) → changeRefusal change d ≡ Accepted → changed change d ≡ designWithout group d → length bytes ≤ length buffer
-      → changedRecord change bytes buffer .answer ≡ written.Length (length (recordBytes (changed change d)))
-  given change group buffer accepted without room =
-      change-given change bytes buffer d next read accepted
-      (omega (arith, ap (λ (e : Design). length (recordBytes e)) without, without-shorter group d rules, ap length (whole-written bytes d next small read .1)))
+  given : (change : Change) (group : ℕ) (buffer : List ℕ) → editionAfter change (editionOf s) ≡ editionOf s → changeRefusal change d ≡ Accepted
+      → changedStored change s ≡ changedStored (takeOutGroup group) s → length bytes ≤ length buffer
+      → changedRecord change bytes buffer .answer ≡ written.Length (length (storedBytes (changedStored change s)))
+  given change group buffer edition accepted same room =
+      change-given change bytes buffer s next (here .read)
+      (unconverted-refusal change s edition ∙ ap (changeRefusal change) (here .same) ∙ accepted)
+      (omega (arith, ap (λ (t : Stored). length (storedBytes t)) same, taken-out-shorter group s (form .0), ap length (form .1)))
 
   -- An idle part is taken out of a record by its number, and the sets stay;
   pub idle-part-leaves : (number : ℕ) (buffer : List ℕ) → In number (idleNumbers d) → length bytes ≤ length buffer
@@ -205,13 +224,16 @@ module _ (bytes : List ℕ) (d : Design) (next : ℕ) (small : Bytes bytes) (rea
           (omega arith, omega (arith, at .inside, counted d rules), ap (λ (i : ℕ). getD (numbersOf (d .parts)) i 0) back ∙ sym (at .same))
 
       k : ℕ
-      k = length (recordBytes (changed (takeOut position) d))
+      k = length (storedBytes (changedStored (takeOut position) s))
+
+      same : changedStored (takeOut position) s ≡ changedStored (takeOutGroup (single position)) s
+      same = single-group position s
 
       made : changedThere takeOut (partPosition bytes number) bytes buffer .answer ≡ written.Length k
       made =
           ap (λ (v : Value). changedThere takeOut v bytes buffer .answer) there
-          ∙ given (takeOut position) (single position) buffer
-          (idle-taken-out d rules position (omega arith) (ap (has (idleMask d)) back ∙ at .member)) refl room
+          ∙ given (takeOut position) (single position) buffer refl
+          (idle-taken-out d rules position (omega arith) (ap (has (idleMask d)) back ∙ at .member)) same room
 
   -- and so are idle parts together, at least one and none of them twice.
   pub idle-parts-leave : (wanted buffer : List ℕ) → ((number : ℕ) → In number wanted → In number (idleNumbers d)) → 1 ≤ length wanted → repeated wanted ≡ false
@@ -249,12 +271,12 @@ module _ (bytes : List ℕ) (d : Design) (next : ℕ) (small : Bytes bytes) (rea
           (λ number i. idle number (named-same number .0 i))
 
       k : ℕ
-      k = length (recordBytes (changed (takeOutGroup mask) d))
+      k = length (storedBytes (changedStored (takeOutGroup mask) s))
 
       made : changedThere takeOutGroup (partsMask bytes wanted) bytes buffer .answer ≡ written.Length k
       made =
           ap (λ (v : Value). changedThere takeOutGroup v bytes buffer .answer) there
-          ∙ given (takeOutGroup mask) mask buffer (idle-group-taken-out d rules mask some within) refl room
+          ∙ given (takeOutGroup mask) mask buffer refl (idle-group-taken-out d rules mask some within) refl room
 
 -- ---- one part more
 

@@ -9,7 +9,8 @@ use Rattle.theory_sets.specs.Idle.{idleParts}
 use Rattle.codec.specs.Reads.{found}
 use Rattle.record_numbers.specs.Numbering.{named}
 use Rattle.record_parts.specs.PartLists.{numbersOf}
-use Rattle.record.specs.Records.{Design, wholeRecord}
+use Rattle.record.specs.Records.{Design}
+use Rattle.record_editions.specs.Editions.{wholeRecord}
 use Rattle.record_lines.specs.Names.{namedSets}
 
 -- the mask of the positions of a design's idle parts: what the call gives of the record's table

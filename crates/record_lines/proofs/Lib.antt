@@ -4,9 +4,13 @@ pub mod MinimalSets
 pub mod TakenOut
 pub mod Rules
 pub mod Refusals
-pub mod Written
 pub mod Names
 pub mod NamedChanges
 pub mod Running
+pub mod DesignLines
+pub mod Stored
+pub mod Written
 pub mod Lines
+pub mod Conversions
+pub mod Retired
 pub mod Examples

@@ -12,9 +12,9 @@ use borrow.Author.Tests.{ne-eqb, le-ltb, lt-leb}
 use lib.ListN.{length}
 use lib.Pow.{pow-pos, pow-lt}
 use Rattle.answer.specs.Refusals.{inEverySet}
-use Rattle.answer.specs.Outcome.{Outcome, delivered}
+use Rattle.answer.specs.Outcome.{Outcome, andThen, delivered}
 use Rattle.answer.specs.declared.Verdict.{Verdict}
-use Rattle.answer.specs.declared.Verdict.the-variants.{Accepted}
+use Rattle.answer.specs.declared.Verdict.the-variants.{Accepted, Refused}
 use Rattle.answer.specs.declared.Written.{Written}
 use Rattle.answer.specs.declared.Written.the-variants.{Length}
 use Rattle.answer.proofs.Outcomes.{refuse-passed}
@@ -27,10 +27,13 @@ use Rattle.masks.proofs.Groups.{meets-single}
 use Rattle.record_parts.specs.Changes.{single}
 use Rattle.numbers.proofs.Bools.{clash, false-of}
 use Rattle.codec.specs.Reads.{Read, found}
-use Rattle.record.specs.Records.{Design, wholeRecord}
-use Rattle.record.specs.RecordBytes.{recordBytes, DesignRules}
-use Rattle.record_lines.specs.Changes.{Change, addPart, takeOut, takeOutGroup, addSet, every, designWithout, withoutRefusal, takeOutRefusal, takeOutGroupRefusal, changeRefusal, changed}
-use Rattle.record_lines.specs.Records.{changedRead, changedRecord}
+use Rattle.record.specs.Records.{Design}
+use Rattle.record_editions.specs.declared.Edition.{Edition}
+use Rattle.record_editions.specs.Editions.{Stored, first, second, designOf, retiredIn, editionOf, wholeStored}
+use Rattle.record_editions.specs.EditionBytes.{storedBytes}
+use Rattle.record.specs.RecordBytes.{DesignRules}
+use Rattle.record_lines.specs.Changes.{Change, addPart, takeOut, takeOutGroup, addSet, every, withoutRefusal, takeOutRefusal, takeOutGroupRefusal, changeRefusal}
+use Rattle.record_lines.specs.Records.{editionAfter, backRefusal, storedRefusal, changedStored, changedRead, changedRecord}
 use Rattle.record_lines.proofs.Keeping.{every-elim, every-fails}
 use Rattle.record_lines.proofs.Rules.{add-accepted, take-out-accepted, group-out-accepted, set-accepted}
 
@@ -73,16 +76,17 @@ pub position-passed : (position : ℕ) (d : Design) → 1 ≤ position → posit
 position-passed position d from to = simp (ne-eqb position 0 (λ e. omega arith), le-ltb (d .parts .count) position to)
 
 -- Taking out a position of the machine is taking out the group of the part at it, whatever the buffer.
-pub position-is-group : (position : ℕ) (bytes buffer : List ℕ) (d : Design) (next : ℕ) → wholeRecord bytes ≡ found d next → 1 ≤ position → position ≤ d .parts .count
+pub position-is-group : (position : ℕ) (bytes buffer : List ℕ) (s : Stored) (next : ℕ) → wholeStored bytes ≡ found s next → 1 ≤ position → position ≤ designOf s .parts .count
     → changedRecord (takeOut position) bytes buffer ≡ changedRecord (takeOutGroup (single position)) bytes buffer
-unfolding changedRecord
-position-is-group position bytes buffer d next read from to =
-    let result : List ℕ = recordBytes (designWithout (single position) d) in
+unfolding changedRecord changedStored
+position-is-group position bytes buffer s next read from to =
+    let d : Design = designOf s in
+    let result : List ℕ = storedBytes (changedStored (takeOut position) s) in
     let grouped : takeOutGroupRefusal (single position) d ≡ withoutRefusal (single position) d =
     group-passed (d .parts .count) (single position) (withoutRefusal (single position) d) (pow-pos (position - 1)) (pow-lt (omega arith)) in
-    ap (λ (r : Read Design). changedRead (takeOut position) r buffer) read
-    ∙ ap (λ (v : Verdict). delivered v result buffer) (position-passed position d from to ∙ sym grouped)
-    ∙ ap (λ (r : Read Design). changedRead (takeOutGroup (single position)) r buffer) (sym read)
+    ap (λ (r : Read Stored). changedRead (takeOut position) r buffer) read
+    ∙ ap (λ (v : Verdict). delivered (andThen v (backRefusal (editionOf s) (retiredIn s))) result buffer) (position-passed position d from to ∙ sym grouped)
+    ∙ ap (λ (r : Read Stored). changedRead (takeOutGroup (single position)) r buffer) (sym read)
 
 -- a set is added that has a part, and only parts of the machine
 pub add-set-exactly : (set : ℕ) (d : Design) → (changeRefusal (addSet set) d ≡ Accepted) ↔ ((set < 2 ^ (d .parts .count)) × (0 < set))
@@ -92,10 +96,22 @@ add-set-exactly set d = (
 )
 
 -- a change that nothing refuses is made wherever the buffer has room for the new record, whose bytes are then the front of it
-pub change-given : (change : Change) (bytes buffer : List ℕ) (d : Design) (next : ℕ) → wholeRecord bytes ≡ found d next → changeRefusal change d ≡ Accepted
-    → length (recordBytes (changed change d)) ≤ length buffer → changedRecord change bytes buffer .answer ≡ Length (length (recordBytes (changed change d)))
+pub change-given : (change : Change) (bytes buffer : List ℕ) (s : Stored) (next : ℕ) → wholeStored bytes ≡ found s next → storedRefusal change s ≡ Accepted
+    → length (storedBytes (changedStored change s)) ≤ length buffer → changedRecord change bytes buffer .answer ≡ Length (length (storedBytes (changedStored change s)))
 unfolding changedRecord
-change-given change bytes buffer d next read accepted room =
-    let result : List ℕ = recordBytes (changed change d) in
-    ap (λ (r : Read Design). changedRead change r buffer .answer) read
-    ∙ sym (ap (λ (o : Outcome Written (List ℕ)). o .answer) (delivered-whole (changeRefusal change d) result buffer accepted (length result) refl _ refl room))
+change-given change bytes buffer s next read accepted room =
+    let result : List ℕ = storedBytes (changedStored change s) in
+    ap (λ (r : Read Stored). changedRead change r buffer .answer) read
+    ∙ sym (ap (λ (o : Outcome Written (List ℕ)). o .answer) (delivered-whole (storedRefusal change s) result buffer accepted (length result) refl _ refl room))
+
+-- A change that writes the edition it read is refused by nothing but its design's refusals: 32 is for the way back alone.
+pub unconverted-refusal : (change : Change) (s : Stored) → editionAfter change (editionOf s) ≡ editionOf s → storedRefusal change s ≡ changeRefusal change (designOf s)
+unconverted-refusal change s same = ap (λ (e : Edition). andThen (changeRefusal change (designOf s)) (backRefusal e (retiredIn s))) same ∙ passed s (changeRefusal change (designOf s))
+  where
+    all : (v : Verdict) → andThen v Accepted ≡ v
+    all Accepted = refl
+    all (Refused why) = refl
+
+    passed : (s : Stored) (v : Verdict) → andThen v (backRefusal (editionOf s) (retiredIn s)) ≡ v
+    passed (first d) v = all v
+    passed (second d retired) v = all v

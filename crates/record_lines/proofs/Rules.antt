@@ -39,7 +39,7 @@ use Rattle.structure.specs.Checks.{listRefusal}
 use Rattle.structure.proofs.Acceptance.{AcceptedList, accepted-list}
 use Rattle.record.specs.Records.{Design, design}
 use Rattle.record.specs.RecordBytes.{SetRules, DesignRules}
-use Rattle.record_lines.specs.Changes.{Change, addPart, takeOut, takeOutGroup, addSet, every, setsWithout, designWithout, withoutRefusal, takeOutRefusal, takeOutGroupRefusal, addSetRefusal, changeRefusal, changed, enteredDesign, firstDesign}
+use Rattle.record_lines.specs.Changes.{Change, addPart, takeOut, takeOutGroup, addSet, convert, every, setsWithout, designWithout, withoutRefusal, takeOutRefusal, takeOutGroupRefusal, addSetRefusal, changeRefusal, changed, enteredDesign, firstDesign}
 use Rattle.record_lines.specs.Records.{enteredRefusal}
 use Rattle.record_lines.proofs.MinimalSets.{minimal-set-rules}
 use Rattle.record_lines.proofs.TakenOut.{sets-without-rules}
@@ -155,6 +155,7 @@ changed-rules (addSet set) d r accepted =
       parts = r .parts;
       sets = listed-rules (d .parts .count) (set ∷ d .sets) (r .parts .rules .few) (zero-lt-suc (length (d .sets))) (with-set-within set d r accepted);
     }
+changed-rules (convert edition) d r accepted = r
 
 -- ---- a design of parts that already have numbers, and a first design
 

@@ -1,5 +1,5 @@
--- Changes of a design (01, "Records on disk"; 02, §2): add part, take out the part at a position or the parts of a group, add set; and designs to
--- start from.
+-- Changes of a design (01, "Records on disk"; 02, §2 and §8): add part, take out the part at a position or the parts of a group, add set, and
+-- another edition, which leaves the design as it is; and designs to start from.
 use mathlib.Core.Bool.{Bool, true, not, cond, _&&_}
 use mathlib.Core.List.{List, [], _∷_, map}
 use Prim.Native.Nat.{ℕ, _+_}
@@ -11,20 +11,22 @@ use Rattle.answer.specs.Checks.{maskRefusal, groupRefusal}
 use Rattle.answer.specs.declared.Verdict.{Verdict}
 use Rattle.answer.specs.declared.Verdict.the-variants as verdict
 use Rattle.numbers.specs.Tables.{tabulate}
-use Rattle.record_parts.specs.PartLists.{listOf}
-use Rattle.record_numbers.specs.Numbering.{mostParts}
+use Rattle.record_parts.specs.PartLists.{numbersOf, listOf}
+use Rattle.record_numbers.specs.Numbering.{mostParts, named}
 use Rattle.record_parts.specs.Changes.{addRefusal, partAdded, single, listWithout}
 use Rattle.masks.specs.Groups.{meets, squeezed}
 use Rattle.theory_sets.specs.Structures.{listed, minimalSets}
 use Rattle.record.specs.Records.{Design, design}
+use Rattle.record_editions.specs.declared.Edition.{Edition}
 
--- a change of a design: one part more; the part at a position, from 1, taken out; the parts of a group taken out, a mask of positions; one path
--- set more, as a mask
+-- a change of a record: one part more; the part at a position, from 1, taken out; the parts of a group taken out, a mask of positions; one path
+-- set more, as a mask; the same design in another edition
 pub data Change : Type 0 where
   addPart : Change
   takeOut : ℕ → Change
   takeOutGroup : ℕ → Change
   addSet : ℕ → Change
+  convert : Edition → Change
 
 -- ---- without a group of parts
 
@@ -69,12 +71,13 @@ newSetRefusal n set = maskRefusal n 0 set verdict.Accepted
 abbrev pub addSetRefusal : ℕ → Design → Verdict
 addSetRefusal set d = newSetRefusal (d .parts .count) set
 
--- adding a part has the refusals of its part list: 19 before 20
+-- adding a part has the refusals of its part list, 19 before 20; nothing of a design refuses another edition
 abbrev pub changeRefusal : Change → Design → Verdict
 changeRefusal addPart d = addRefusal (d .parts)
 changeRefusal (takeOut position) d = takeOutRefusal position d
 changeRefusal (takeOutGroup group) d = takeOutGroupRefusal group d
 changeRefusal (addSet set) d = addSetRefusal set d
+changeRefusal (convert edition) d = verdict.Accepted
 
 -- ---- what a change gives where nothing refuses it
 
@@ -84,6 +87,15 @@ changed addPart d = design (partAdded (d .parts) .list) (d .sets)
 changed (takeOut position) d = designWithout (single position) d
 changed (takeOutGroup group) d = designWithout group d
 changed (addSet set) d = design (d .parts) (minimalSets (d .parts .count) (listed (set ∷ d .sets)))
+changed (convert edition) d = d
+
+-- the numbers that leave in a change, if any
+abbrev pub leftIn : Change → Design → List ℕ
+leftIn addPart d = []
+leftIn (takeOut position) d = named (numbersOf (d .parts)) (single position)
+leftIn (takeOutGroup group) d = named (numbersOf (d .parts)) group
+leftIn (addSet set) d = []
+leftIn (convert edition) d = []
 
 -- a design of parts that already have numbers, with a list of sets as in the list form: these numbers, this mark, the minimal sets
 abbrev pub enteredDesign : ℕ → List ℕ → List ℕ → Design

@@ -1,22 +1,27 @@
--- Lines of changes (01, "Records on disk"; 02, §2): a line starts from one record, and each change is applied to what the last one gave.
+-- Lines of changes (01, "Records on disk"; 02, §2 and §8): a line starts from one record, and each change is applied to what the last one gave.
+-- The records along a line may be of either edition, and a line may convert them on the way.
 use mathlib.Core.Bool.{Bool, true}
 use mathlib.Core.List.{List, [], _∷_, _++_, List·Memᴰ}
 use mathlib.Core.Logic.{_⊎_}
 use mathlib.Core.Path.{_≡_}
 use Prim.Native.Nat.{ℕ, _^_, _<_}
-use lib.ListN.{take}
+use lib.ListN.{length, take}
 use Rattle.answer.specs.Outcome.{Outcome}
+use Rattle.answer.specs.declared.Value.the-variants as value
 use Rattle.answer.specs.declared.Written.{Written}
 use Rattle.answer.specs.declared.Written.the-variants as written
 use Rattle.record_numbers.specs.Numbering.{named}
 use Rattle.record_parts.specs.PartLists.{numbersOf}
 use Rattle.record_parts.specs.Lines.{In, Line, givenNumber}
-use Rattle.record_parts.specs.Changes.{partAdded, single}
+use Rattle.record_parts.specs.Changes.{partAdded}
 use Rattle.record.specs.Records.{Design}
 use Rattle.record.specs.RecordBytes.{DesignRules}
-use Rattle.record_lines.specs.Changes.{Change, addPart, takeOut, takeOutGroup, addSet, every, changed}
+use Rattle.record_retired.specs.Retired.{mostRetired}
+use Rattle.record_editions.specs.Editions.{Stored}
+use Rattle.record_editions.specs.Contents.{editionGiven}
+use Rattle.record_lines.specs.Changes.{Change, addPart, takeOut, takeOutGroup, addSet, convert, every, changed, leftIn}
 use Rattle.record_lines.specs.Names.{namedSets, runs}
-use Rattle.record_lines.specs.Records.{changedRecord}
+use Rattle.record_lines.specs.Records.{changedStored, changedRecord}
 
 -- ---- on record bytes
 
@@ -57,24 +62,20 @@ abbrev pub designAfter : List Change → Design → Design
 designAfter [] d = d
 designAfter (change ∷ changes) d = designAfter changes (changed change d)
 
--- the number issued in a change, the numbers that left in it, and the set that it gave, by the part numbers then in use; if any
+-- the number issued in a change, and the set that it gave, by the part numbers then in use; if any. Those that left in it are its `leftIn`.
 abbrev pub issuedIn : Change → Design → List ℕ
 issuedIn addPart d = givenNumber (partAdded (d .parts) .answer)
 issuedIn (takeOut position) d = []
 issuedIn (takeOutGroup group) d = []
 issuedIn (addSet set) d = []
-
-abbrev pub leftIn : Change → Design → List ℕ
-leftIn addPart d = []
-leftIn (takeOut position) d = named (numbersOf (d .parts)) (single position)
-leftIn (takeOutGroup group) d = named (numbersOf (d .parts)) group
-leftIn (addSet set) d = []
+issuedIn (convert edition) d = []
 
 abbrev pub givenIn : Change → Design → List (List ℕ)
 givenIn addPart d = []
 givenIn (takeOut position) d = []
 givenIn (takeOutGroup group) d = []
 givenIn (addSet set) d = named (numbersOf (d .parts)) set ∷ []
+givenIn (convert edition) d = []
 
 -- all of these along a line, in order
 abbrev pub along : {A : Type 0} → (Change → Design → List A) → List Change → Design → List A
@@ -118,3 +119,19 @@ pub record GivenInUse (changes : List Change) (d : Design) (set : List ℕ) : Ty
   pub within : mask < 2 ^ (designAfter earlier d .parts .count)
   pub same : set ≡ named (numbersOf (designAfter earlier d .parts)) mask
   pub in-use : (number : ℕ) → In number set → In number (numbersOf (designAfter earlier d .parts))
+
+-- ---- the records themselves
+
+-- what the changes made did to the record that was read
+abbrev pub storedAfter : List Change → Stored → Stored
+storedAfter [] s = s
+storedAfter (change ∷ changes) s = storedAfter changes (changedStored change s)
+
+-- a line whose records are all of edition 2, by what `edition_of` answers
+abbrev pub SecondThroughout : List Call → List ℕ → Type 0
+SecondThroughout [] bytes = editionGiven bytes ≡ value.Given 2
+SecondThroughout (call ∷ calls) bytes = (editionGiven bytes ≡ value.Given 2) × SecondThroughout calls (after call bytes)
+
+-- what becomes of a number that is filed: it is one of the retired numbers, or there are 64 of these and all are higher
+abbrev pub Filed : ℕ → List ℕ → Type 0
+Filed number retired = In number retired ⊎ ((length retired ≡ mostRetired) × ((other : ℕ) → In other retired → number < other))

@@ -16,9 +16,19 @@ use Rattle.record.specs.declared.Cursor.{Cursor}
 use Rattle.record.specs.declared.Step.{Step}
 use Rattle.record.specs.declared.Step.the-variants.{Set, End}
 use Rattle.codec.specs.Reads.{Read, found, refused}
-use Rattle.record.specs.Records.{Design, wholeRecord}
-use Rattle.record.specs.Contents.{wholeContents, cursor, stepAt, metIn}
-use Rattle.record.proofs.Whole.{refused-contents, design-read, walk-meets}
+use Rattle.record.specs.Records.{Design}
+use Rattle.record_editions.specs.Editions.{Stored, designOf, retiredIn, editionOf, wholeStored}
+use Rattle.record.specs.Contents.{nothing, cursor, stepAt, metIn}
+use Rattle.record_editions.specs.Contents.{wholeContents, wholeStoredRead, editionOr, retiredOr}
+use Rattle.record_retired.specs.declared.Retired.{Retired}
+use Rattle.record_retired.specs.Retired.{retiredOf}
+use Rattle.record_editions.specs.declared.Edition.{Edition}
+use Rattle.record_editions.specs.declared.Edition.the-variants.{First}
+use Rattle.record_editions.specs.declared.StoredRead.{StoredRead}
+use Rattle.record_editions.proofs.RoundTrip.{stored-design, refused-design}
+use Rattle.record_editions.proofs.Answers.{words-whole, contents-whole}
+use Rattle.record_editions.proofs.Whole.{refused-contents, design-read, walk-meets, Told, stored-told}
+use Rattle.record_opening.specs.declared.Opened.{Opened}
 use Rattle.record_opening.specs.Opening.{setCells, openedOf}
 
 -- ---- a walk along the sets
@@ -83,33 +93,67 @@ module _ {bytes : List ℕ} {count : ℕ} {first : Cursor} {sets : List ℕ} {he
 
 -- ---- the sets of a record
 
--- what is loaded from the contents of a record
-pub record Loaded (bytes : List ℕ) (contents : Contents) (met : List ℕ) : Type 0 where
-  pub most : contents .sets ≤ mostSets
+-- what is loaded from all that a record says
+pub record Loaded (bytes : List ℕ) (w : StoredRead) (met : List ℕ) : Type 0 where
+  pub most : w .body .contents .sets ≤ mostSets
   pub small : (a : ℕ) → List·Memᴰ a met → a < 65536
-  pub opened : record { list = contents .list; count = contents .sets; sets = setCells met; verdict = contents .verdict } ≡ openedOf (wholeRecord bytes)
+  pub opened : record {
+    list = w .body .contents .list;
+    count = w .body .contents .sets;
+    sets = setCells met;
+    edition = w .edition;
+    retired = w .retired;
+    verdict = w .body .contents .verdict;
+  } ≡ openedOf (wholeStored bytes)
 
 -- the sets that a walk from the first one meets
 abbrev pub metOf : List ℕ → Contents → List ℕ
 metOf bytes contents = metIn (contents .sets) bytes (stepAt bytes (cursor (contents .begin) (contents .sets)))
 
-pub contents-loaded : (bytes : List ℕ) (contents : Contents) → Bytes bytes → contents ≡ wholeContents bytes → Loaded bytes contents (metOf bytes contents)
-contents-loaded bytes contents bounded same = subst (λ (k : Contents). Loaded bytes k (metOf bytes k)) (sym same) (cases (wholeRecord bytes) refl)
+-- what is opened, from the contents, the sets, the edition and the retired numbers
+opened-from : (k c : Contents) (met sets : List ℕ) (e f : Edition) (r q : Retired) → k ≡ c → met ≡ sets → e ≡ f → r ≡ q
+    → _≡_ {A = Opened} (record { list = k .list; count = k .sets; sets = setCells met; edition = e; retired = r; verdict = k .verdict })
+    (record { list = c .list; count = c .sets; sets = setCells sets; edition = f; retired = q; verdict = c .verdict })
+opened-from k c met sets e f r q a b g h = cc (a, b, g, h)
+
+pub stored-loaded : (bytes : List ℕ) (w : StoredRead) → Bytes bytes → w ≡ wholeStoredRead bytes → Loaded bytes w (metOf bytes (w .body .contents))
+stored-loaded bytes w bounded same = cases (wholeStored bytes) refl
   where
-    cases : (r : Read Design) → wholeRecord bytes ≡ r → Loaded bytes (wholeContents bytes) (metOf bytes (wholeContents bytes))
+    told : Told bytes w
+    told = stored-told bytes w same
+
+    contents : w .body .contents ≡ wholeContents bytes
+    contents = contents-whole bytes (w .body) (words-whole bytes w same)
+
+    edition : (r : Read Stored) → wholeStored bytes ≡ r → w .edition ≡ editionOr r
+    edition r e = told .edition ∙ ap editionOr e
+
+    retired : (r : Read Stored) → wholeStored bytes ≡ r → w .retired ≡ retiredOf (retiredOr r)
+    retired r e = told .retired ∙ ap (λ (x : Read Stored). retiredOf (retiredOr x)) e
+
+    met : (c : Contents) → w .body .contents ≡ c → metOf bytes (w .body .contents) ≡ metOf bytes c
+    met c e = ap (metOf bytes) e
+
+    cases : (r : Read Stored) → wholeStored bytes ≡ r → Loaded bytes w (metOf bytes (w .body .contents))
     cases (refused why) e =
-        subst (λ (k : Contents). Loaded bytes k (metOf bytes k)) (sym (refused-contents bytes why e))
-        (record { most = omega arith; small = λ a m. absurd (List·Memᴰ·not-nil m); opened = ap openedOf (sym e) })
-    cases (found d end) e =
-        let r = design-read bytes bounded d end e in
-        let k = r .contents in
-        let met : metOf bytes (wholeContents bytes) ≡ d .sets =
-        ap (λ (n : ℕ). metIn n bytes (stepAt bytes (cursor (wholeContents bytes .begin) (wholeContents bytes .sets)))) (ap (λ (c : Contents). c .sets) k)
-        ∙ walk-meets bytes bounded d end e in
-        subst (Loaded bytes (wholeContents bytes)) (sym met)
-        (subst (λ (c : Contents). Loaded bytes c (d .sets)) (sym k)
-        (record {
-          most = r .rules .sets .most;
-          small = λ a m. lt-of-lt-of-le (r .rules .sets .within a m .0) (pow-mono (r .rules .parts .rules .few));
-          opened = ap openedOf (sym e);
-        }))
+        let none : w .body .contents ≡ nothing why = contents ∙ refused-contents bytes why (refused-design bytes why e) in
+        let no-sets : metOf bytes (w .body .contents) ≡ [] = met (nothing why) none in
+        record {
+          most = subst (λ (k : Contents). k .sets ≤ mostSets) (sym none) (omega arith);
+          small = λ a m. absurd (List·Memᴰ·not-nil (subst (List·Memᴰ a) no-sets m));
+          opened = opened-from (w .body .contents) (nothing why) (metOf bytes (w .body .contents)) [] (w .edition) First (w .retired) (retiredOf []) none no-sets (edition (refused why) e) (retired (refused why) e) ∙ ap openedOf (sym e);
+        }
+    cases (found s end) e =
+        let d : Design = designOf s in
+        let read = stored-design bytes s end e in
+        let r = design-read bytes bounded d end read in
+        let mine = contents ∙ r .contents in
+        let sets : metOf bytes (w .body .contents) ≡ d .sets =
+        ap (metOf bytes) contents
+        ∙ ap (λ (n : ℕ). metIn n bytes (stepAt bytes (cursor (wholeContents bytes .begin) (wholeContents bytes .sets)))) (ap (λ (c : Contents). c .sets) (r .contents))
+        ∙ walk-meets bytes bounded d end read in
+        record {
+          most = subst (λ (k : Contents). k .sets ≤ mostSets) (sym mine) (r .rules .sets .most);
+          small = λ a m. lt-of-lt-of-le (r .rules .sets .within a (subst (List·Memᴰ a) sets m) .0) (pow-mono (r .rules .parts .rules .few));
+          opened = opened-from (w .body .contents) _ (metOf bytes (w .body .contents)) (d .sets) (w .edition) (editionOf s) (w .retired) (retiredOf (retiredIn s)) mine sets (edition (found s end) e) (retired (found s end) e) ∙ ap openedOf (sym e);
+        }

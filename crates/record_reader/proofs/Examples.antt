@@ -1,4 +1,4 @@
--- The definitions on the bridge, and where a number of two bytes stands: they compute.
+-- The definitions on the bridge, in both editions, and where a number of two bytes stands: they compute.
 -- Assumes nothing.
 use mathlib.Core.Path.{_≡_, refl}
 use mathlib.Core.List.{List, [], _∷_}
@@ -22,6 +22,20 @@ behind-the-last = refl
 bridge-met : metFrom 5 bridge (setAt bridge 8) ≡ 9 ∷ 14 ∷ 18 ∷ 21 ∷ []
 unfolding setAt numberAt numberIn
 bridge-met = refl
+
+-- the bridge in edition 2, with no retired number: 00 02 05 05 01 02 03 04 05 04 09 0E 12 15 00 00 00 02 08 05 01
+abbrev second-bridge : List ℕ
+second-bridge = 0 ∷ 2 ∷ 5 ∷ 5 ∷ 1 ∷ 2 ∷ 3 ∷ 4 ∷ 5 ∷ 4 ∷ 9 ∷ 14 ∷ 18 ∷ 21 ∷ 0 ∷ 0 ∷ 0 ∷ 2 ∷ 8 ∷ 5 ∷ 1 ∷ []
+
+abbrev stretch : List ℕ
+stretch = 9 ∷ 14 ∷ 18 ∷ 21 ∷ []
+
+-- its four sets, behind which a fifth move finds the count of the retired numbers and no end; in the stretch of the sets alone it finds the end
+second-met :
+    metFrom 4 second-bridge (setAt second-bridge 10) ∷ metFrom 5 second-bridge (setAt second-bridge 10) ∷ metFrom 5 stretch (setAt stretch 0) ∷ []
+    ≡ (9 ∷ 14 ∷ 18 ∷ 21 ∷ []) ∷ (9 ∷ 14 ∷ 18 ∷ 21 ∷ 0 ∷ []) ∷ (9 ∷ 14 ∷ 18 ∷ 21 ∷ []) ∷ []
+unfolding setAt numberAt numberIn
+second-met = refl
 
 -- 300 is AC 02, and a place inside it is not the place of a set of the record: what stands there is read for itself
 two-bytes : setAt (1 ∷ 0xAC ∷ 2 ∷ []) 1 ≡ Set 300 3

@@ -1,5 +1,6 @@
--- What a reader finds: the number whose byte form stands at its place. In an accepted record that is each set at its first byte, with the
--- first byte of the next, and none behind the last.
+-- What a reader finds: the number whose byte form stands at its place. In an accepted record of either edition that is each set at its first byte,
+-- with the first byte of the next. None stands behind the last set of a record of edition 1, or of the stretch of the sets alone; in edition 2 the
+-- retired numbers and the path counts stand there, which are numbers like the sets.
 -- Assumes nothing.
 use mathlib.Core.Path.{_≡_, refl, sym, ap, ap₂, _∙_, subst}
 use mathlib.Core.List.{List, [], _∷_, _++_, append-assoc, append-nil, List·Memᴰ, List·Memᴰ·head, List·Memᴰ·tail}
@@ -9,6 +10,7 @@ use native.Mathlib.Omega.{arith}
 use borrow.Author.Tests.{le-ltb}
 use lib.ListN.{length, take, drop, getD, length-append}
 use lib.Pow.{pow-mono}
+use lib.Seq.{drop-length}
 use Rattle.codec.specs.declared.Field.the-variants as field
 use Rattle.codec.specs.Fields.{top}
 use Rattle.codec.specs.ByteForm.{bytesOf, formsOf}
@@ -19,13 +21,17 @@ use Rattle.codec.specs.Bytes.{Bytes}
 use Rattle.codec.proofs.WriteAfterRead.{read-form}
 use Rattle.record.specs.declared.Contents.{Contents}
 use Rattle.codec.specs.Reads.{Read, found, refused}
-use Rattle.record.specs.Records.{Design, wholeRecord}
+use Rattle.record.specs.Records.{Design}
+use Rattle.record.specs.RecordBytes.{recordBytes}
 use Rattle.record.specs.declared.Step.{Step}
 use Rattle.record.specs.declared.Step.the-variants as step
-use Rattle.record.specs.Contents.{wholeContents, cursor, stepOn, stepAt}
+use Rattle.record.specs.Contents.{contentsOf, stretchOf, cursor, stepOn, stepAt}
+use Rattle.record_editions.specs.Editions.{first, StoredAt, wholeStored, bodyOf, onlyRecord, wholeRecord}
+use Rattle.record_editions.specs.EditionBytes.{storedBytes}
+use Rattle.record_editions.specs.Contents.{wholeContents}
 use Rattle.codec.proofs.Found.{Stands, behind}
-use Rattle.record.proofs.RoundTrip.{whole-found}
-use Rattle.record.proofs.Whole.{design-read}
+use Rattle.record_editions.proofs.RoundTrip.{standing, stored-read, whole-found, stored-written, stored-design}
+use Rattle.record_editions.proofs.Whole.{design-read, stretch-sets}
 use Rattle.record_reader.specs.Places.{foundOf, setAt, metFrom}
 use Rattle.record_reader.specs.declared.Found.{Found}
 use Rattle.record_reader.specs.declared.Found.the-variants.{Set, End}
@@ -100,20 +106,30 @@ module _ (bytes : List ℕ) (end : ℕ) where
       ∙ placed sets (start + length (bytesOf set)) i (λ a m. allowed a (List·Memᴰ·tail m)) (others start (bytesOf set) (formsOf sets) s) (omega (arith, h))
       ∙ ap (Set (getD sets i 0)) (sym (from (formsOf (take (suc i) sets))))
 
-  meets : (sets : List ℕ) (start : ℕ) → ((a : ℕ) → List·Memᴰ a sets → a ≤ top field.Set) → Stands bytes start end (formsOf sets) → length bytes ≤ end
+  -- moved each time to where the next one starts, a reader meets them, each once and in their order
+  meets : (sets : List ℕ) (start : ℕ) → ((a : ℕ) → List·Memᴰ a sets → a ≤ top field.Set) → Stands bytes start end (formsOf sets)
+      → metFrom (length sets) bytes (setAt bytes start) ≡ sets
+  unfolding formsOf
+  meets [] start allowed s = refl
+  meets (set ∷ sets) start allowed s =
+      ap (metFrom (suc (length sets)) bytes) (first-found start set (formsOf sets) (allowed set (List·Memᴰ·head refl)) s)
+      ∙ ap (λ (l : List ℕ). set ∷ l) (meets sets (start + length (bytesOf set)) (λ a m. allowed a (List·Memᴰ·tail m)) (others start (bytesOf set) (formsOf sets) s))
+
+  -- and then the end, where no byte stands behind them
+  meets-all : (sets : List ℕ) (start : ℕ) → ((a : ℕ) → List·Memᴰ a sets → a ≤ top field.Set) → Stands bytes start end (formsOf sets) → length bytes ≤ end
       → metFrom (suc (length sets)) bytes (setAt bytes start) ≡ sets
   unfolding formsOf
-  meets [] start allowed s over = ap (metFrom 1 bytes) (none-behind bytes start (omega (arith, s .position, over)))
-  meets (set ∷ sets) start allowed s over =
+  meets-all [] start allowed s over = ap (metFrom 1 bytes) (none-behind bytes start (omega (arith, s .position, over)))
+  meets-all (set ∷ sets) start allowed s over =
       ap (metFrom (suc (suc (length sets))) bytes) (first-found start set (formsOf sets) (allowed set (List·Memᴰ·head refl)) s)
-      ∙ ap (λ (l : List ℕ). set ∷ l) (meets sets (start + length (bytesOf set)) (λ a m. allowed a (List·Memᴰ·tail m)) (others start (bytesOf set) (formsOf sets) s) over)
+      ∙ ap (λ (l : List ℕ). set ∷ l) (meets-all sets (start + length (bytesOf set)) (λ a m. allowed a (List·Memᴰ·tail m)) (others start (bytesOf set) (formsOf sets) s) over)
 
 -- ---- along an accepted record
 
-module _ (bytes : List ℕ) (small : Bytes bytes) (d : Design) (end : ℕ) (accepted : wholeRecord bytes ≡ found d end) where
+module _ (bytes : List ℕ) (small : Bytes bytes) (d : Design) (next : ℕ) (accepted : wholeRecord bytes ≡ found d next) where
   allowed : (a : ℕ) → List·Memᴰ a (d .sets) → a ≤ top field.Set
   allowed a m =
-      let rules = design-read bytes small d end accepted .rules in
+      let rules = design-read bytes small d next accepted .rules in
       let inside : 2 ^ d .parts .count ≤ 2 ^ 16 = pow-mono (rules .parts .rules .few) in
       omega (arith, rules .sets .within a m .0)
 
@@ -122,13 +138,43 @@ module _ (bytes : List ℕ) (small : Bytes bytes) (d : Design) (end : ℕ) (acce
       → setAt bytes (wholeContents bytes .begin + length (formsOf (take i (d .sets))))
       ≡ Set (getD (d .sets) i 0) (wholeContents bytes .begin + length (formsOf (take (suc i) (d .sets))))
   set-placed i h =
-      let r = design-read bytes small d end accepted in
+      let r = design-read bytes small d next accepted in
       subst (λ (c : Contents). setAt bytes (c .begin + length (formsOf (take i (d .sets)))) ≡ Set (getD (d .sets) i 0) (c .begin + length (formsOf (take (suc i) (d .sets))))) (sym (r .contents))
-      (placed bytes end (d .sets) (r .begin) i allowed (r .stands) h)
+      (placed bytes (r .end) (d .sets) (r .begin) i allowed (r .stands) h)
 
-  -- moved each time to where the next set starts, a reader meets the sets, each once and in their order, and then the end
-  pub reader-meets : metFrom (suc (length (d .sets))) bytes (setAt bytes (wholeContents bytes .begin)) ≡ d .sets
+  -- moved as many times to where the next set starts, a reader meets the sets, each once and in their order
+  pub reader-meets : metFrom (length (d .sets)) bytes (setAt bytes (wholeContents bytes .begin)) ≡ d .sets
   reader-meets =
-      let r = design-read bytes small d end accepted in
+      let r = design-read bytes small d next accepted in
+      ap (λ (c : Contents). metFrom (length (d .sets)) bytes (setAt bytes (c .begin))) (r .contents)
+      ∙ meets bytes (r .end) (d .sets) (r .begin) allowed (r .stands)
+
+  -- and in the stretch of the sets alone, from its first byte on, the sets and then the end
+  pub stretch-meets : metFrom (suc (length (d .sets))) (stretchOf (wholeContents bytes) bytes) (setAt (stretchOf (wholeContents bytes) bytes) 0) ≡ d .sets
+  stretch-meets =
+      let forms : List ℕ = formsOf (d .sets) in
+      let alone : Stands forms 0 (length forms) forms =
+      record { stands = sym (append-nil forms) ∙ ap (λ (l : List ℕ). forms ++ l) (sym (drop-length forms)); position = omega arith; inside = omega arith } in
+      ap (λ (l : List ℕ). metFrom (suc (length (d .sets))) l (setAt l 0)) (stretch-sets bytes small d next accepted)
+      ∙ meets-all forms (length forms) (d .sets) 0 allowed alone (omega arith)
+
+-- ---- along a record of edition 1
+
+module _ (bytes : List ℕ) (small : Bytes bytes) (d : Design) (next : ℕ) (accepted : wholeStored bytes ≡ found (first d) next) where
+  -- the sets are the last of it
+  sets-last : wholeContents bytes .end ≡ length bytes
+  unfolding wholeContents onlyRecord storedBytes
+  sets-last =
+      let f = whole-found bytes (first d) next accepted in
+      let w = stored-written bytes (first d) next small accepted in
+      let read = stored-read bytes 0 [] (first d) (w .0) (sym (w .1) ∙ sym (append-nil (recordBytes d))) in
+      let here : f .here ≡ standing (first d) 0 = cc (f .read, read) in
+      ap (λ (k : Read StoredAt). contentsOf (bodyOf k) .end) (f .only) ∙ ap (λ (h : StoredAt). h .end) here ∙ omega (arith, ap length (w .1))
+
+  -- so a reader meets the sets and then the end
+  pub reader-ends : metFrom (suc (length (d .sets))) bytes (setAt bytes (wholeContents bytes .begin)) ≡ d .sets
+  reader-ends =
+      let design = stored-design bytes (first d) next accepted in
+      let r = design-read bytes small d next design in
       ap (λ (c : Contents). metFrom (suc (length (d .sets))) bytes (setAt bytes (c .begin))) (r .contents)
-      ∙ meets bytes end (d .sets) (r .begin) allowed (r .stands) (whole-found bytes d end accepted .nothing-left)
+      ∙ meets-all bytes (r .end) (d .sets) (r .begin) (allowed bytes small d next design) (r .stands) (omega (arith, sets-last, ap (λ (c : Contents). c .end) (r .contents)))

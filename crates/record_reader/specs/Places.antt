@@ -1,4 +1,5 @@
--- Which set stands at a place of a record, and the sets that a reader meets from a place on.
+-- Which set stands at a place of a record, and the sets that a reader meets from a place on. What stands there is read as a set, also behind the
+-- last set of a record of edition 2, where other numbers stand (02, §8).
 use mathlib.Core.List.{List, [], _∷_}
 use Prim.Native.Nat.{ℕ, zero, suc}
 use Rattle.codec.specs.declared.Field.the-variants as field

@@ -1,17 +1,19 @@
-// A reader that walks a design record where the host keeps it (01, "Records on disk"): the record's bytes and a place among them.
+// A reader that walks a design record of either edition where the host keeps it (01, "Records on disk"; 02, §8): the record's bytes and a place
+// among them.
 use record::Cursor;
 use record::Step;
 ghost use mathlib.Core.Path.{_≡_};
 ghost use Rattle.record_reader.specs.Places.{setAt};
 
 // A place in a record where the host keeps it. Whether the record is accepted is not asked here: in one that is, what a reader finds from the
-// first set on are its sets.
+// first set on, as often as there are sets, are its sets. Behind the last of them a record of edition 1 ends, and in one of edition 2 other
+// numbers follow; the stretch of the sets alone ends there in both.
 pub struct Reader<'a> {
     pub bytes: &'a [u8],
     pub offset: usize,
 }
 
-// What stands at a place: a set, with the place where the next one starts; or no set, as behind the last.
+// What stands at a place, read as a set: a set, with the place where the next one starts; or no set, as behind the last byte.
 pub enum Found {
     Set { set: u64, next: usize },
     End,

@@ -1,5 +1,5 @@
-// Reads a design record from standard input and prints its report, or the one line of its refusal (01, "The report program"). The files stdin
-// and stdout of this crate hold the bridge's record and what must be printed for it.
+// Reads a design record of either edition from standard input and prints its report, or the one line of its refusal (01, "The report program").
+// The files stdin and stdout of this crate hold the bridge's record and what must be printed for it.
 use answer::Written;
 use libc::STDIN_FILENO;
 use libc::STDOUT_FILENO;

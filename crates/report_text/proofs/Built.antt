@@ -21,12 +21,14 @@ use Rattle.numbers.proofs.Bounds.{below-or-above}
 use Rattle.theory_sets.proofs.Tables.{tableOf-length, tableLength-small, tableLength-large}
 use Rattle.record.specs.declared.Contents.{Contents}
 use Rattle.codec.specs.Reads.{Read, found, refused}
-use Rattle.record.specs.Records.{Design, wholeRecord}
+use Rattle.record.specs.Records.{Design}
+use Rattle.record_editions.specs.Editions.{wholeRecord}
 use Rattle.record.specs.RecordBytes.{DesignRules}
 use Rattle.record.specs.declared.WithWords.{WithWords}
-use Rattle.record.specs.Contents.{wholeContents, recordRefusal, designOr, designIn, wholeWithWords, tableOfWords}
-use Rattle.record.proofs.Answers.{contents-whole}
-use Rattle.record.proofs.Whole.{design-read, refused-contents, words-delivered}
+use Rattle.record.specs.Contents.{tableOfWords}
+use Rattle.record_editions.specs.Contents.{wholeContents, recordRefusal, designOr, designIn, wholeWithWords}
+use Rattle.record_editions.proofs.Answers.{contents-whole}
+use Rattle.record_editions.proofs.Whole.{design-read, refused-contents, words-delivered}
 
 -- the table of a design
 abbrev pub designTable : Design → List ℕ

@@ -1,5 +1,6 @@
 -- What is printed: with buffers that are long enough for every report, making a report answers the text's length and leaves the text that is
--- printed in front, or it refuses the record, and then the line of that refusal is printed. The first 40,000 bytes decide.
+-- printed in front, or it refuses the record, and then the line of that refusal is printed. The first 40,000 bytes decide. Records of the same
+-- design print the same, of whatever editions.
 -- Assumes nothing.
 use mathlib.Core.Path.{_≡_, refl, sym, ap, ap₂, _∙_, subst}
 use mathlib.Core.List.{List, _++_}
@@ -15,14 +16,16 @@ use Rattle.answer.specs.declared.Written.the-variants.{Length, Refused}
 use Rattle.answer.proofs.Outcomes.{in-front-delivered}
 use Rattle.codec.specs.Bytes.{Bytes}
 use Rattle.codec.specs.Reads.{Read, found, refused}
-use Rattle.record.specs.Records.{Design, wholeRecord}
-use Rattle.record.specs.Contents.{designIn}
-use Rattle.record.proofs.Whole.{design-read}
-use Rattle.record.proofs.Decided.{whole-first}
+use Rattle.record.specs.Records.{Design}
+use Rattle.record_editions.specs.Editions.{Stored, designOf, wholeStored, wholeRecord}
+use Rattle.record_editions.specs.Contents.{designIn}
+use Rattle.record_editions.proofs.RoundTrip.{stored-design}
+use Rattle.record_editions.proofs.Whole.{design-read}
+use Rattle.record_editions.proofs.Decided.{whole-first}
 use Rattle.text.specs.Texts.{decimal, spelled, lines}
 use Rattle.report_text.specs.Reports.{firstLine, reportOf, printedFor, printed}
 use Rattle.report_lines.specs.Lines.{headLine, refusedLine}
-use Rattle.report_text.specs.Reporting.{ReportBuffers, reportBuffers, reportedRead, reported}
+use Rattle.report_text.specs.Reporting.{ReportBuffers, reportBuffers, handedOut, reportedRead, reported}
 use Rattle.report_text.proofs.Handing.{both-given}
 use Rattle.report_text.proofs.Built.{designTable, table-most, design-in}
 
@@ -35,6 +38,20 @@ no-report bytes why here = rw here (omega arith)
 pub printed-first : (bytes : List ℕ) → Bytes bytes → 40000 ≤ length bytes → printed (take 40000 bytes) ≡ printed bytes
 unfolding printed
 printed-first bytes small long = ap printedFor (whole-first bytes small long)
+
+-- two records of the same design, of whatever editions and with whatever retired numbers, print the same
+module _ (a b : List ℕ) (s t : Stored) (i j : ℕ) (read-a : wholeStored a ≡ found s i) (read-b : wholeStored b ≡ found t j) (same : designOf s ≡ designOf t) where
+  pub editions-print-alike : printed a ≡ printed b
+  unfolding printed
+  editions-print-alike = ap printedFor (stored-design a s i read-a) ∙ ap reportOf same ∙ sym (ap printedFor (stored-design b t j read-b))
+
+  -- and a report of the one leaves what a report of the other does
+  pub editions-report-alike : (table text : List ℕ) → reported a table text ≡ reported b table text
+  unfolding reported
+  editions-report-alike table text =
+      ap (λ (read : Read Design). reportedRead read table text) (stored-design a s i read-a)
+      ∙ ap (λ (d : Design). handedOut (designTable d) (reportOf d) table text) same
+      ∙ sym (ap (λ (read : Read Design). reportedRead read table text) (stored-design b t j read-b))
 
 -- the line of a refusal, in a buffer that is long enough
 module _ (why : Refusal) (buffer : List ℕ) (o : Outcome Written (List ℕ)) (said : o ≡ delivered Accepted (refusedLine why) buffer) (fits : length (refusedLine why) ≤ length buffer) where

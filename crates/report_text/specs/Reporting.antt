@@ -8,7 +8,8 @@ use Rattle.answer.specs.declared.Written.the-variants.{Length, Refused}
 use Rattle.theory_sets.specs.Structures.{listed}
 use Rattle.theory_sets.specs.Tables.{tableOf}
 use Rattle.codec.specs.Reads.{Read, found, refused}
-use Rattle.record.specs.Records.{Design, wholeRecord}
+use Rattle.record.specs.Records.{Design}
+use Rattle.record_editions.specs.Editions.{wholeRecord}
 use Rattle.report_text.specs.Reports.{reportOf}
 
 -- the two lent buffers

@@ -9,7 +9,8 @@ use Rattle.theory_orders.specs.Formulas.{pathCount}
 use Rattle.record_parts.specs.PartLists.{numbersOf}
 use Rattle.theory_figures.specs.Figures.{domination}
 use Rattle.codec.specs.Reads.{Read, found, refused}
-use Rattle.record.specs.Records.{Design, wholeRecord}
+use Rattle.record.specs.Records.{Design}
+use Rattle.record_editions.specs.Editions.{wholeRecord}
 use Rattle.text.specs.Texts.{decimal, signed, lines}
 use Rattle.report_lines.specs.Lines.{headLine, figureLine, refusedLine}
 
@@ -42,5 +43,6 @@ abbrev pub printedFor : Read Design → List ℕ
 printedFor (found d next) = reportOf d
 printedFor (refused r) = refusedLine r
 
+-- what is printed for bytes: a record of either edition prints the report of its design, which says nothing of edition and retired numbers
 unfoldable pub printed : List ℕ → List ℕ
 printed bytes = printedFor (wholeRecord bytes)

@@ -1,4 +1,4 @@
-// The report of a design record (01, "The report program").
+// The report of a design record of either edition (01, "The report program"; 02, §8).
 use answer::Verdict;
 use answer::Written;
 use record_parts::PartList;
@@ -7,7 +7,7 @@ ghost use Prim.Native.Nat.{_≤_};
 ghost use lib.ListN.{length};
 ghost use Rattle.answer.specs.Outcome.{outcome};
 ghost use Rattle.answer.specs.Placed.{placed};
-ghost use Rattle.record.specs.Contents.{designIn};
+ghost use Rattle.record_editions.specs.Contents.{designIn};
 ghost use Rattle.theory_sets.specs.Tables.{inTable};
 ghost use Rattle.structure.specs.Checks.{tableRefusal};
 ghost use Rattle.report_text.specs.Reports.{reportOf};
@@ -21,7 +21,7 @@ pub fn report(bytes: &[u8], table: &mut [u8], text: &mut [u8]) -> Written
 {
     let mut own_table = [0u8; 8192];
     let mut own_text = [0u8; 4096];
-    let read = record::whole_with_words(bytes);
+    let read = record_editions::whole_with_words(bytes);
     let built = record::store_table(read, &mut own_table);
     match built {
         Written::Refused(refusal) => Written::Refused(refusal),

@@ -1,10 +1,12 @@
 //! What a good Rust program does to take parts out of a record: the record is read with 64 sets to a word, those without the parts are
 //! found a word at a time, and the new record is written where it goes.
 
+use super::closing::carry;
+use super::editions::{filed, tail};
 use super::numbers::{number_length, write_number};
 use super::records::{read, Read};
 use super::table::{refused, WITHOUT};
-use nahokipe::{Record, Refusal};
+use nahokipe::Refusal;
 
 /// The record without the part at a position.
 pub fn take_out(bytes: &[u8], position: usize, buffer: &mut [u8]) -> Result<usize, Refusal> {
@@ -33,10 +35,11 @@ fn write_without(read: &Read, group: u16, buffer: &mut [u8]) -> Result<usize, Re
     if sets.is_empty() {
         return refused(18, 0);
     }
-    let head = head_left(&read.record, group, sets.len());
-    let head_length: usize = head.iter().map(|&number| number_length(number)).sum();
+    let head = head_left(read, group, sets.len());
+    let tail = tail_left(read, group, &sets);
+    let length = |numbers: &[u64]| -> usize { numbers.iter().map(|&one| number_length(one)).sum() };
     let sets_length: usize = sets.iter().map(|&set| number_length(set as u64)).sum();
-    let needed = head_length + sets_length;
+    let needed = length(&head) + sets_length + length(&tail);
     if buffer.len() < needed {
         return refused(11, needed);
     }
@@ -47,12 +50,33 @@ fn write_without(read: &Read, group: u16, buffer: &mut [u8]) -> Result<usize, Re
     for set in sets {
         at += write_number(set as u64, &mut buffer[at..]);
     }
+    for number in tail {
+        at += write_number(number, &mut buffer[at..]);
+    }
     Ok(needed)
 }
 
-/// The number of parts, the mark, the part numbers and the count of sets.
-fn head_left(record: &Record, group: u16, sets: usize) -> Vec<u64> {
-    let mut head = Vec::with_capacity(19);
+/// Of edition 2 the retired numbers with those that leave, and the path counts of the sets that are left; of edition 1 nothing.
+fn tail_left(read: &Read, group: u16, sets: &[u16]) -> Vec<u64> {
+    let Some(retired) = &read.retired else {
+        return Vec::new();
+    };
+    let n = read.record.numbers.len() - group.count_ones() as usize;
+    let mut works = Box::new([0; 1024]);
+    for &set in sets {
+        works[set as usize / 64] |= 1 << (set % 64);
+    }
+    carry(n, &mut works);
+    tail(n, &filed(&read.record, retired, group), &works)
+}
+
+/// Of edition 2 the numbers 0 and 2, and then the number of parts, the mark, the part numbers and the count of sets.
+fn head_left(read: &Read, group: u16, sets: usize) -> Vec<u64> {
+    let record = &read.record;
+    let mut head = Vec::with_capacity(21);
+    if read.retired.is_some() {
+        head.extend([0, 2]);
+    }
     head.extend([
         record.numbers.len() as u64 - group.count_ones() as u64,
         record.mark,

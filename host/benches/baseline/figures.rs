@@ -2,19 +2,9 @@
 //! its bits are counted by instruction.
 
 use super::counts::{BINOMIAL, FACTORIAL};
+use super::sizes::OF_SIZE;
 use super::table::{accepted, refused, Words, WITHOUT};
 use nahokipe::Refusal;
-
-/// For each size, the bits of the masks below 64 that have it.
-const OF_SIZE: [u64; 7] = [
-    0x0000_0000_0000_0001,
-    0x0000_0001_0001_0116,
-    0x0001_0116_0116_1668,
-    0x0116_1668_1668_6880,
-    0x1668_6880_6880_8000,
-    0x6880_8000_8000_0000,
-    0x8000_0000_0000_0000,
-];
 
 /// The path counts, the signature, the domination and the importances of a table.
 pub fn figures(

@@ -2,18 +2,20 @@
 //! settled for all sets at once, with 64 sets to a word.
 
 use super::closing::{carry, store, trimmed};
+use super::editions::read_tail;
 use super::table::{refused, table_length, Words};
 use nahokipe::{Record, Refusal};
 
-/// The top values: of n, the count of sets and a set, and of the mark and a part number.
-const SHORT: u64 = (1 << 32) - 1;
-const LONG: u64 = (1 << 48) - 1;
+/// The top values: of n, a count and a set, and of the mark and a part number.
+pub const SHORT: u64 = (1 << 32) - 1;
+pub const LONG: u64 = (1 << 48) - 1;
 
-/// A record that is accepted, the sets that it lists, and its path sets.
+/// A record that is accepted, the sets that it lists, its path sets, and its retired numbers if it is of edition 2.
 pub struct Read {
     pub record: Record,
     pub listed: Box<Words>,
     pub works: Box<Words>,
+    pub retired: Option<Vec<u64>>,
 }
 
 /// The record that the bytes are.
@@ -46,7 +48,8 @@ pub fn walk(bytes: &[u8], record: &Record) -> u64 {
 
 /// The record and the structure that its sets give.
 pub fn read(bytes: &[u8]) -> Result<Read, Refusal> {
-    let mut record = read_head(bytes)?;
+    let is_second = bytes.starts_with(&[0, 2]);
+    let mut record = read_head(bytes, if is_second { 2 } else { 0 })?;
     let n = record.numbers.len();
     let mut listed = Box::new([0; 1024]);
     let end = mark_sets(bytes, n, &record, &mut listed);
@@ -55,23 +58,29 @@ pub fn read(bytes: &[u8]) -> Result<Read, Refusal> {
     if trimmed(n, &works) != *listed {
         return refused(24, first_holding(bytes, n, &record, &works));
     }
-    let end = end?;
+    let mut end = end?;
+    record.length = end - record.offset;
+    let mut retired = None;
+    if is_second {
+        let (numbers, behind) = read_tail(bytes, end, &record, &works)?;
+        (retired, end) = (Some(numbers), behind);
+    }
     if end < bytes.len() {
         return refused(25, end);
     }
-    record.length = end - record.offset;
     Ok(Read {
         record,
         listed,
         works,
+        retired,
     })
 }
 
-/// n, the mark, the part numbers and the count of sets.
-fn read_head(bytes: &[u8]) -> Result<Record, Refusal> {
-    let (n, at) = number_at::<SHORT>(bytes, 0)?;
+/// n, the mark, the part numbers and the count of sets, from a position on.
+fn read_head(bytes: &[u8], start: usize) -> Result<Record, Refusal> {
+    let (n, at) = number_at::<SHORT>(bytes, start)?;
     if !(1..=16).contains(&n) {
-        return refused(1, 0);
+        return refused(1, start);
     }
     let (mark, mut at) = number_at::<LONG>(bytes, at)?;
     let mut numbers = Vec::with_capacity(16);
@@ -138,7 +147,7 @@ fn first_holding(bytes: &[u8], n: usize, record: &Record, works: &Words) -> usiz
 
 /// The number at a position and the position behind it, or 21 and 22.
 #[inline(always)]
-fn number_at<const TOP: u64>(bytes: &[u8], at: usize) -> Result<(u64, usize), Refusal> {
+pub fn number_at<const TOP: u64>(bytes: &[u8], at: usize) -> Result<(u64, usize), Refusal> {
     let mut number = 0_u64;
     for group in 0..TOP.ilog2() as usize / 7 + 1 {
         let Some(&byte) = bytes.get(at + group) else {

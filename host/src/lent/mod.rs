@@ -19,6 +19,7 @@
 mod changes;
 mod cuts;
 mod drawings;
+mod editions;
 mod figures;
 mod part_numbers;
 mod patterns;
@@ -34,6 +35,7 @@ pub use changes::{
 };
 pub use cuts::{dual, minimal_cuts, table_of_cuts};
 pub use drawings::{drawing_of_record, record_of_drawing};
+pub use editions::{retired, to_edition_1, to_edition_2};
 pub use figures::{domination, figures, importance, path_counts, signature, tail};
 pub use part_numbers::numbers_of;
 pub use patterns::table_of_pattern;
@@ -50,6 +52,9 @@ use crate::Refusal;
 /// The most parts that a machine has, and the most cells of a signature, of importances, of shares and of part numbers.
 pub const MOST_PARTS: usize = 16;
 
+/// The most retired part numbers of a record.
+pub const MOST_RETIRED: usize = 64;
+
 /// The most sets of a list, and the most minimal sets and minimal cut sets of a machine.
 pub const MOST_SETS: usize = 12_870;
 
@@ -62,8 +67,8 @@ pub const MOST_COEFFICIENTS: usize = 81;
 /// The bytes of a table of 16 parts, the longest.
 pub const LONGEST_TABLE: usize = 8_192;
 
-/// No record has more bytes.
-pub const LONGEST_RECORD: usize = 38_732;
+/// No record of either edition has more bytes.
+pub const LONGEST_RECORD: usize = 39_217;
 
 /// No sheet has more bytes.
 pub const LONGEST_SHEET: usize = 155;

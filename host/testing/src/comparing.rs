@@ -3,8 +3,9 @@
 use crate::naive;
 use crate::naive_records::{self as by_words, Change, Reading};
 use nahokipe::lent::{add_part, add_set, add_set_of_parts, RecordAnswer};
+use nahokipe::lent::{retired, whole_record_answer, MOST_RETIRED};
 use nahokipe::lent::{table_of_pattern, take_out, take_out_group, take_out_part, take_out_parts};
-use nahokipe::{Pattern, Refusal};
+use nahokipe::{edition, record_end, Pattern, Refusal};
 use std::collections::BTreeSet;
 use std::fmt::Debug;
 
@@ -32,6 +33,17 @@ pub fn buffers<T: Copy>(
     let lengths = [0, needed - 1, needed, needed + 1, needed + 9];
     let filled = |length| patterns.map(|cell| vec![cell; length]);
     lengths.into_iter().flat_map(filled).collect()
+}
+
+/// The same for part numbers. Where none is given, a buffer without cells is long enough.
+pub fn buffers_of_numbers(result: &Result<Vec<u64>, Refusal>, enough: usize) -> Vec<Vec<u64>> {
+    let patterns = [0x5A5A_5A5A_5A5A_5A5A, !0x5A5A_5A5A_5A5A_5A5A];
+    match result {
+        Ok(numbers) if numbers.is_empty() => {
+            [0, 1, 9].map(|length| vec![patterns[0]; length]).into()
+        }
+        _ => buffers(result, enough, patterns),
+    }
 }
 
 /// What a call leaves of buffers of every length that matters, around `enough` cells where it is refused.
@@ -192,7 +204,9 @@ pub fn about_table(n: usize, table: &[u8]) -> String {
 /// What is handed out: all of an accepted record, and nothing beside a refusal.
 pub fn handed_out(expected: &Result<Reading, Refusal>) -> RecordAnswer {
     match expected {
-        Ok(Reading { plain, begin, end }) => RecordAnswer {
+        Ok(Reading {
+            plain, begin, end, ..
+        }) => RecordAnswer {
             number: 0,
             value: 0,
             parts: plain.numbers.len(),
@@ -213,6 +227,35 @@ pub fn handed_out(expected: &Result<Reading, Refusal>) -> RecordAnswer {
             length: 0,
         },
     }
+}
+
+/// All that is read of some bytes: the record with every cell of its answer, its edition, its retired numbers, where it is accepted into
+/// buffers of every length that matters, and where it ends, which bytes that are left do not change.
+pub fn same_reading(bytes: &[u8]) -> Result<Reading, Refusal> {
+    let expected = by_words::whole_record(bytes);
+    let about = || format!("{} bytes: {:02X?}", bytes.len(), front(bytes));
+    let found = whole_record_answer(bytes);
+    assert_eq!(found, handed_out(&expected), "{}", about());
+    let retired_numbers = expected.clone().map(|reading| reading.retired);
+    let number = retired_numbers.clone().map(|list| 1 + list.is_some() as u8);
+    assert_eq!(edition(bytes), number, "{}", about());
+    let numbers = retired_numbers.map(Option::unwrap_or_default);
+    let rooms = match &numbers {
+        Ok(_) => buffers_of_numbers(&numbers, MOST_RETIRED),
+        Err(_) => vec![vec![0x5A; MOST_RETIRED]],
+    };
+    for before in rooms {
+        let mut after = before.clone();
+        let answer = retired(bytes, &mut after);
+        same((answer, after), naive::delivered(&numbers, &before), about);
+    }
+    let end = match &expected {
+        Ok(reading) => Ok(reading.behind),
+        Err(Refusal { number: 25, place }) => Ok(*place),
+        Err(refusal) => Err(*refusal),
+    };
+    assert_eq!(record_end(bytes, 0), end, "{}", about());
+    expected
 }
 
 /// Two records cut off at every byte, and with every byte changed to each other value. Each is compared, which gives the number that refuses

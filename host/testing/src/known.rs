@@ -1,6 +1,7 @@
 //! Records, vectors, texts and tables that are refused, with the number and the place that documents 01 and 02 give them, groups with what
-//! taking them out comes to, records that are entered, changes by part numbers, texts with their records, machines with their cut sets and
-//! with their idle parts, and stock patterns: worked out by hand, and asked of the calculator and of the second implementation alike.
+//! taking them out comes to, records that are entered, changes by part numbers, records of both editions and changes of edition 2, texts with
+//! their records, machines with their cut sets and with their idle parts, and stock patterns: worked out by hand, and asked of the calculator
+//! and of the second implementation alike.
 
 use crate::naive_records::{Change, TOP_NUMBER};
 use nahokipe::Pattern::{self, AtLeast, Ring, Row};
@@ -250,6 +251,190 @@ pub const CHANGED_BY_NUMBER: [ChangedByNumber; 32] = [
 
 /// The bridge with the set {1}.
 const WIDER: &[u8] = &[5, 5, 1, 2, 3, 4, 5, 3, 1, 14, 18];
+
+/// A first byte 00 without 02; each field of edition 2, alone and before a later one; and bytes left.
+pub const REFUSED_EDITIONS: [RefusedRecord; 65] = [
+    (&[0], 1, 0),
+    (&[0, 0x82, 0], 1, 0),
+    (&[0, 1], 1, 0),
+    (&[0, 2], 21, 2),
+    (&[0, 2, 0x11], 1, 2),
+    (&[0, 2, 0, 2], 1, 2),
+    (&[0, 2, 1, 1, 1, 1, 1, 0x41], 30, 7),
+    (&[0, 2, 1, 2, 1, 1, 1, 1, 1], 30, 8),
+    (&[0, 2, 1, 2, 1, 1, 1, 1, 3], 30, 8),
+    (&[0, 2, 1, 1, 1, 1, 1, 0, 1], 31, 8),
+    (&[0, 2, 1, 1, 1, 1, 1, 0, 0, 2], 31, 9),
+    (&[0, 2, 1, 1, 1, 1, 1, 0, 0], 21, 9),
+    (&[0, 0x82], 1, 0),
+    (&[0, 0], 1, 0),
+    (&[0, 3, 1, 1, 1, 1, 1, 0, 0, 1], 1, 0),
+    (&[0, 0, 2, 1, 1, 1, 1, 1, 0, 0, 1], 1, 0),
+    (&[0, 0x82, 0, 1, 1, 1, 1, 1, 0, 0, 1], 1, 0),
+    (&[0x80, 0, 2, 1, 1, 1, 1, 1, 0, 0, 1], 22, 0),
+    (&[2, 0, 1, 1, 1, 1, 1, 0, 0, 1], 23, 2),
+    (&[0, 2, 0x80, 0], 22, 2),
+    (&[0, 2, 0x91], 21, 3),
+    (&[0, 2, 1], 21, 3),
+    (&[0, 2, 1, 0, 1], 23, 4),
+    (&[0, 2, 1, 0x80, 0], 22, 3),
+    (&[0, 2, 1, 1, 2], 23, 4),
+    (&[0, 2, 1, 1, 1, 0], 2, 5),
+    (&[0, 2, 1, 1, 1, 0xC7, 0x64], 3, 5),
+    (&[0, 2, 1, 1, 1, 1, 2], 4, 6),
+    (&[0, 2, 1, 1, 1, 1, 0], 5, 6),
+    (&[0, 2, 2, 2, 1, 2, 2, 1, 1], 24, 8),
+    (&[0, 2, 3, 3, 1, 2, 3, 3, 1, 2, 5, 0x41], 24, 10),
+    (&[0, 2, 1, 1, 1, 1, 1], 21, 7),
+    (&[0, 2, 1, 1, 1, 1, 1, 0x80], 21, 8),
+    (&[0, 2, 1, 1, 1, 1, 1, 0x80, 0], 22, 7),
+    (&[0, 2, 1, 1, 1, 1, 1, 0x80, 0x80, 0x80, 0x80, 0x10], 22, 7),
+    (&[0, 2, 1, 1, 1, 1, 1, 0xFF, 0xFF, 0xFF, 0xFF, 0xFF], 22, 7),
+    (&[0, 2, 1, 1, 1, 1, 1, 0xFF, 0xFF, 0xFF, 0xFF, 0x0F], 30, 7),
+    (&[0, 2, 1, 1, 1, 1, 1, 0x80, 0x01], 30, 7),
+    (&[0, 2, 1, 1, 1, 1, 1, 0x41, 0x80, 0], 30, 7),
+    (&[0, 2, 1, 9, 1, 1, 1, 0x40], 21, 8),
+    (&[0, 2, 1, 9, 1, 1, 1, 1, 0], 30, 8),
+    (&[0, 2, 1, 9, 1, 1, 1, 2, 0, 3], 30, 8),
+    (&[0, 2, 1, 9, 1, 1, 1, 2, 3, 3], 30, 9),
+    (&[0, 2, 1, 9, 1, 1, 1, 2, 4, 3], 30, 9),
+    (&[0, 2, 1, 9, 1, 1, 1, 3, 4, 5, 3], 30, 10),
+    (&[0, 2, 1, 9, 1, 1, 1, 1, 10], 30, 8),
+    (&[0, 2, 1, 9, 5, 1, 1, 2, 3, 5], 30, 9),
+    (&[0, 2, 2, 9, 4, 5, 1, 1, 2, 3, 5], 30, 10),
+    (&[0, 2, 1, 9, 5, 1, 1, 2, 3, 5, 0x80, 0], 30, 9),
+    (&[0, 2, 1, 9, 5, 1, 1, 2, 3, 0x80, 0], 22, 9),
+    (&[0, 2, 1, 9, 5, 1, 1, 2, 3], 21, 9),
+    (
+        &[0, 2, 1, 9, 1, 1, 1, 1, 0xFF, 0xFF, 0xFF, 0xFF, 0xFF, 0xFF],
+        21,
+        14,
+    ),
+    (
+        &[
+            0, 2, 1, 9, 1, 1, 1, 1, 0xFF, 0xFF, 0xFF, 0xFF, 0xFF, 0xFF, 0xFF,
+        ],
+        22,
+        8,
+    ),
+    (
+        &[
+            0, 2, 1, 9, 1, 1, 1, 1, 0xFF, 0xFF, 0xFF, 0xFF, 0xFF, 0xFF, 0x3F,
+        ],
+        30,
+        8,
+    ),
+    (
+        &[
+            0, 2, 1, 9, 1, 1, 1, 1, 0xFF, 0xFF, 0xFF, 0xFF, 0xFF, 0xFF, 0x40,
+        ],
+        22,
+        8,
+    ),
+    (&[0, 2, 1, 1, 1, 1, 1, 0, 0x80, 0], 22, 8),
+    (
+        &[0, 2, 1, 1, 1, 1, 1, 0, 0xFF, 0xFF, 0xFF, 0xFF, 0xFF],
+        22,
+        8,
+    ),
+    (
+        &[0, 2, 1, 1, 1, 1, 1, 0, 0xFF, 0xFF, 0xFF, 0xFF, 0x0F],
+        31,
+        8,
+    ),
+    (&[0, 2, 1, 1, 1, 1, 1, 0, 1, 0x80, 0], 31, 8),
+    (&[0, 2, 1, 1, 1, 1, 1, 0, 0, 0x81, 0], 22, 9),
+    (&[0, 2, 1, 1, 1, 1, 1, 0, 0, 0x81, 1], 31, 9),
+    (&[0, 2, 2, 2, 1, 2, 1, 1, 0, 0, 1, 2], 31, 11),
+    (&[0, 2, 1, 1, 1, 1, 1, 0, 0, 2, 0], 31, 9),
+    (&[0, 2, 1, 1, 1, 1, 1, 0, 0, 1, 0], 25, 10),
+    (&[0, 2, 1, 9, 1, 1, 1, 1, 9, 0, 1, 0], 25, 11),
+];
+
+/// The bytes of a record of edition 1, and of the same of edition 2 with no retired numbers.
+pub type BothEditions = (&'static [u8], &'static [u8]);
+
+/// One part; two of which one is idle; the bridge, a controller with two pumps, gaps below a mark; ten parts of which any suffices, with
+/// counts of two bytes.
+pub const BOTH_EDITIONS: [BothEditions; 6] = [
+    (&[1, 1, 1, 1, 1], &[0, 2, 1, 1, 1, 1, 1, 0, 0, 1]),
+    (&[2, 2, 1, 2, 1, 1], &[0, 2, 2, 2, 1, 2, 1, 1, 0, 0, 1, 1]),
+    (BRIDGE, BRIDGE_2),
+    (PUMPS, &[0, 2, 3, 3, 1, 2, 3, 2, 3, 5, 0, 0, 0, 2, 1]),
+    (GAPS, &[0, 2, 3, 9, 2, 5, 7, 1, 4, 0, 0, 1, 2, 1]),
+    (
+        &[
+            10, 10, 1, 2, 3, 4, 5, 6, 7, 8, 9, 10, 10, 1, 2, 4, 8, 16, 32, 64, 0x80, 1, 0x80, 2,
+            0x80, 4,
+        ],
+        &[
+            0, 2, 10, 10, 1, 2, 3, 4, 5, 6, 7, 8, 9, 10, 10, 1, 2, 4, 8, 16, 32, 64, 0x80, 1, 0x80,
+            2, 0x80, 4, 0, 0, 10, 45, 120, 0xD2, 1, 0xFC, 1, 0xD2, 1, 120, 45, 10, 1,
+        ],
+    ),
+];
+
+/// The bridge of edition 2, whose path counts are 0, 0, 2, 8, 5 and 1.
+const BRIDGE_2: &[u8] = &[
+    0, 2, 5, 5, 1, 2, 3, 4, 5, 4, 0x09, 0x0E, 0x12, 0x15, 0, 0, 0, 2, 8, 5, 1,
+];
+
+/// The bridge of edition 2 without part 3, which is filed.
+const FOUR_2: &[u8] = &[0, 2, 4, 5, 1, 2, 4, 5, 2, 5, 10, 1, 3, 0, 0, 2, 4, 1];
+
+/// The bridge of edition 2 without parts 3 and 5.
+const THREE_2: &[u8] = &[0, 2, 3, 5, 1, 2, 4, 1, 5, 2, 3, 5, 0, 0, 1, 1];
+
+/// Parts 2, 5 and 7 under the mark 9, and the retired numbers 1, 6 and 9: the set {7}.
+const GAPS_2: &[u8] = &[0, 2, 3, 9, 2, 5, 7, 1, 4, 3, 1, 6, 9, 0, 1, 2, 1];
+
+/// Every change of a record of edition 2, and refusals.
+pub const CHANGED_EDITIONS: [ChangedByNumber; 20] = [
+    (BRIDGE_2, Change::TakeOut(3), Ok(FOUR_2)),
+    (BRIDGE_2, Change::TakeOutPart(3), Ok(FOUR_2)),
+    (FOUR_2, Change::TakeOutPart(5), Ok(THREE_2)),
+    (FOUR_2, Change::TakeOut(4), Ok(THREE_2)),
+    (BRIDGE_2, Change::TakeOutParts(&[5, 3]), Ok(THREE_2)),
+    (BRIDGE_2, Change::TakeOutGroup(20), Ok(THREE_2)),
+    (
+        FOUR_2,
+        Change::AddPart,
+        Ok(&[0, 2, 5, 6, 1, 2, 4, 5, 6, 2, 5, 10, 1, 3, 0, 0, 2, 6, 5, 1]),
+    ),
+    (
+        BRIDGE_2,
+        Change::AddSet(1),
+        Ok(&[0, 2, 5, 5, 1, 2, 3, 4, 5, 3, 1, 14, 18, 0, 0, 1, 5, 9, 5, 1]),
+    ),
+    (BRIDGE_2, Change::AddSet(9), Ok(BRIDGE_2)),
+    (FOUR_2, Change::AddSetOfParts(&[4, 1]), Ok(FOUR_2)),
+    (
+        GAPS_2,
+        Change::TakeOutPart(5),
+        Ok(&[0, 2, 2, 9, 2, 7, 1, 2, 4, 1, 5, 6, 9, 0, 1, 1]),
+    ),
+    (
+        GAPS_2,
+        Change::TakeOutParts(&[5, 2]),
+        Ok(&[0, 2, 1, 9, 7, 1, 1, 5, 1, 2, 5, 6, 9, 0, 1]),
+    ),
+    (
+        GAPS_2,
+        Change::AddPart,
+        Ok(&[0, 2, 4, 10, 2, 5, 7, 10, 1, 4, 3, 1, 6, 9, 0, 1, 3, 3, 1]),
+    ),
+    (FOUR_2, Change::TakeOutPart(3), Err((17, 0))),
+    (FOUR_2, Change::TakeOut(5), Err((17, 0))),
+    (FOUR_2, Change::TakeOutGroup(3), Err((18, 0))),
+    (FOUR_2, Change::TakeOutGroup(0), Err((15, 0))),
+    (FOUR_2, Change::TakeOutGroup(16), Err((16, 0))),
+    (FOUR_2, Change::AddSetOfParts(&[1, 3]), Err((17, 0))),
+    (
+        &[0, 2, 1, 1, 1, 1, 1, 0, 0, 2],
+        Change::TakeOut(9),
+        Err((31, 9)),
+    ),
+];
 
 /// Kind, n and entries, and their refusal's number and place.
 pub type RefusedVector = (u8, usize, &'static [i64], u8, usize);

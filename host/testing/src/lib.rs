@@ -8,6 +8,7 @@ pub mod naive;
 pub mod naive_bytes;
 pub mod naive_cuts;
 pub mod naive_drawing;
+pub mod naive_editions;
 pub mod naive_figures;
 pub mod naive_idle;
 pub mod naive_patterns;

@@ -2,8 +2,10 @@
 
 use crate::naive::{self, MOST_SETS};
 use crate::naive_bytes::numbers_bytes;
+use crate::naive_editions::{edition_2_bytes, edition_2_numbers, MOST_RETIRED};
 use crate::naive_records::{record_bytes, record_numbers, Plain, TOP_NUMBER};
 use crate::seeded::Seeded;
+use std::collections::BTreeSet;
 
 /// All sets of `size` parts among n, ascending.
 pub fn sets_of_size(n: usize, size: u32) -> Vec<u16> {
@@ -192,13 +194,45 @@ pub fn random_record(seeded: &mut Seeded, n: usize) -> Vec<u8> {
     record_bytes(&random_plain(seeded, n))
 }
 
-/// The record with the most sets and bytes: 16 parts, all sets of 8 of them, part numbers of seven bytes.
+/// The record of edition 1 with the most sets and bytes.
 pub fn largest_record() -> Vec<u8> {
-    record_bytes(&Plain {
+    record_bytes(&largest_plain())
+}
+
+/// 16 parts, all sets of 8 of them, part numbers of seven bytes.
+pub fn largest_plain() -> Plain {
+    Plain {
         mark: TOP_NUMBER,
         numbers: (TOP_NUMBER - 15..=TOP_NUMBER).collect(),
         sets: sets_of_size(16, 8),
-    })
+    }
+}
+
+/// Retired numbers for a design, rising: none, few or up to 64 of those that are not in use, as many as its mark leaves, near its part
+/// numbers or anywhere.
+pub fn random_retired(seeded: &mut Seeded, plain: &Plain) -> Vec<u64> {
+    let most = seeded.pick(&[0, 1, 5, MOST_RETIRED - 1, MOST_RETIRED]);
+    let mut retired = BTreeSet::new();
+    for _ in 0..3 * most {
+        let beside = seeded.pick(&plain.numbers) + seeded.between(0, 2 * MOST_RETIRED) as u64;
+        let any = 1 + seeded.number() % plain.mark;
+        retired.insert(seeded.pick(&[beside.clamp(1, plain.mark), any]));
+    }
+    retired.retain(|number| !plain.numbers.contains(number));
+    retired.into_iter().take(most).collect()
+}
+
+/// A record of edition 2 of n parts that is accepted.
+pub fn random_edition_2(seeded: &mut Seeded, n: usize) -> Vec<u8> {
+    let plain = random_plain(seeded, n);
+    let retired = random_retired(seeded, &plain);
+    edition_2_bytes(&plain, &retired)
+}
+
+/// The record of edition 2 with the most sets, retired numbers and bytes: 64 retired numbers of seven bytes below those of `largest_record`.
+pub fn largest_edition_2() -> Vec<u8> {
+    let retired: Vec<u64> = (TOP_NUMBER - 79..=TOP_NUMBER - 16).collect();
+    edition_2_bytes(&largest_plain(), &retired)
 }
 
 /// A record with a byte behind it, or a damaged one, by turns: most of them are refused.
@@ -211,8 +245,25 @@ pub fn spoilt_record(seeded: &mut Seeded, n: usize, round: usize) -> Vec<u8> {
 
 /// A record of n parts with one of its numbers changed, taken away, given twice or exchanged with the next; most are refused.
 pub fn damaged_record(seeded: &mut Seeded, n: usize) -> Vec<u8> {
-    let mut numbers = record_numbers(&random_plain(seeded, n));
+    let numbers = record_numbers(&random_plain(seeded, n));
     let index = seeded.between(0, numbers.len() - 2);
+    damaged_numbers(seeded, n, numbers, index)
+}
+
+/// The same of edition 2, where most of the time it is a number behind the sets, a retired one or a path count.
+pub fn damaged_edition_2(seeded: &mut Seeded, n: usize) -> Vec<u8> {
+    let plain = random_plain(seeded, n);
+    let retired = random_retired(seeded, &plain);
+    let numbers = edition_2_numbers(&plain, &retired);
+    let last = numbers.len() - 2;
+    let behind = numbers.len() - (retired.len() + n + 2);
+    let first = seeded.pick(&[0, behind, behind]);
+    let index = seeded.between(first, last);
+    damaged_numbers(seeded, n, numbers, index)
+}
+
+/// The bytes of these numbers with the one at an index changed, taken away, given twice or exchanged with the next.
+fn damaged_numbers(seeded: &mut Seeded, n: usize, mut numbers: Vec<u128>, index: usize) -> Vec<u8> {
     let number = numbers[index];
     match seeded.between(0, 4) {
         0 => numbers.swap(index, index + 1),

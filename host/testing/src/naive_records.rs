@@ -1,10 +1,12 @@
 //! Design records and their changes a second time, from the words of documents 01 and 02 alone: a reader that follows the table of refusals number by
-//! number, and changes of a design whose sets are named by part numbers, so that no mask is ever moved.
+//! number, and changes of a design whose sets are named by part numbers, so that no mask is ever moved. What edition 2 adds stands in
+//! `naive_editions`.
 //!
 //! Nothing here is shared with the calculator; the tests compare the two.
 
 use crate::naive::{self, has, holds, refused, MOST_SETS};
 use crate::naive_bytes::{number_at, numbers_bytes, Field};
+use crate::naive_editions::{edition_2_bytes, filed, read_counts, read_retired};
 use nahokipe::Refusal;
 use std::collections::BTreeSet;
 
@@ -21,22 +23,25 @@ pub struct Plain {
     pub sets: Vec<u16>,
 }
 
-/// What reading gives: the record, where its sets begin, and where they end.
+/// What reading gives: the record, where its sets begin, and where they end; its retired numbers if it is of edition 2, and none if it is of
+/// edition 1; and where it ends itself.
 #[derive(Clone, Debug, PartialEq, Eq)]
 pub struct Reading {
     pub plain: Plain,
     pub begin: usize,
     pub end: usize,
+    pub retired: Option<Vec<u64>>,
+    pub behind: usize,
 }
 
 /// Reads numbers one after the other, each with the position of its first byte.
-struct Reader<'a> {
+pub(crate) struct Reader<'a> {
     bytes: &'a [u8],
     next: usize,
 }
 
 impl Reader<'_> {
-    fn number(&mut self, field: Field) -> Result<(u128, usize), Refusal> {
+    pub(crate) fn number(&mut self, field: Field) -> Result<(u128, usize), Refusal> {
         let first = self.next;
         let (number, after) = number_at(self.bytes, first, field)?;
         self.next = after;
@@ -44,12 +49,25 @@ impl Reader<'_> {
     }
 }
 
-/// The record at a position; what comes after it is not looked at.
+/// The record at a position; what comes after it is not looked at. It is of edition 2 if the bytes 00 02 stand there.
 pub fn record_at(bytes: &[u8], start: usize) -> Result<Reading, Refusal> {
-    record_by(Field::PART_NUMBER, bytes, start)
+    let is_edition_2 = bytes.iter().skip(start).take(2).eq(&[0, 2]);
+    if !is_edition_2 {
+        return record_by(Field::PART_NUMBER, bytes, start);
+    }
+    let fields = record_by(Field::PART_NUMBER, bytes, start + 2)?;
+    let next = fields.end;
+    let mut reader = Reader { bytes, next };
+    let retired = read_retired(&mut reader, &fields.plain)?;
+    read_counts(&mut reader, &fields.plain)?;
+    Ok(Reading {
+        retired: Some(retired),
+        behind: reader.next,
+        ..fields
+    })
 }
 
-/// The same where the mark and the part numbers are of some other field.
+/// The fields of edition 1 at a position, where the mark and the part numbers are of some field.
 fn record_by(part_number: Field, bytes: &[u8], start: usize) -> Result<Reading, Refusal> {
     let mut reader = Reader { bytes, next: start };
     let (n, first) = reader.number(Field::COUNT)?;
@@ -76,23 +94,30 @@ fn record_by(part_number: Field, bytes: &[u8], start: usize) -> Result<Reading, 
         },
         begin,
         end: reader.next,
+        retired: None,
+        behind: reader.next,
     })
 }
 
 /// The record that the bytes are: 25 last.
 pub fn whole_record(bytes: &[u8]) -> Result<Reading, Refusal> {
-    whole_record_by(Field::PART_NUMBER, bytes)
+    whole(bytes, record_at(bytes, 0)?)
+}
+
+/// The same as it was read while there was edition 1 alone, before document 02's §8.
+pub fn edition_1_record(bytes: &[u8]) -> Result<Reading, Refusal> {
+    whole(bytes, record_by(Field::PART_NUMBER, bytes, 0)?)
 }
 
 /// The same as it was read while part numbers reached 2^32-1, before document 02's §7.
 pub fn former_record(bytes: &[u8]) -> Result<Reading, Refusal> {
-    whole_record_by(Field::up_to((1 << 32) - 1), bytes)
+    let part_number = Field::up_to((1 << 32) - 1);
+    whole(bytes, record_by(part_number, bytes, 0)?)
 }
 
-fn whole_record_by(part_number: Field, bytes: &[u8]) -> Result<Reading, Refusal> {
-    let reading = record_by(part_number, bytes, 0)?;
-    if reading.end < bytes.len() {
-        return refused(25, reading.end);
+fn whole(bytes: &[u8], reading: Reading) -> Result<Reading, Refusal> {
+    if reading.behind < bytes.len() {
+        return refused(25, reading.behind);
     }
     Ok(reading)
 }
@@ -215,7 +240,7 @@ pub fn record_numbers(plain: &Plain) -> Vec<u128> {
         .collect()
 }
 
-/// The bytes of a record.
+/// The bytes of a record of edition 1.
 pub fn record_bytes(plain: &Plain) -> Vec<u8> {
     numbers_bytes(record_numbers(plain))
 }
@@ -458,10 +483,23 @@ pub enum Change<'a> {
     AddSetOfParts(&'a [u64]),
 }
 
-/// The new record, or the first refusal: the whole record is checked, and then the change.
+/// The new record, of the edition that was read, or the first refusal: the whole record is checked, and then the change. In edition 2 the
+/// parts that are there no more are filed.
 pub fn changed(bytes: &[u8], change: Change) -> Result<Vec<u8>, Refusal> {
-    let design = Design::of(&whole_record(bytes)?.plain);
-    let design = match change {
+    let Reading { plain, retired, .. } = whole_record(bytes)?;
+    let new = design_after(&plain, change)?.plain();
+    let Some(retired) = retired else {
+        return Ok(record_bytes(&new));
+    };
+    let left = plain.numbers.into_iter();
+    let left: Vec<u64> = left.filter(|one| !new.numbers.contains(one)).collect();
+    Ok(edition_2_bytes(&new, &filed(&retired, &left)))
+}
+
+/// The design that a change makes of a record, or the change's refusal.
+fn design_after(plain: &Plain, change: Change) -> Result<Design, Refusal> {
+    let design = Design::of(plain);
+    match change {
         Change::AddPart => design.add_part(),
         Change::TakeOut(position) => design.take_out(position),
         Change::TakeOutGroup(group) => design.take_out_group(group),
@@ -469,6 +507,5 @@ pub fn changed(bytes: &[u8], change: Change) -> Result<Vec<u8>, Refusal> {
         Change::TakeOutPart(number) => design.take_out_part(number),
         Change::TakeOutParts(wanted) => design.take_out_parts(wanted),
         Change::AddSetOfParts(wanted) => design.add_set_of_parts(wanted),
-    };
-    Ok(record_bytes(&design?.plain()))
+    }
 }

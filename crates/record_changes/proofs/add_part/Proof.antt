@@ -1,6 +1,6 @@
 -- `record_changes::add_part` meets its contract: the part list answers for the change, and the sets stay as they were read.
 -- Assumes nothing.
-use mathlib.Core.Path.{_≡_, sym, ap, _∙_}
+use mathlib.Core.Path.{_≡_, refl, sym, ap, _∙_}
 use native.Mathlib.Omega.{arith}
 use denote.Ref.{now}
 use lib.ListN.{length}
@@ -8,27 +8,28 @@ use Rattle.answer.specs.declared.Verdict.the-variants.{Accepted}
 use Rattle.record_parts.specs.declared.Changed.{Changed}
 use Rattle.record_parts.specs.Changes.{partAdded}
 use Rattle.record_lines.specs.Changes.{addPart, changeRefusal}
-use Rattle.record_opening.proofs.Designs.{DesignOpened, opened-design, sets-front, sets-counted, sets-few, sets-room}
-use Rattle.record_changes.proofs.Answers.{opened-refused, change-refused, change-rules, change-made, add-refused, add-made}
+use Rattle.record_opening.proofs.Designs.{RecordOpened, opened-record, sets-front, sets-counted, sets-few, sets-room}
+use Rattle.record_lines.proofs.Refusals.{unconverted-refusal}
+use Rattle.record_changes.proofs.Answers.{d, design-kept, retired-few, retired-inside, kept-retired, opened-refused, change-refused, change-rules, change-made, add-refused, add-made}
 use borrow.Author.Needs.{needs}
 use Rattle.record_changes.proofs.add_part.Statement.{statement}
 use Rattle.record_changes.proofs.add_part.Tie as tie
 
 -- what was opened, where the record is accepted
-read : (c : tie.After-enum-told) → DesignOpened (now (c .before .before .before .before .before .args .bytes)) (c .before .before .open-record .result)
+read : (c : tie.After-enum-told) → RecordOpened (now (c .before .before .before .before .before .args .bytes)) (c .before .before .open-record .result)
 read c =
     let w = c .before .before in
-    opened-design (now (w .before .before .before .args .bytes)) (w .open-record .result) (w .open-record .ensures) (λ i. omega (arith, w .before .before .shared-slice-known .given i)) (c .enum-told .given .1)
+    opened-record (now (w .before .before .before .args .bytes)) (w .open-record .result) (w .open-record .ensures) (λ i. omega (arith, w .before .before .shared-slice-known .given i)) (c .enum-told .given .1)
 
 -- the part list's answer is that of the design's
-list-changed : (c : tie.After-add) → c .add .result ≡ partAdded (read (c .before .before) .d .parts)
+list-changed : (c : tie.After-add) → c .add .result ≡ partAdded (d (read (c .before .before)) .parts)
 list-changed c = c .add .ensures ∙ ap partAdded (read (c .before .before) .list)
 
-made : (c : tie.After-enum-told2) → changeRefusal addPart (read (c .before .before .before .before) .d) ≡ Accepted
+made : (c : tie.After-enum-told2) → changeRefusal addPart (d (read (c .before .before .before .before))) ≡ Accepted
 made c =
     let add = c .before .before in
     let r = read (add .before .before) in
-    add-made (r .d) (r .rules) _ (sym (ap (λ (x : Changed). x .answer) (list-changed add)) ∙ c .enum-told2 .given .1)
+    add-made (d r) (design-kept r) _ (sym (ap (λ (x : Changed). x .answer) (list-changed add)) ∙ c .enum-told2 .given .1)
 
 open-record-requires : tie.Need-open-record-requires
 open-record-requires c κs = search needs
@@ -49,16 +50,16 @@ enum-told-2 : tie.Need-enum-told-2
 enum-told-2 c = search needs
 
 array-share-prefix-sets : tie.Need-array-share-prefix-sets
-array-share-prefix-sets c = let r = read (c .before .before .before .before .before .before) in omega (arith, sets-few r, sets-room r)
+array-share-prefix-sets c = let r = read (c .before .before .before .before .before .before .before) in omega (arith, sets-few r, sets-room r)
 
-slice-aggregate-write-design : tie.Need-slice-aggregate-write-design
-slice-aggregate-write-design c = let r = read (c .before .before .before .before .before .before .before) in sets-counted r ∙ ap length (sym (sets-front r))
+slice-aggregate-write-stored : tie.Need-slice-aggregate-write-stored
+slice-aggregate-write-stored c = let r = read (c .before .before .before .before .before .before .before .before) in sets-counted r ∙ ap length (sym (sets-front r))
 
-write-design-requires : tie.Need-write-design-requires
-write-design-requires c κs =
-    let told = c .before .before .before .before in
+write-stored-requires : tie.Need-write-stored-requires
+write-stored-requires c κs =
+    let told = c .before .before .before .before .before in
     let r = read (told .before .before .before .before) in
-    change-rules r addPart (made told) _ _ (ap (λ (x : Changed). x .list) (list-changed (told .before .before))) (sets-front r)
+    (change-rules r addPart (made told) _ _ (ap (λ (x : Changed). x .list) (list-changed (told .before .before))) (sets-front r), (retired-few r, retired-inside r))
 
 returns : tie.Need-returns
 returns c =
@@ -71,7 +72,7 @@ returns-2 c =
     let add = c .before .before .before in
     let told = add .before .before in
     let r = read told in
-    change-refused r addPart _ (add-refused (r .d) (r .rules) _ (sym (ap (λ (x : Changed). x .answer) (list-changed add)) ∙ c .before .numbered .given .1))
+    change-refused r addPart _ (add-refused (d r) (design-kept r) _ (sym (ap (λ (x : Changed). x .answer) (list-changed add)) ∙ c .before .numbered .given .1))
     (now (told .before .before .before .before .before .args .buffer))
 
 same-length : tie.Need-same-length
@@ -79,12 +80,12 @@ same-length c = search needs
 
 returns-3 : tie.Need-returns-3
 returns-3 c =
-    let given = c .before .before .before .before .before .before .before in
+    let given = c .before .before .before .before .before .before .before .before in
     let add = given .before .before in
     let told = add .before .before in
     let r = read told in
-    c .before .before .write-design .ensures
-    ∙ change-made r addPart (made given) _ _ (now (told .before .before .before .before .before .args .buffer)) (ap (λ (x : Changed). x .list) (list-changed add)) (sets-front r)
+    c .before .before .write-stored .ensures
+    ∙ change-made r addPart (unconverted-refusal addPart (r .s) refl ∙ made given) _ _ _ _ (now (told .before .before .before .before .before .args .buffer)) (r .edition) (ap (λ (x : Changed). x .list) (list-changed add)) (sets-front r) (kept-retired r)
 
 pub add-part-spec : {M : Type 1} → statement M
 add-part-spec =
@@ -99,7 +100,7 @@ add-part-spec =
     returns-2
     enum-told-2
     array-share-prefix-sets
-    slice-aggregate-write-design
-    write-design-requires
+    slice-aggregate-write-stored
+    write-stored-requires
     same-length
     returns-3)

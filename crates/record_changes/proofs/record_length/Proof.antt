@@ -78,15 +78,17 @@ add-result c =
 
 returns : tie.Need-returns
 returns c =
-    let a = c .before .before .before .before .before .before .before .args in
-    omega (
-      arith,
-      record-length (a .mark) (now (a .numbers)) (now (a .sets)),
-      c .before .before .before .before .number-length .ensures,
-      c .before .before .before .number-length2 .ensures,
-      c .before .before .numbers-length .ensures,
-      c .before .number-length3 .ensures,
-      c .sets-length .ensures,
+    let a = c .before .before .before .before .before .before .before .args in (
+      omega (
+        arith,
+        record-length (a .mark) (now (a .numbers)) (now (a .sets)),
+        c .before .before .before .before .number-length .ensures,
+        c .before .before .before .number-length2 .ensures,
+        c .before .before .numbers-length .ensures,
+        c .before .number-length3 .ensures,
+        c .sets-length .ensures,
+      ),
+      omega (arith, firsts (c .before .before .before), numbers-short (c .before .before), third (c .before), sets-short c),
     )
 
 pub record-length-spec : {M : Type 1} → statement M

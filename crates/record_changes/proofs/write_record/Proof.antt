@@ -11,6 +11,7 @@ use Rattle.record_parts.specs.PartLists.{listOf}
 use Rattle.record.specs.Records.{design}
 use Rattle.record.specs.RecordBytes.{recordBytes}
 use borrow.Author.Needs.{needs}
+use Rattle.record_changes.proofs.Writing.{placed-delivered}
 use Rattle.record_changes.proofs.write_record.Statement.{statement}
 use Rattle.record_changes.proofs.write_record.Tie as tie
 
@@ -26,16 +27,20 @@ returns c =
     let a = measured .before .before .before .before .args in
     ap (λ (w : Written). outcome w (now (a .buffer))) (c .short .ensures)
     ∙ delivered-short Accepted (recordBytes (design (listOf (a .mark) (now (a .numbers))) (now (a .sets)))) (now (a .buffer)) refl _
-    (measured .record-length .ensures) (c .before .if1 .taken)
+    (measured .record-length .ensures .0) (c .before .if1 .taken)
 
 write-pieces-requires : tie.Need-write-pieces-requires
-write-pieces-requires c κs = omega (arith, c .before .before .record-length .ensures, c .before .if1 .left)
+write-pieces-requires c κs = omega (arith, c .before .before .record-length .ensures .0, c .before .if1 .left)
 
 same-length : tie.Need-same-length
 same-length c = search needs
 
 returns-2 : tie.Need-returns-2
-returns-2 c = c .before .before .write-pieces .ensures
+returns-2 c =
+    let wrote = c .before .before in
+    let room = wrote .before .before in
+    let a = room .before .before .before .before .before .args in
+    placed-delivered (now (a .buffer)) (recordBytes (design (listOf (a .mark) (now (a .numbers))) (now (a .sets)))) _ _ (omega (arith, room .before .record-length .ensures .0, room .if1 .left)) (wrote .write-pieces .ensures)
 
 pub write-record-spec : {M : Type 1} → statement M
 write-record-spec =

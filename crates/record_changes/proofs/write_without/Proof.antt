@@ -1,11 +1,13 @@
--- `record_changes::write_without` meets its contract: the part list answers for the group, and 18 is said where no set is left without it.
+-- `record_changes::write_without` meets its contract: the part list answers for the group, 18 is said where no set is left without it, and
+-- the numbers of the group are filed.
 -- Assumes nothing.
 use mathlib.Core.Path.{_≡_, sym, ap, ap₂, _∙_, subst}
 use mathlib.Core.List.{List}
-use Prim.Native.Nat.{ℕ, _≤_}
+use Prim.Native.Nat.{ℕ, _-_, _≤_}
 use native.Mathlib.Omega.{arith}
 use denote.Ref.{now}
-use lib.ListN.{length, replicate}
+use lib.ListN.{length, replicate, length-append}
+use lib.Seq.{length-take-le}
 use Rattle.answer.specs.Refusals.{inEverySet}
 use Rattle.answer.specs.Outcome.{at, outcome, delivered}
 use Rattle.answer.specs.declared.Verdict.{Verdict}
@@ -16,7 +18,16 @@ use Rattle.record_parts.specs.declared.Listed.{Listed}
 use Rattle.record_parts.specs.declared.PartList.{PartList}
 use Rattle.record_parts.specs.Changes.{listWithout, groupTakenOut}
 use Rattle.record.specs.Records.{Design, design}
-use Rattle.record.specs.RecordBytes.{recordBytes, DesignRules}
+use Rattle.record.specs.RecordBytes.{DesignRules}
+use Rattle.record_numbers.specs.Numbering.{named}
+use Rattle.record_parts.specs.PartLists.{numbersOf}
+use Rattle.record_retired.specs.declared.Retired.{Retired}
+use Rattle.record_retired.specs.Retired.{mostRetired, filedAll}
+use Rattle.record_retired.proofs.Cells.{numbers-back}
+use Rattle.record_retired.proofs.Filing.{filedAll-most}
+use Rattle.record_editions.specs.EditionBytes.{storedBytes}
+use Rattle.record_lines.specs.Records.{inEdition}
+use Rattle.record_changes.specs.Inside.{retiredNumbers}
 use Rattle.record_lines.specs.Changes.{setsWithout, designWithout, takeOutGroupRefusal}
 use Rattle.record_lines.proofs.TakenOut.{without-fewer}
 use Rattle.record_lines.proofs.Rules.{without-rules, group-out-accepted}
@@ -36,11 +47,15 @@ module _ (told : tie.After-enum-told) where
   abbrev whole : Design
   whole = design (start .args .list) (now (start .args .sets))
 
+  -- the retired numbers with those of the group
+  abbrev gone : List ℕ
+  gone = filedAll (named (numbersOf (start .args .list)) group) (retiredNumbers (start .args .retired))
+
   let-go : groupTakenOut (start .args .list) group .verdict ≡ Accepted
   let-go = sym (ap (λ (l : Listed). l .verdict) (told .before .before .take-out-group .ensures)) ∙ told .enum-told .given .1
 
   list-left : told .before .before .take-out-group .result .list ≡ listWithout group (start .args .list)
-  list-left = ap (λ (l : Listed). l .list) (told .before .before .take-out-group .ensures) ∙ out-list whole (start .pre) group let-go
+  list-left = ap (λ (l : Listed). l .list) (told .before .before .take-out-group .ensures) ∙ out-list whole (start .pre .0) group let-go
 
 -- the sets that are left
 module _ (c : tie.After-sets-left) where
@@ -57,14 +72,14 @@ module _ (c : tie.After-sets-left) where
   built = given Accepted left (replicate 12870 0) (c .sets-left .last .1 .1 .0) (c .sets-left .result) (c .sets-left .ensures)
 
   few : c .sets-left .result ≤ 12870
-  few = omega (arith, built .counted, without-fewer (group told-of) (old .sets), start told-of .pre .sets .most)
+  few = omega (arith, built .counted, without-fewer (group told-of) (old .sets), start told-of .pre .0 .sets .most)
 
 -- some set is left
 made : (c : tie.Else1) → takeOutGroupRefusal (group (told-of (c .before .before))) (old (c .before .before)) ≡ Accepted
 made c =
     let w = c .before .before in
     let told = told-of w in
-    out-some (old w) (start told .pre) (group told) (let-go told) (λ none. omega (arith, c .if1 .left, built w .counted))
+    out-some (old w) (start told .pre .0) (group told) (let-go told) (λ none. omega (arith, c .if1 .left, built w .counted))
 
 -- and what is written is the design without the group
 without-is : (w : tie.After-sets-left) (list : PartList) (sets : List ℕ) → list ≡ listWithout (group (told-of w)) (old w .parts) → sets ≡ left w
@@ -83,8 +98,8 @@ returns c =
     let first = called .before .before .before in
     let a = first .args in
     let d = design (a .list) (now (a .sets)) in
-    refused-kept (takeOutGroupRefusal (a .group) d) (recordBytes (designWithout (a .group) d)) (now (a .buffer)) _
-    (out-refused d (first .pre) (a .group) _ (sym (ap (λ (l : Listed). l .verdict) (called .take-out-group .ensures)) ∙ c .before .verdict .given .1))
+    refused-kept (takeOutGroupRefusal (a .group) d) (storedBytes (inEdition (a .edition) (designWithout (a .group) d) (filedAll (named (numbersOf (a .list)) (a .group)) (retiredNumbers (a .retired))))) (now (a .buffer)) _
+    (out-refused d (first .pre .0) (a .group) _ (sym (ap (λ (l : Listed). l .verdict) (called .take-out-group .ensures)) ∙ c .before .verdict .given .1))
 
 enum-told : tie.Need-enum-told
 enum-told c = search needs
@@ -104,34 +119,52 @@ returns-2 c =
     let told = told-of w in
     let buffer = now (start told .args .buffer) in
     ap (λ (x : Written). outcome x buffer) (c .unwritten .ensures)
-    ∙ refused-kept (takeOutGroupRefusal (group told) (old w)) (recordBytes (designWithout (group told) (old w))) buffer (at inEverySet 0)
-    (out-none (old w) (start told .pre) (group told) (let-go told) (omega (arith, c .before .if1 .taken, built w .counted)))
+    ∙ refused-kept (takeOutGroupRefusal (group told) (old w)) (storedBytes (inEdition (start told .args .edition) (designWithout (group told) (old w)) (gone told))) buffer (at inEverySet 0)
+    (out-none (old w) (start told .pre .0) (group told) (let-go told) (omega (arith, c .before .if1 .taken, built w .counted)))
+
+file-group-requires : tie.Need-file-group-requires
+file-group-requires c κs = let k = start (told-of (c .before .before)) in (k .pre .0 .parts, (k .pre .1 .0, k .pre .1 .1))
+
+-- the retired numbers that are handed on
+filed-few : (c : tie.After-file-group) → (c .file-group .result .count ≤ mostRetired) × (c .file-group .result .count ≤ length (c .file-group .result .numbers))
+filed-few c =
+    let told = told-of (c .before .before .before) in
+    let a = start told .args in
+    let earlier = length-take-le (a .retired .count) (a .retired .numbers) (start told .pre .1 .1) in
+    let most = filedAll-most (named (numbersOf (a .list)) (group told)) (retiredNumbers (a .retired)) (omega (arith, earlier, start told .pre .1 .0)) in
+    subst (λ (r : Retired). (r .count ≤ mostRetired) × (r .count ≤ length (r .numbers))) (sym (c .file-group .ensures))
+    (most, omega (arith, length-append (gone told) (replicate (mostRetired - length (gone told)) 0)))
 
 array-share-prefix-kept : tie.Need-array-share-prefix-kept
-array-share-prefix-kept c = omega (arith, few (c .before .before))
+array-share-prefix-kept c = omega (arith, few (c .before .before .before))
 
-slice-aggregate-write-design : tie.Need-slice-aggregate-write-design
-slice-aggregate-write-design c = let w = c .before .before .before in built w .counted ∙ ap length (sym (built w .front))
+slice-aggregate-write-stored : tie.Need-slice-aggregate-write-stored
+slice-aggregate-write-stored c = let w = c .before .before .before .before in built w .counted ∙ ap length (sym (built w .front))
 
-write-design-requires : tie.Need-write-design-requires
-write-design-requires c κs =
-    let w = c .before .before .before .before in
+write-stored-requires : tie.Need-write-stored-requires
+write-stored-requires c κs =
+    let w = c .before .before .before .before .before in
     let told = told-of w in
-    subst DesignRules (sym (without-is w _ _ (list-left told) (built w .front)))
-    (without-rules (group told) (old w) (start told .pre) (group-out-accepted (group told) (old w) (made (c .before .before)) .2))
+    let kept = filed-few (c .before .before) in (
+      subst DesignRules (sym (without-is w _ _ (list-left told) (built w .front)))
+          (without-rules (group told) (old w) (start told .pre .0) (group-out-accepted (group told) (old w) (made (c .before .before .before)) .2)),
+      kept,
+    )
 
 same-length : tie.Need-same-length
 same-length c = search needs
 
 returns-3 : tie.Need-returns-3
 returns-3 c =
-    let some = c .before .before .before .before .before in
+    let filed = c .before .before .before .before .before in
+    let some = filed .before in
     let w = some .before .before in
     let told = told-of w in
-    let buffer = now (start told .args .buffer) in
-    c .before .before .write-design .ensures
-    ∙ ap (λ (d : Design). delivered Accepted (recordBytes d) buffer) (without-is w _ _ (list-left told) (built w .front))
-    ∙ ap (λ (v : Verdict). delivered v (recordBytes (designWithout (group told) (old w))) buffer) (sym (made some))
+    let a = start told .args in
+    let buffer = now (a .buffer) in
+    c .before .before .write-stored .ensures
+    ∙ ap₂ (λ (x : Design) (l : List ℕ). delivered Accepted (storedBytes (inEdition (a .edition) x l)) buffer) (without-is w _ _ (list-left told) (built w .front)) (ap retiredNumbers (filed .file-group .ensures) ∙ numbers-back (gone told))
+    ∙ ap (λ (v : Verdict). delivered v (storedBytes (inEdition (a .edition) (designWithout (group told) (old w)) (gone told))) buffer) (sym (made some))
 
 pub write-without-spec : {M : Type 1} → statement M
 write-without-spec =
@@ -145,8 +178,9 @@ write-without-spec =
     sets-left-requires
     unwritten-requires
     returns-2
+    file-group-requires
     array-share-prefix-kept
-    slice-aggregate-write-design
-    write-design-requires
+    slice-aggregate-write-stored
+    write-stored-requires
     same-length
     returns-3)

@@ -6,27 +6,29 @@ use mathlib.Core.List.{List}
 use Prim.Native.Nat.{ℕ}
 use native.Mathlib.Omega.{arith}
 use denote.Ref.{now}
-use Rattle.record.specs.declared.Contents.{Contents}
-use Rattle.record_opening.proofs.Loading.{Loaded, metOf, contents-loaded}
+use Rattle.record_editions.specs.declared.StoredRead.{StoredRead}
+use Rattle.record_opening.proofs.Loading.{Loaded, metOf, stored-loaded}
 use borrow.Author.Needs.{needs}
 use Rattle.record_opening.proofs.open_record.Statement.{statement}
 use Rattle.record_opening.proofs.open_record.Tie as tie
 
-loaded : (c : tie.After-whole-record) → Loaded (now (c .before .before .args .bytes)) (c .whole-record .result) (metOf (now (c .before .before .args .bytes)) (c .whole-record .result))
+loaded : (c : tie.After-whole-stored) → Loaded (now (c .before .before .args .bytes)) (c .whole-stored .result) (metOf (now (c .before .before .args .bytes)) (c .whole-stored .result .body .contents))
 loaded c =
-    contents-loaded (now (c .before .before .args .bytes)) (c .whole-record .result) (λ i. omega (arith, c .before .shared-slice-known .given i)) (c .whole-record .ensures)
+    stored-loaded (now (c .before .before .args .bytes)) (c .whole-stored .result) (λ i. omega (arith, c .before .shared-slice-known .given i)) (c .whole-stored .ensures)
 
-whole-record-requires : tie.Need-whole-record-requires
-whole-record-requires c κs = search needs
+whole-stored-requires : tie.Need-whole-stored-requires
+whole-stored-requires c κs = search needs
 
 load-sets-requires : tie.Need-load-sets-requires
-load-sets-requires c κs = (loaded c .most, loaded c .small)
+load-sets-requires c κs = (loaded (c .before .before) .most, loaded (c .before .before) .small)
 
 returns : tie.Need-returns
 returns c =
-    let contents : Contents = c .before .before .whole-record .result in
-    ap (λ (cells : List ℕ). record { list = contents .list; count = contents .sets; sets = cells; verdict = contents .verdict }) (c .before .load-sets .ensures)
-    ∙ loaded (c .before .before) .opened
+    let sets = c .before .before in
+    let read = sets .before .before .before in
+    let w : StoredRead = read .whole-stored .result in
+    ap (λ (cells : List ℕ). record { list = w .body .contents .list; count = w .body .contents .sets; sets = cells; edition = w .edition; retired = w .retired; verdict = w .body .contents .verdict }) (sets .load-sets .ensures)
+    ∙ loaded read .opened
 
 pub open-record-spec : {M : Type 1} → statement M
-open-record-spec = tie.close (tie.spec whole-record-requires load-sets-requires returns)
+open-record-spec = tie.close (tie.spec whole-stored-requires load-sets-requires returns)

@@ -2,7 +2,7 @@
 -- Assumes nothing.
 use denote.Ref.{now}
 use borrow.Author.Needs.{needs}
-use Rattle.record.proofs.Whole.{step-none, step-ended, step-set}
+use Rattle.record.proofs.Walks.{step-none, step-ended, step-set}
 use Rattle.record.proofs.Cursor.step.Statement.{statement}
 use Rattle.record.proofs.Cursor.step.Tie as tie
 

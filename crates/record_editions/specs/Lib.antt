@@ -1,0 +1,4 @@
+pub mod Editions
+pub mod EditionBytes
+pub mod Contents
+pub mod Inside

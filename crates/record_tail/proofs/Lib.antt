@@ -1,0 +1,4 @@
+pub mod RoundTrip
+pub mod Decided
+pub mod Answers
+pub mod Walk

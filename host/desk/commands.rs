@@ -3,7 +3,7 @@
 use crate::arguments::Arguments;
 use crate::ending::Ending;
 use crate::nearest;
-use crate::{changes, diff, entering, explain, figures, idle, page, shares, showing};
+use crate::{changes, diff, edition, entering, explain, figures, idle, page, shares, showing};
 use std::ffi::OsStr;
 
 /// A command of the program.
@@ -43,7 +43,7 @@ const ONE_RECORD: Command = Command {
 };
 
 /// All commands, in the order of the help.
-static COMMANDS: [Command; 15] = [
+static COMMANDS: [Command; 16] = [
     Command {
         name: "enter",
         words: "TEXT RECORD",
@@ -109,7 +109,8 @@ replaced.
         words: "RECORD [--names FILE]",
         summary: "mark, parts and sets, as a text that `enter` takes",
         details: "\
-What it prints makes the same record again, byte for byte. Names are shown as comments.
+What it prints makes the same record again, byte for byte; of an edition 2 record it makes one
+of edition 1. That edition and its retired numbers are shown as comments, and so are names.
 
     nahokipe show tab6.record --names names.txt
 ",
@@ -123,8 +124,9 @@ What it prints makes the same record again, byte for byte. Names are shown as co
         summary: "mark, parts and cut sets, as a text that `enter` takes",
         details: "\
 A cut set is a set of parts whose joint failure stops the machine. The minimal ones, which hold
-no other, are printed. What it prints makes the same record again, byte for byte. Names are
-shown as comments.
+no other, are printed. What it prints makes the same record again, byte for byte; of an edition
+2 record it makes one of edition 1. That edition and its retired numbers are shown as comments,
+and so are names.
 
     nahokipe cuts tab6.record --names names.txt
 ",
@@ -240,8 +242,9 @@ RECORD is replaced by the new record; with -o the new record is written to NEW, 
         summary: "take parts out, with every set that names one",
         details: "\
 The parts are given by their numbers; several leave together or not at all. Their numbers are
-never issued again. RECORD is replaced by the new record; with -o the new record is written
-to NEW, a new file.
+never issued again. An edition 2 record files them as retired, and of more than 64 keeps the
+highest 64. RECORD is replaced by the new record; with -o the new record is written to NEW, a
+new file.
 
     nahokipe take-out tab6.record 7
 ",
@@ -252,12 +255,38 @@ to NEW, a new file.
         ..ONE_RECORD
     },
     Command {
+        name: "edition",
+        words: "RECORD [--names FILE]",
+        summary: "its edition, and the retired numbers",
+        second: Some((
+            "RECORD EDITION [-o NEW]",
+            "the same record in edition 1 or 2",
+        )),
+        details: "\
+An edition 2 record also has the path counts of its machine and its retired numbers: those of
+the parts that were taken out of it, the highest 64. Every command takes both editions, and a
+change keeps the edition.
+
+EDITION is 1 or 2. RECORD is replaced by the record in that edition; with -o that is written to
+NEW, a new file, and RECORD stays as it is. A record with retired numbers does not become one
+of edition 1, which has no place for them.
+
+    nahokipe edition tab6.record 2
+",
+        most: Some(2),
+        takes_names: true,
+        takes_output: true,
+        run: edition::edition,
+        ..ONE_RECORD
+    },
+    Command {
         name: "diff",
         words: "OLD NEW [--names FILE]",
         summary: "parts, sets and figures that changed",
         details: "\
 It also says where NEW cannot have come from OLD by changes, because it has a number again
-that was issued before. The status is 0 whether or not the records differ.
+that was issued before, a lower mark, or retired numbers that changes would not have given it.
+The status is 0 whether or not the records differ.
 
     nahokipe diff old.record tab6.record
 ",

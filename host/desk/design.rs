@@ -15,8 +15,12 @@ pub const TOP_NUMBER: u64 = (1 << 48) - 1;
 pub struct Design {
     /// The record's bytes, as the library made or accepted them.
     pub bytes: Vec<u8>,
+    /// The edition that the record is written in, 1 or 2.
+    pub edition: u8,
     pub mark: u64,
     pub parts: Vec<u64>,
+    /// The numbers that were filed when their parts left, rising; edition 1 has none.
+    pub retired: Vec<u64>,
     pub sets: Vec<Vec<u64>>,
 }
 
@@ -28,10 +32,12 @@ impl Design {
         let set = |mask: u16| nahokipe::numbers_of(&record.numbers, usize::from(mask));
         let sets = masks.map(set).collect::<Result<_, Refusal>>()?;
         Ok(Design {
-            bytes,
+            edition: nahokipe::edition(&bytes)?,
             mark: record.mark,
             parts: record.numbers,
+            retired: nahokipe::retired(&bytes)?,
             sets,
+            bytes,
         })
     }
 
@@ -73,19 +79,27 @@ impl Design {
     pub fn stranger(&self, numbers: &[u64]) -> String {
         let parts = listed(&self.parts);
         match numbers.iter().find(|number| !self.parts.contains(number)) {
+            Some(number) if self.retired.contains(number) => {
+                format!("no part has number {number}, which is retired; the parts are {parts}")
+            }
             Some(&number) => format!("no part has number {}; the parts are {parts}", said(number)),
             None => format!("the parts are {parts}"),
         }
     }
 
-    /// How many parts and sets there are, the mark, and which number comes next.
+    /// How many parts and sets there are, the mark, what edition 2 has beyond that, and which number comes next.
     pub fn in_short(&self) -> String {
         let (parts, sets) = (
             counted(self.size(), "part"),
             counted(self.sets.len(), "set"),
         );
+        let retired = counted(self.retired.len(), "retired number");
+        let edition = match self.edition {
+            1 => String::new(),
+            edition => format!(", edition {edition}, {retired}"),
+        };
         format!(
-            "{parts}, {sets}, mark {}; {}",
+            "{parts}, {sets}, mark {}{edition}; {}",
             self.mark,
             self.next_number()
         )
@@ -115,6 +129,8 @@ pub fn no_record(refusal: Refusal, name: &FileName) -> Ending {
 pub struct Difference<'a> {
     pub parts_left: Vec<u64>,
     pub parts_came: Vec<u64>,
+    pub retired_left: Vec<u64>,
+    pub retired_came: Vec<u64>,
     pub sets_left: Vec<&'a [u64]>,
     pub sets_came: Vec<&'a [u64]>,
 }
@@ -122,17 +138,19 @@ pub struct Difference<'a> {
 impl<'a> Difference<'a> {
     pub fn between(old: &'a Design, new: &'a Design) -> Difference<'a> {
         Difference {
-            parts_left: parts_lacking(&old.parts, &new.parts),
-            parts_came: parts_lacking(&new.parts, &old.parts),
+            parts_left: numbers_lacking(&old.parts, &new.parts),
+            parts_came: numbers_lacking(&new.parts, &old.parts),
+            retired_left: numbers_lacking(&old.retired, &new.retired),
+            retired_came: numbers_lacking(&new.retired, &old.retired),
             sets_left: sets_lacking(&old.sets, &new.sets),
             sets_came: sets_lacking(&new.sets, &old.sets),
         }
     }
 }
 
-/// The parts of one machine that another lacks.
-fn parts_lacking(these: &[u64], those: &[u64]) -> Vec<u64> {
-    let lacking = these.iter().filter(|part| !those.contains(part));
+/// The numbers of one machine that another lacks.
+fn numbers_lacking(these: &[u64], those: &[u64]) -> Vec<u64> {
+    let lacking = these.iter().filter(|number| !those.contains(number));
     lacking.copied().collect()
 }
 

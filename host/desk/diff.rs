@@ -9,8 +9,9 @@ use crate::names::Names;
 use crate::numbers::listed;
 use crate::output::{self, Stream};
 use crate::share::Share;
+use nahokipe::lent::MOST_RETIRED;
 
-/// What a number that comes back, or a lower mark, means.
+/// What a number that comes back, a lower mark, or a retired number that left or came without cause means.
 const OTHER_LINE: &str =
     "  the second record did not come from the first one by changes: it is an older one,
   or on another line of changes
@@ -19,8 +20,9 @@ const OTHER_LINE: &str =
 /// The command `diff`. Its status is 0 whether or not the records differ.
 pub fn diff(arguments: &Arguments) -> Result<(), Ending> {
     let [(old, old_worked), (new, new_worked)] = [machine(arguments, 0)?, machine(arguments, 1)?];
-    let either = [&old.parts[..], &new.parts].concat();
-    let names = Names::read(arguments.names.as_ref(), &either)?;
+    let parts = [&old.parts[..], &new.parts].concat();
+    let retired = [&old.retired[..], &new.retired].concat();
+    let names = Names::read(arguments.names.as_ref(), &parts, &retired)?;
     let text = match old.bytes == new.bytes {
         true => "no difference\n".to_string(),
         false => {
@@ -39,31 +41,50 @@ fn machine(arguments: &Arguments, index: usize) -> Result<(Design, Worked), Endi
     Ok((design, worked))
 }
 
-/// The parts and the sets that left and came, and the mark.
+/// The edition, the parts, retired numbers and sets that left and came, and the mark.
 fn designs_changed(old: &Design, new: &Design, names: &Names) -> String {
     let difference = Difference::between(old, new);
-    let part = |part: u64, what: &str| match names.name(part) {
-        "" => format!("part {part} {what}\n"),
-        name => format!("part {part} {what}  # {name}\n"),
-    };
     let set = |set: &[u64], what: &str| match names.is_empty() {
         true => format!("set {} {what}\n", listed(set)),
         false => format!("set {} {what}  # {}\n", listed(set), names.of_set(set)),
     };
-    let parts_left = difference.parts_left.iter().map(|&one| part(one, "left"));
-    let parts_came = difference.parts_came.iter().map(|&one| part(one, "came"));
     let sets_left = difference.sets_left.iter().map(|one| set(one, "left"));
     let sets_came = difference.sets_came.iter().map(|one| set(one, "came"));
-    let mark = match old.mark == new.mark {
-        true => String::new(),
-        false => format!("mark was {}, is {}\n", old.mark, new.mark),
-    };
-    let lines = parts_left.chain(parts_came).chain([mark]);
-    let lines = lines.chain(sets_left).chain(sets_came);
-    other_line(old, new, &difference) + &lines.collect::<String>()
+    let lines = [
+        other_line(old, new, &difference),
+        was_and_is("edition", old.edition.into(), new.edition.into()),
+        numbers_changed("part", &difference.parts_left, "left", names),
+        numbers_changed("part", &difference.parts_came, "came", names),
+        numbers_changed("retired number", &difference.retired_left, "left", names),
+        numbers_changed("retired number", &difference.retired_came, "came", names),
+        was_and_is("mark", old.mark, new.mark),
+    ];
+    lines
+        .into_iter()
+        .chain(sets_left)
+        .chain(sets_came)
+        .collect()
 }
 
-/// Why the second record cannot have come from the first by changes: a number would have been issued again, or the mark lowered.
+/// A line for a number that changed.
+fn was_and_is(what: &str, old: u64, new: u64) -> String {
+    match old == new {
+        true => String::new(),
+        false => format!("{what} was {old}, is {new}\n"),
+    }
+}
+
+/// A line for each number that left or came.
+fn numbers_changed(what: &str, numbers: &[u64], change: &str, names: &Names) -> String {
+    let line = |&number: &u64| match names.name(number) {
+        "" => format!("{what} {number} {change}\n"),
+        name => format!("{what} {number} {change}  # {name}\n"),
+    };
+    numbers.iter().map(line).collect()
+}
+
+/// Why the second record cannot have come from the first by changes: a number would have been issued again, the mark lowered, or a retired
+/// number lost, or filed though its part had left before.
 fn other_line(old: &Design, new: &Design, difference: &Difference) -> String {
     let came = difference.parts_came.iter();
     let again = came.filter(|&&part| part <= old.mark);
@@ -76,10 +97,36 @@ fn other_line(old: &Design, new: &Design, difference: &Difference) -> String {
     if new.mark < old.mark {
         text += "a warning: the mark is lower than it was\n";
     }
+    for number in lost(new, difference) {
+        text += &format!(
+            "a warning: {number} is no longer retired, and 64 higher ones did not take its place\n"
+        );
+    }
+    for number in filed_late(old, difference) {
+        text += &format!(
+            "a warning: {number} is retired now, and its part had left before, as the old mark says\n"
+        );
+    }
     match text.is_empty() {
         true => text,
         false => text + OTHER_LINE,
     }
+}
+
+/// The retired numbers that left though the list does not have 64 higher ones, for which alone one is dropped.
+fn lost<'a>(new: &Design, difference: &'a Difference) -> impl Iterator<Item = &'a u64> {
+    let lowest = match new.retired.len() {
+        MOST_RETIRED => new.retired[0],
+        _ => 0,
+    };
+    let left = difference.retired_left.iter();
+    left.filter(move |&&number| number > lowest)
+}
+
+/// The retired numbers that came though they had been issued before and were no part's.
+fn filed_late<'a>(old: &'a Design, difference: &'a Difference) -> impl Iterator<Item = &'a u64> {
+    let came = difference.retired_came.iter();
+    came.filter(|number| **number <= old.mark && !old.parts.contains(number))
 }
 
 /// A machine and its figures.

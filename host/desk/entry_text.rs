@@ -2,6 +2,7 @@
 //! to run it, or in their place `cut 7 12` for each set whose joint failure stops it.
 
 use crate::design::{holds, Design, TOP_NUMBER};
+use crate::edition;
 use crate::files::{harmless, past_mark};
 use crate::meaning::Meaning;
 use crate::names::Names;
@@ -185,7 +186,7 @@ impl Entry {
     }
 }
 
-/// The text of a machine, by its minimal path sets or its minimal cut sets, names as comments.
+/// The text of a machine, by its minimal path sets or its minimal cut sets; names, and what edition 2 has beyond edition 1, as comments.
 pub fn text_of(design: &Design, meaning: Meaning, minimal: &[Vec<u64>], names: &Names) -> String {
     let mut text = format!("mark {}\nparts {}\n", design.mark, listed(&design.parts));
     for &part in design
@@ -195,6 +196,7 @@ pub fn text_of(design: &Design, meaning: Meaning, minimal: &[Vec<u64>], names: &
     {
         text += &format!("# {part} {}\n", names.name(part));
     }
+    text += &edition::comments(design, names);
     let sets: Vec<String> = minimal.iter().map(|set| listed(set)).collect();
     let width = sets.iter().map(String::len).max().unwrap_or(0);
     let word = meaning.word();

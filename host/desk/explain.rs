@@ -24,7 +24,7 @@ const BYTE_LINE_OR_NONE: &str = "in a record the byte where the number stands, c
 const BYTE_OR_INDEX: &str = "in a record the byte where the set stands, counted from 0; in a program's list the set, counted from 0; 0 for a set that is added";
 
 /// The explanations, that of refusal 1 first.
-const EXPLANATIONS: [Explanation; 29] = [
+const EXPLANATIONS: [Explanation; 32] = [
     Explanation {
         meaning: "the number of parts is not 1 to 16",
         place: BYTE_LINE_OR_NONE,
@@ -199,6 +199,24 @@ const EXPLANATIONS: [Explanation; 29] = [
         cause: "K and N were exchanged, as in `nahokipe new at-least 3 2`",
         remedy: "write K first, how many parts have to work or how many neighbours have to fail, and then N: `nahokipe new at-least 2 3`",
     },
+    Explanation {
+        meaning: "an edition 2 record has over 64 retired numbers, or one that is 0, does not rise, is above the mark or in use",
+        place: "the byte where the retired number begins, counted from 0; where there are over 64, that of their count",
+        cause: "a record that was made or changed by hand, or is damaged at that byte",
+        remedy: "go back to a copy that is whole; `nahokipe edition` and `nahokipe take-out` write the list",
+    },
+    Explanation {
+        meaning: "a path count of an edition 2 record is not the one that its sets give",
+        place: "the byte where the path count begins, counted from 0",
+        cause: "the sets were changed by hand and the counts were not, or the record is damaged",
+        remedy: "go back to a copy that is whole, and look at its sets; `nahokipe add-set` and `nahokipe take-out` keep the counts right",
+    },
+    Explanation {
+        meaning: "the record has retired numbers, which edition 1 has no place for",
+        place: "",
+        cause: "parts were taken out of the record in edition 2, which files their numbers",
+        remedy: "keep it in edition 2, which every command takes; or make another record without them, by `nahokipe show` and `nahokipe enter`",
+    },
 ];
 
 /// The command `explain`: a refusal in words.
@@ -210,7 +228,7 @@ pub fn explain(arguments: &Arguments) -> Result<(), Ending> {
         .collect();
     let known = |word: &str| number(word.as_bytes()).and_then(explanation);
     let Some(explanation) = known(&words[0]) else {
-        return Err(wrong(&words[0], "refusal's number; they are 1 to 29"));
+        return Err(wrong(&words[0], "refusal's number; they are 1 to 32"));
     };
     let place = words
         .get(1)

@@ -66,7 +66,7 @@ pub fn orders(n: usize) -> u64 {
 pub fn figures(arguments: &Arguments) -> Result<(), Ending> {
     let name = arguments.file(0);
     let design = Design::read(&name)?;
-    let names = Names::read(arguments.names.as_ref(), &design.parts)?;
+    let names = Names::read(arguments.names.as_ref(), &design.parts, &design.retired)?;
     let refused = |refusal| Ending::refused(refusal, &name);
     let worked = Worked::of(&design).map_err(refused)?;
     let idle = design.idle().map_err(refused)?;
@@ -78,7 +78,8 @@ pub fn figures(arguments: &Arguments) -> Result<(), Ending> {
         domination(&worked),
         importance(&design, &worked, &names) + &idle_parts(&idle),
     ];
-    output::print(&blocks.join("\n"), Stream::Output)
+    let text = blocks.join("\n") + &retired(&design, &names);
+    output::print(&text, Stream::Output)
 }
 
 fn head(design: &Design, worked: &Worked) -> String {
@@ -201,4 +202,19 @@ fn idle_parts(idle: &[u64]) -> String {
             listed(parts)
         ),
     }
+}
+
+/// The retired numbers, a block by themselves; nothing where there is none.
+fn retired(design: &Design, names: &Names) -> String {
+    if design.retired.is_empty() {
+        return String::new();
+    }
+    let heading = if names.is_empty() { "" } else { "name" };
+    let mut rows = vec![row([&"number", &heading])];
+    let one = |&number: &u64| row([&number, &names.name(number)]);
+    rows.extend(design.retired.iter().map(one));
+    format!(
+        "\nRetired numbers: those of parts that have left\n{}",
+        columns(&rows, true)
+    )
 }

@@ -10,22 +10,12 @@ use crate::output::{self, Stream};
 pub fn idle(arguments: &Arguments) -> Result<(), Ending> {
     let name = arguments.file(0);
     let design = Design::read(&name)?;
-    let names = Names::read(arguments.names.as_ref(), &design.parts)?;
+    let names = Names::read(arguments.names.as_ref(), &design.parts, &design.retired)?;
     let idle = design.idle();
     let idle = idle.map_err(|refusal| Ending::refused(refusal, &name))?;
-    output::print(&lines_of(&idle, &names), Stream::Output)
-}
-
-/// The lines of the idle parts, with the names as comments.
-fn lines_of(idle: &[u64], names: &Names) -> String {
-    let digits = |part: &u64| part.to_string().len();
-    let width = idle.iter().map(digits).max().unwrap_or(0);
-    let line = |&part: &u64| match names.name(part) {
-        "" => format!("idle {part}\n"),
-        name => format!("idle {part:<width$}  # {name}\n"),
+    let text = match idle.is_empty() {
+        true => "# no part is idle\n".to_string(),
+        false => names.lines("idle", &idle),
     };
-    match idle {
-        [] => "# no part is idle\n".to_string(),
-        parts => parts.iter().map(line).collect(),
-    }
+    output::print(&text, Stream::Output)
 }

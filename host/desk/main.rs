@@ -9,6 +9,7 @@ mod columns;
 mod commands;
 mod design;
 mod diff;
+mod edition;
 mod ending;
 mod entering;
 mod entry_text;

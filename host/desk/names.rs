@@ -14,8 +14,9 @@ pub struct Names {
 }
 
 impl Names {
-    /// The names of a file, if there is one. A name for a number that is none of these parts' is said, since it may be mistyped.
-    pub fn read(file: Option<&FileName>, parts: &[u64]) -> Result<Names, Ending> {
+    /// The names of a file, if there is one. A name for a number that is none of these parts' and not retired is said, since it may be
+    /// mistyped.
+    pub fn read(file: Option<&FileName>, parts: &[u64], retired: &[u64]) -> Result<Names, Ending> {
         let Some(file) = file else {
             return Ok(Names::default());
         };
@@ -23,7 +24,7 @@ impl Names {
         let wrong = |(line, why)| Ending::WrongUse(format!("{file}: line {line}: {why}"));
         let names = Names::of(&text).map_err(wrong)?;
         for (part, name) in &names.names {
-            if !parts.contains(part) {
+            if !parts.contains(part) && !retired.contains(part) {
                 let (part, parts) = (said(*part), listed(parts));
                 let why = format!("no part has number {part}; the parts are {parts}");
                 output::say(&format!("nahokipe: {file}: {part} {name}: {why}\n"));
@@ -59,6 +60,17 @@ impl Names {
     /// The name of a part, empty where it has none.
     pub fn name(&self, part: u64) -> &str {
         self.names.get(&part).map_or("", String::as_str)
+    }
+
+    /// A line for each of some numbers behind a word, with the names as comments.
+    pub fn lines(&self, word: &str, numbers: &[u64]) -> String {
+        let digits = |number: &u64| number.to_string().len();
+        let width = numbers.iter().map(digits).max().unwrap_or(0);
+        let line = |&number: &u64| match self.name(number) {
+            "" => format!("{word} {number}\n"),
+            name => format!("{word} {number:<width$}  # {name}\n"),
+        };
+        numbers.iter().map(line).collect()
     }
 
     /// The names of several parts with commas between them, the number of one that has none.

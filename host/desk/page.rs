@@ -19,7 +19,7 @@ const SETS_AT_ONCE: usize = 100;
 pub fn page(arguments: &Arguments) -> Result<(), Ending> {
     let name = arguments.file(0);
     let design = Design::read(&name)?;
-    let names = Names::read(arguments.names.as_ref(), &design.parts)?;
+    let names = Names::read(arguments.names.as_ref(), &design.parts, &design.retired)?;
     let worked = Worked::of(&design).map_err(|refusal| Ending::refused(refusal, &name))?;
     let text = page_text(&title(&name), &design, &worked, &names);
     match &arguments.output {
@@ -48,6 +48,7 @@ fn page_text(title: &str, design: &Design, worked: &Worked, names: &Names) -> St
     let sections = [
         head(&title, design, worked),
         parts(design, names),
+        retired(design, names),
         sets(design, names),
         signature(worked),
         importance(design, worked, names),
@@ -140,6 +141,21 @@ fn parts(design: &Design, names: &Names) -> String {
     });
     let sentence = "Each part by its number, and how many of the smallest sets name it.";
     section("Parts", sentence, &table(&["part", "sets"], rows))
+}
+
+/// The retired numbers of an edition 2 record; edition 1 keeps none.
+fn retired(design: &Design, names: &Names) -> String {
+    if design.edition == 1 {
+        return String::new();
+    }
+    let line = |&number: &u64| format!("<li>{}</li>\n", escaped(&named(number, names)));
+    let lines: String = design.retired.iter().map(line).collect();
+    let content = match lines.is_empty() {
+        true => "<p>There is none.</p>\n".to_string(),
+        false => format!("<ul class=\"sets\">\n{lines}</ul>\n"),
+    };
+    let sentence = "The record is of edition 2, which keeps the numbers of parts that have left: the highest 64, if there are more.";
+    section("Retired numbers", sentence, &content)
 }
 
 fn sets(design: &Design, names: &Names) -> String {

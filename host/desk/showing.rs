@@ -25,7 +25,7 @@ pub fn cuts(arguments: &Arguments) -> Result<(), Ending> {
 fn as_text(arguments: &Arguments, meaning: Meaning) -> Result<(), Ending> {
     let name = arguments.file(0);
     let design = Design::read(&name)?;
-    let names = Names::read(arguments.names.as_ref(), &design.parts)?;
+    let names = Names::read(arguments.names.as_ref(), &design.parts, &design.retired)?;
     let minimal = design.minimal(meaning);
     let minimal = minimal.map_err(|refusal| Ending::refused(refusal, &name))?;
     let text = text_of(&design, meaning, &minimal, &names);

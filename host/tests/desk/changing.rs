@@ -13,7 +13,12 @@ fn expected(changed: Result<Design, Refusal>) -> Result<Vec<u8>, Refusal> {
 }
 
 /// Runs a change on a record's file and compares what stands there afterwards.
-fn same_change(bytes: &[u8], command: &str, numbers: &[u64], expected: Result<Vec<u8>, Refusal>) {
+pub fn same_change(
+    bytes: &[u8],
+    command: &str,
+    numbers: &[u64],
+    expected: Result<Vec<u8>, Refusal>,
+) {
     let folder = Folder::with("record", bytes);
     let numbers: Vec<String> = numbers.iter().map(u64::to_string).collect();
     let words: Vec<&str> = [command, "record"]

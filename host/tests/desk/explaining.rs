@@ -9,7 +9,7 @@ use std::collections::BTreeSet;
 fn every_refusal() {
     let folder = Folder::new();
     let mut meanings = BTreeSet::new();
-    for number in 1..=29 {
+    for number in 1..=32 {
         let word = number.to_string();
         let text = folder.run(&["explain", &word]).done();
         assert!(text.starts_with(&format!("refused {number}: ")), "{text}");
@@ -29,21 +29,21 @@ fn every_refusal() {
         assert_ne!(
             refusal.reason(),
             Refusal {
-                number: 30,
+                number: 33,
                 place: 0
             }
             .reason()
         );
     }
-    assert_eq!(meanings.len(), 29);
+    assert_eq!(meanings.len(), 32);
 }
 
 /// The places are explained exactly where there are any.
 #[test]
 fn places() {
     let folder = Folder::new();
-    let without = [6, 7, 8, 9, 12, 15, 16, 18, 19, 20, 26, 29];
-    for number in 1..=29 {
+    let without = [6, 7, 8, 9, 12, 15, 16, 18, 19, 20, 26, 29, 32];
+    for number in 1..=32 {
         let text = folder.run(&["explain", &number.to_string(), "3"]).done();
         assert_eq!(
             text.contains("\nplace 3: "),
@@ -56,12 +56,12 @@ fn places() {
 #[test]
 fn what_is_no_refusal() {
     let folder = Folder::new();
-    for word in ["0", "30", "256", "18446744073709551616", "x", "", "01"] {
+    for word in ["0", "33", "256", "18446744073709551616", "x", "", "01"] {
         let error = folder.run(&["explain", word]).failed();
         assert_has(
             &error,
             &[&format!(
-                "`{word}` is no refusal's number; they are 1 to 29"
+                "`{word}` is no refusal's number; they are 1 to 32"
             )],
         );
     }

@@ -94,6 +94,8 @@ fn a_limit_on_the_length_of_files() {
         "enter text new",
         "new row 1 2 new",
         "add-part record -o new",
+        "edition record 2",
+        "edition record 2 -o new",
         "page record -o new",
     ] {
         let ran = folder.shell(&format!("ulimit -f 0; exec nahokipe {words}"));
@@ -117,13 +119,14 @@ fn files_that_are_there() {
     symlink("nowhere", folder.file("link")).expect("a link");
     fs::create_dir(folder.file("folder")).expect("a folder");
     for target in ["there", "record", "text", "link", "folder", "/dev/null"] {
-        let words: [&[&str]; 7] = [
+        let words: [&[&str]; 8] = [
             &["enter", "text", target],
             &["new", "drawing", target],
             &["new", "row", "1", "2", target],
             &["add-part", "record", "-o", target],
             &["add-set", "record", "1", "-o", target],
             &["take-out", "record", "1", "-o", target],
+            &["edition", "record", "2", "-o", target],
             &["page", "record", "-o", target],
         ];
         for words in words {

@@ -4,6 +4,7 @@ mod changing;
 mod comparing;
 mod counting;
 mod cutting;
+mod editions;
 mod entering;
 mod explaining;
 mod faults;
@@ -15,6 +16,7 @@ mod markup;
 mod pages;
 mod patterns;
 mod refusing;
+mod retired;
 mod script;
 #[path = "../../desk/share.rs"]
 mod share;

@@ -4,7 +4,7 @@ use crate::folder::{assert_has, Folder, BRIDGE, PUMPS};
 use std::fs;
 
 /// The commands that read one record, with what else they want.
-const READING: [&[&str]; 12] = [
+pub const READING: [&[&str]; 14] = [
     &["show"],
     &["cuts"],
     &["idle"],
@@ -16,11 +16,13 @@ const READING: [&[&str]; 12] = [
     &["add-part"],
     &["add-set", "1"],
     &["take-out", "1"],
+    &["edition"],
+    &["edition", "2"],
     &["diff", "good"],
 ];
 
 /// A command of these on a file.
-fn words<'a>(command: &[&'a str], file: &'a str) -> Vec<&'a str> {
+pub fn words<'a>(command: &[&'a str], file: &'a str) -> Vec<&'a str> {
     [&command[..1], &[file], &command[1..]].concat()
 }
 
@@ -122,6 +124,7 @@ fn folders_that_are_none() {
             ["enter", "text", target].as_slice(),
             &["new", "row", "1", "2", target],
             &["add-part", "record", "-o", target],
+            &["edition", "record", "2", "-o", target],
         ] {
             let error = folder.run(words).failed();
             assert!(

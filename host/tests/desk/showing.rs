@@ -119,7 +119,7 @@ set 3 12  # controller, Fühler <1> & \"2\"
 fn names_for_some_parts_and_for_none() {
     let folder = Folder::with("pumps", PUMPS);
     folder.write("names", "3 controller\n8 old pump\n");
-    for command in ["show", "cuts", "idle", "figures", "page"] {
+    for command in ["show", "cuts", "idle", "figures", "edition", "page"] {
         let ran = folder.run(&[command, "pumps", "--names", "names"]);
         let said = "nahokipe: names: 8 old pump: no part has number 8; the parts are 3 7 12\n";
         assert_eq!((ran.status, ran.error.as_str()), (Some(0), said));

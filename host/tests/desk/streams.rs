@@ -34,7 +34,7 @@ fn a_closed_pipe_ends_quietly() {
     let folder = Folder::with("record", largest_record());
     folder.write("pumps", PUMPS);
     for command in [
-        "show", "cuts", "idle", "report", "figures", "drawing", "page",
+        "show", "cuts", "idle", "report", "figures", "drawing", "edition", "page",
     ] {
         let ran = closed(&folder, &[command, "record"], None);
         let quiet = ran.error.is_empty() || command == "drawing" && ran.error.contains("a warning");
@@ -89,7 +89,7 @@ fn the_head_of_a_page() {
 fn a_full_disk_behind_standard_output() {
     let folder = Folder::with("pumps", PUMPS);
     folder.write("text", "mark 5\nparts 1 2\nset 1\n");
-    let printing: [&[&str]; 10] = [
+    let printing: [&[&str]; 12] = [
         &["show", "pumps"],
         &["cuts", "pumps"],
         &["idle", "pumps"],
@@ -99,6 +99,8 @@ fn a_full_disk_behind_standard_output() {
         &["enter", "text", "-"],
         &["new", "row", "1", "2", "-"],
         &["add-part", "pumps", "-o", "-"],
+        &["edition", "pumps"],
+        &["edition", "pumps", "2", "-o", "-"],
         &["diff", "pumps", "pumps"],
     ];
     for words in printing {

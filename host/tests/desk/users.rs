@@ -85,7 +85,7 @@ fn files_that_may_not_be_read() {
         return;
     };
     unprivileged.folder.set_mode("secret", 0o000);
-    for command in ["show", "report", "add-part"] {
+    for command in ["show", "report", "add-part", "edition"] {
         let error = unprivileged.run(&[command, "secret"]).failed();
         assert_eq!(error, "nahokipe: secret: Permission denied\n");
     }
@@ -110,6 +110,7 @@ fn read_only_folders_and_records() {
         ["enter", "text", "new"].as_slice(),
         &["new", "row", "1", "2", "new"],
         &["add-part", "record", "-o", "new"],
+        &["edition", "record", "2", "-o", "new"],
         &["page", "record", "-o", "new"],
     ] {
         let error = unprivileged.run(words).failed();

@@ -3,9 +3,9 @@
 use crate::folder::{assert_has, Folder, PUMPS};
 
 /// All commands.
-pub const COMMANDS: [&str; 15] = [
+pub const COMMANDS: [&str; 16] = [
     "enter", "new", "show", "cuts", "idle", "drawing", "report", "figures", "shares", "add-part",
-    "add-set", "take-out", "diff", "page", "explain",
+    "add-set", "take-out", "edition", "diff", "page", "explain",
 ];
 
 #[test]
@@ -70,6 +70,7 @@ fn no_command_and_unknown_commands() {
         ("Idle", "idle"),
         ("idel", "idle"),
         ("news", "new"),
+        ("editions", "edition"),
     ];
     for (word, nearest) in cases {
         let error = folder.run(&[word, "record"]).failed();
@@ -85,7 +86,7 @@ fn no_command_and_unknown_commands() {
 }
 
 /// Words that are wrong, and what is said of them.
-const WRONG_USES: [(&[&str], &str); 47] = [
+const WRONG_USES: [(&[&str], &str); 57] = [
     (&["enter", "text"], "a word is missing"),
     (
         &["enter", "text", "record", "more"],
@@ -187,6 +188,28 @@ const WRONG_USES: [(&[&str], &str); 47] = [
     (&["take-out", "pumps", ""], "`` is no part number"),
     (&["take-out", "pumps", "-7"], "there is no option `-7`"),
     (&["take-out", "pumps", "--", "-7"], "`-7` is no part number"),
+    (&["edition"], "a word is missing"),
+    (&["edition", "pumps", "2", "3"], "`3` is a word too many"),
+    (
+        &["edition", "pumps", "3"],
+        "there is no edition `3`; there are 1 and 2",
+    ),
+    (&["edition", "pumps", "0"], "there is no edition `0`"),
+    (&["edition", "pumps", "02"], "there is no edition `02`"),
+    (&["edition", "pumps", "two"], "there is no edition `two`"),
+    (&["edition", "pumps", "-2"], "there is no option `-2`"),
+    (
+        &["edition", "pumps", "-o", "new"],
+        "a word is missing: with -o, EDITION is 1 or 2",
+    ),
+    (
+        &["edition", "pumps", "2", "--names", "names"],
+        "`--names` goes with RECORD alone",
+    ),
+    (
+        &["edition", "-", "--names", "-"],
+        "standard input cannot be read twice",
+    ),
     (&["shares", "pumps"], "a word is missing"),
     (&["shares", "pumps", "3", "3"], "number 3 stands twice"),
     (&["diff", "pumps"], "a word is missing"),

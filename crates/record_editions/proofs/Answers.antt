@@ -9,7 +9,7 @@ use native.Mathlib.Nat.{le-of-suc-le-suc}
 use native.Mathlib.Omega.{arith}
 use borrow.Author.Tests.{eq-eqb, ne-eqb, lt-ltb, le-ltb}
 use lib.Dec.{eqb}
-use lib.ListN.{length, getD}
+use lib.ListN.{length, getD, List·getD-eq-default}
 use Rattle.numbers.proofs.Bools.{clash}
 use Rattle.numbers.proofs.Bounds.{below-or-above}
 use Rattle.answer.specs.Outcome.{at}
@@ -45,15 +45,10 @@ getD-there [] i d e h = absurd (omega arith)
 getD-there (x ∷ bytes) zero d e h = refl
 getD-there (x ∷ bytes) (suc i) d e h = getD-there bytes i d e (le-of-suc-le-suc h)
 
-getD-none : (bytes : List ℕ) (i d : ℕ) → length bytes ≤ i → getD bytes i d ≡ d
-getD-none [] i d h = refl
-getD-none (x ∷ bytes) zero d h = absurd (omega arith)
-getD-none (x ∷ bytes) (suc i) d h = getD-none bytes i d (le-of-suc-le-suc h)
-
 module _ (bytes : List ℕ) (start : ℕ) where
   pub second-short : length bytes ≤ start + 1 → secondThere bytes start ≡ false
   unfolding secondThere
-  second-short h = rw (getD-none bytes (start + 1) 1 h) (and-false (eqb (getD bytes start 1) 0))
+  second-short h = rw (List·getD-eq-default bytes 1 h) (and-false (eqb (getD bytes start 1) 0))
 
   pub second-other : start < length bytes → (getD bytes start 0 ≡ 0 → ⊥) → secondThere bytes start ≡ false
   unfolding secondThere

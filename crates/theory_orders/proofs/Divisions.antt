@@ -29,13 +29,13 @@ unfoldable pub divisions : (List ℕ → List ℕ → ℕ) → List ℕ → ℕ
 divisions f [] = f [] []
 divisions f (i ∷ rest) = f [] (i ∷ rest) + divisions (λ before after. f (i ∷ before) after) rest
 
-divisions-same : (f g : List ℕ → List ℕ → ℕ) (list : List ℕ) → ((before after : List ℕ) → f before after ≡ g before after)
+pub divisions-same : (f g : List ℕ → List ℕ → ℕ) (list : List ℕ) → ((before after : List ℕ) → f before after ≡ g before after)
     → divisions f list ≡ divisions g list
 unfolding divisions
 divisions-same f g [] h = h [] []
 divisions-same f g (i ∷ rest) h = ap₂ (λ (u v : ℕ). u + v) (h [] (i ∷ rest)) (divisions-same _ _ rest (λ before after. h (i ∷ before) after))
 
-divisions-add : (f g : List ℕ → List ℕ → ℕ) (list : List ℕ)
+pub divisions-add : (f g : List ℕ → List ℕ → ℕ) (list : List ℕ)
     → divisions (λ before after. f before after + g before after) list ≡ divisions f list + divisions g list
 unfolding divisions
 divisions-add f g [] = refl
@@ -45,7 +45,7 @@ divisions-add f g (i ∷ rest) =
     ∙ omega arith
 
 -- a position that is put in stands before the place or after it
-divisions-inserted : (f : List ℕ → List ℕ → ℕ) (i : ℕ) (list : List ℕ)
+pub divisions-inserted : (f : List ℕ → List ℕ → ℕ) (i : ℕ) (list : List ℕ)
     → sum (divisions f) (inserted i list)
     ≡ divisions (λ before after. sum (λ b. f b after) (inserted i before) + sum (λ a. f before a) (inserted i after)) list
 unfolding divisions inserted sum

@@ -20,7 +20,7 @@ stop-or-later first false h = add-zero (indicator first)
 
 module _ (n : ℕ) (works : ℕ → Bool) (coherent : Semicoherent n works) where
   -- a set of parts that are left works with the part that has failed last if it works without it
-  works-before : (i : ℕ) (rest : List ℕ) → Within n (i ∷ rest) → works (mask rest) ≡ true → works (mask (i ∷ rest)) ≡ true
+  pub works-before : (i : ℕ) (rest : List ℕ) → Within n (i ∷ rest) → works (mask rest) ≡ true → works (mask (i ∷ rest)) ≡ true
   works-before i rest h w =
       let step = mask-step n i rest h in
       ap works (step .4)

@@ -15,7 +15,7 @@ use Rattle.structure_words.specs.Words.{wordOf}
 use Rattle.figures_counts.specs.Rows.{hasPart}
 use Rattle.figures_counts.specs.Inside.{inWord}
 use Rattle.numbers.proofs.Tables.{tabulate-same}
-use Rattle.figures_counts.proofs.Rows.{row-length, row-few, row-old, row-back}
+use Rattle.numbers.proofs.Parts.{part-length, part-few, part-old, part-back}
 use Rattle.figures_counts.proofs.add_rows.Statement.{statement}
 use Rattle.figures_counts.proofs.add_rows.Tie as tie
 
@@ -76,9 +76,9 @@ add-word-requires c κs =
     let a = start .args in
     let from : ℕ = 17 * head .loop .part in
     let f = more (now (a .rows)) (a .word) (a .at) in (
-      row-length f (now (a .rows)) (head .loop .rows) from (head .loop .inv .1) (room (c .before .before)),
+      part-length f (now (a .rows)) (head .loop .rows) from 17 (head .loop .inv .1) (room (c .before .before)),
       (
-        row-few f (now (a .rows)) (head .loop .rows) from (head .loop .inv .1) (room (c .before .before)) 65536 (start .pre .1 .0),
+        part-few f (now (a .rows)) (head .loop .rows) from 17 (head .loop .inv .1) (room (c .before .before)) 65536 (start .pre .1 .0),
         ones-le 10 (a .at) (start .pre .1 .1),
       ),
     )
@@ -103,12 +103,12 @@ loop-again c =
     let next : from + 17 ≡ 17 * (part + 1) = omega arith in
     let f = more (now (a .rows)) (a .word) (a .at) in (
       omega arith,
-      row-back f (now (a .rows)) (head .loop .rows) from (head .loop .inv .1) (room turn) (added .add-word .last .0)
+      part-back f (now (a .rows)) (head .loop .rows) from 17 (head .loop .inv .1) (room turn) (added .add-word .last .0)
           (added .add-word .ensures
           ∙ tabulate-same 17 _ (λ s. f (from + s)) (λ s h.
           let row : (from + s) / 17 ≡ part = omega arith in
           let column : (from + s) % 17 ≡ s = omega arith in
-          ap₂ (λ (x y : ℕ). x + y) (row-old f (now (a .rows)) (head .loop .rows) from (head .loop .inv .1) (room turn) s h)
+          ap₂ (λ (x y : ℕ). x + y) (part-old f (now (a .rows)) (head .loop .rows) from 17 (head .loop .inv .1) (room turn) s h)
           (ap (λ (w : ℕ). inWord (meet (a .word) w) (size (a .at)) s) (masked .having .ensures)
           ∙ sym (ap₂ (λ (p x : ℕ). inWord (meet (a .word) (wordOf (hasPart p) (a .at))) (size (a .at)) x) row column))))
           ∙ ap (filled f (now (a .rows))) next,

@@ -27,8 +27,9 @@ use Rattle.structure_words.specs.Words.{inWords, wordsOf}
 use Rattle.numbers.proofs.Counts.{factorials-few}
 use Rattle.shares_claim.specs.SetBySet.{shareOf, sharesBySets}
 use Rattle.shares_claim.proofs.Types.{inside-most, inside-and-outside, outside-most}
-use Rattle.shares_group.specs.Inside.{gathered}
-use Rattle.shares_group.proofs.Gathering.{gathered-list-few, gathered-words}
+use Rattle.theory_sums.specs.Sums.{gathered}
+use Rattle.theory_sums.proofs.Gathering.{gathered-list-few}
+use Rattle.shares_group.proofs.Gathering.{gathered-words}
 use Rattle.shares_by_sets.specs.Inside.{weight, addedBy, takenBy}
 
 -- ---- ranges

@@ -13,7 +13,7 @@ ghost use Rattle.answer.specs.Outcome.{outcome, delivered};
 ghost use Rattle.structure_words.specs.Words.{inWords};
 ghost use Rattle.shares_claim.specs.SetBySet.{sharesBySets};
 ghost use Rattle.shares_claim.specs.Refusals.{sharesRefusal};
-ghost use Rattle.shares_group.specs.Inside.{gathered};
+ghost use Rattle.theory_sums.specs.Sums.{gathered};
 ghost use Rattle.shares_by_sets.specs.Inside.{weight as weightOf, addedBy, takenBy};
 
 // The m shares of a group, set by set, into a lent buffer.

@@ -16,7 +16,7 @@ use borrow.Author.Tests.{eqb-true, eq-eqb}
 use Rattle.numbers.specs.Counts.{choose}
 use Rattle.numbers.specs.Tables.{tabulate, NoneOver}
 use Rattle.numbers.proofs.Tables.{tabulate-at, tabulate-length, tabulate-same}
-use Rattle.theory_sums.specs.Sums.{sumBelowℤ}
+use Rattle.theory_sums.specs.Sums.{sumBelowℤ, gathered}
 use Rattle.theory_sums.proofs.Sums.{sumBelow-same}
 use Rattle.theory_sums.proofs.Integers.{*ℤ-unit, negℤ-*ℤ, unit-*ℤ, *ℤ-assoc, ring}
 use Rattle.theory_sums.proofs.IntegerSums.{sumBelowℤ-same, sumBelowℤ-mul}
@@ -31,8 +31,8 @@ use Rattle.shares_claim.specs.Reliability.{reliability, reliabilityCells}
 use Rattle.shares_claim.proofs.Types.{typeCount, inside-most, outside-most}
 use Rattle.numbers.proofs.Counts.{choose-small}
 use Rattle.shares_claim.proofs.Reliability.{reliability-by-type}
-use Rattle.shares_group.specs.Inside.{gathered}
-use Rattle.shares_group.proofs.Gathering.{gathered-list-few, gathered-words}
+use Rattle.theory_sums.proofs.Gathering.{gathered-list-few}
+use Rattle.shares_group.proofs.Gathering.{gathered-words}
 use Rattle.shares_polynomial.specs.Inside.{typeOf, typeTerm, coefficientOf}
 use Rattle.shares_claim.proofs.Sums.{row-below, place-below, grid-sum}
 

@@ -13,7 +13,7 @@ ghost use Rattle.structure_words.specs.Words.{inWords};
 ghost use Rattle.shares_claim.specs.Polynomials.{rowLength};
 ghost use Rattle.shares_claim.specs.Reliability.{reliabilityCells};
 ghost use Rattle.shares_claim.specs.Refusals.{sharesRefusal};
-ghost use Rattle.shares_group.specs.Inside.{gathered};
+ghost use Rattle.theory_sums.specs.Sums.{gathered};
 ghost use Rattle.shares_polynomial.specs.Inside.{typeOf, typeTerm, coefficientOf};
 
 // The (m+1)(n-m+1) coefficients of h(x,z), where x stands for the parts in the group, into a lent buffer: that of x^i z^j in cell

@@ -1,4 +1,5 @@
 pub mod Sums
+pub mod Gathering
 pub mod Integers
 pub mod IntegerSums
 pub mod Differences

@@ -10,7 +10,7 @@ use borrow.Author.Needs.{needs}
 use Rattle.numbers.proofs.Bools.{not-not}
 use Rattle.structure_words.specs.Words.{inWords}
 use Rattle.theory_sets.specs.Masks.{inside}
-use Rattle.shares_group.proofs.Gathering.{gathered-skip, gathered-add}
+use Rattle.theory_sums.proofs.Gathering.{gathered-skip, gathered-add}
 use Rattle.shares_by_sets.specs.Inside.{addedBy, takenBy}
 use Rattle.shares_by_sets.proofs.Sets.{inside-few, addedBy-few, takenBy-few}
 use Rattle.shares_by_sets.proofs.add_set.Statement.{statement}

@@ -14,8 +14,8 @@ use Rattle.numbers.proofs.Counts.{upTo16-given}
 use Rattle.numbers.proofs.Tables.{tabulate-length}
 use Rattle.structure_words.specs.Words.{inWords}
 use Rattle.theory_sets.specs.Masks.{inside}
-use Rattle.shares_group.specs.Inside.{gathered}
-use Rattle.shares_group.proofs.Gathering.{gathered-none}
+use Rattle.theory_sums.specs.Sums.{gathered}
+use Rattle.theory_sums.proofs.Gathering.{gathered-none}
 use Rattle.shares_by_sets.specs.Inside.{addedBy, takenBy}
 use Rattle.shares_by_sets.proofs.gather.Statement.{statement}
 use Rattle.shares_by_sets.proofs.gather.Tie as tie

@@ -10,7 +10,7 @@ use borrow.Author.Needs.{needs}
 use Rattle.numbers.proofs.Bools.{not-not}
 use Rattle.structure_words.specs.Words.{inWords}
 use Rattle.shares_claim.proofs.Types.{inside-and-outside}
-use Rattle.shares_group.proofs.Gathering.{gathered-skip, gathered-add}
+use Rattle.theory_sums.proofs.Gathering.{gathered-skip, gathered-add}
 use Rattle.shares_polynomial.specs.Inside.{typeOf}
 use Rattle.shares_polynomial.proofs.Coefficients.{type-few}
 use Rattle.shares_polynomial.proofs.add_type.Statement.{statement}

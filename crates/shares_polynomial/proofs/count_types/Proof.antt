@@ -8,12 +8,11 @@ use denote.Ref.{now}
 use lib.ListN.{length}
 use lib.Pow.{pow-mono}
 use borrow.Author.Needs.{needs}
-use Rattle.theory_sums.specs.Sums.{sumBelow}
+use Rattle.theory_sums.specs.Sums.{sumBelow, gathered}
 use Rattle.numbers.specs.Tables.{tabulate}
 use Rattle.numbers.proofs.Counts.{upTo16-given}
 use Rattle.numbers.proofs.Tables.{tabulate-length}
 use Rattle.structure_words.specs.Words.{inWords}
-use Rattle.shares_group.specs.Inside.{gathered}
 use Rattle.shares_polynomial.specs.Inside.{typeOf}
 use Rattle.shares_polynomial.proofs.count_types.Statement.{statement}
 use Rattle.shares_polynomial.proofs.count_types.Tie as tie

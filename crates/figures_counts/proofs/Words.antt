@@ -9,11 +9,11 @@ use native.Mathlib.Omega.{arith}
 use lib.Bits.{and-le-l}
 use lib.Count.{ones, ones-le, ones-cat}
 use lib.Dec.{ltb, eqb}
-use lib.ListN.{length, getD, set, List·getD-eq-default}
+use lib.ListN.{length, getD, set}
 use lib.Seq.{getD-set-same, getD-set-other}
 use borrow.Author.Tests.{eqb-true, eqb-false, eq-eqb, ne-eqb, le-leb, lt-leb, lt-ltb, le-ltb}
-use Rattle.numbers.specs.Tables.{tabulate, NoneOver}
-use Rattle.numbers.proofs.Tables.{tabulate-unique, tabulate-at, tabulate-length}
+use Rattle.numbers.specs.Tables.{tabulate}
+use Rattle.numbers.proofs.Tables.{tabulate-unique}
 use Rattle.theory_sums.specs.Sums.{indicator, sumBelow}
 use Rattle.theory_sums.proofs.Sums.{few-tests, sumBelow-same, sumBelow-le, sumBelow-zero, sumBelow-ones, sumBelow-add, sumBelow-append}
 use Rattle.theory_sets.specs.Masks.{has, size, meet}
@@ -228,11 +228,3 @@ module _ (test : ℕ → Bool) where
   pub sizes-all : (s : ℕ) → sizes test 1024 s ≡ pathCount 16 test s
   unfolding sizes pathCount
   sizes-all s = refl
-
--- a table of few counts
-pub tabulate-few : (n : ℕ) (f : ℕ → ℕ) → ((i : ℕ) → f i ≤ 65536) → NoneOver 65536 (tabulate n f)
-tabulate-few n f few s = cases (below-or-above s n)
-  where
-    cases : (s < n) ⊎ (n ≤ s) → getD (tabulate n f) s 0 ≤ 65536
-    cases (inl l) = le-trans (le-of-eq (tabulate-at n f s 0 l)) (few s)
-    cases (inr l) = le-trans (le-of-eq (List·getD-eq-default (tabulate n f) 0 (rw (tabulate-length n f) l))) zero-le

@@ -2,12 +2,14 @@
 -- Assumes nothing.
 use mathlib.Core.Path.{_≡_, refl, sym, ap, ap₂, _∙_, subst}
 use mathlib.Core.List.{List, [], _∷_, _++_, append-nil}
-use Prim.Native.Nat.{ℕ, zero, suc, _+_, _-_, _≤_, _<_}
-use native.Mathlib.Nat.{le-of-suc-le-suc, not-suc-le-zero, add-sub-of-le, le-antisymm, le-of-eq}
+use mathlib.Core.Logic.{_⊎_, inl, inr}
+use Prim.Native.Nat.{ℕ, zero, suc, _+_, _-_, _≤_, _<_, zero-le}
+use native.Mathlib.Nat.{le-of-suc-le-suc, not-suc-le-zero, add-sub-of-le, le-antisymm, le-of-eq, le-trans}
 use native.Mathlib.Numerals.{add-one}
-use lib.ListN.{length, getD, set, take, drop, length-append, length-drop, drop-of-length-le}
+use lib.ListN.{length, getD, set, take, drop, length-append, length-drop, drop-of-length-le, List·getD-append, List·getD-eq-default}
 use lib.Seq.{drop-cons, set-append-seam, append-snoc, getD-append-add, getD-drop, ext-getD}
-use Rattle.numbers.specs.Tables.{tabulate}
+use Rattle.numbers.specs.Tables.{tabulate, NoneOver}
+use Rattle.numbers.proofs.Bounds.{below-or-above}
 
 module _ {A : Type 0} where
   pub tabulate-length : (n : ℕ) (f : ℕ → A) → length (tabulate n f) ≡ n
@@ -74,6 +76,16 @@ tabulate-unique n f xs d len same =
     ext-getD d xs (tabulate n f) (len ∙ sym (tabulate-length n f)) (λ j h.
     let below : j < n = rw len at h in same j below ∙ sym (tabulate-at n f j d below))
 
+-- a list that is filled up to where f is what stood there
+pub filled-rest : (f : ℕ → ℕ) (xs : List ℕ) (n m : ℕ) → length xs ≡ m → n ≤ m → ((j : ℕ) → n ≤ j → j < m → f j ≡ getD xs j 0) → filled f xs n ≡ tabulate m f
+filled-rest f xs n m len few rest =
+    tabulate-unique m f (filled f xs n) 0 (filled-length f xs n (rw len few) ∙ len) (λ j h. cases j h (below-or-above j n))
+  where
+    cases : (j : ℕ) → j < m → (j < n) ⊎ (n ≤ j) → getD (filled f xs n) j 0 ≡ f j
+    cases j h (inl l) =
+        List·getD-append (tabulate n f) (drop n xs) 0 j (rw (tabulate-length n f) l) ∙ tabulate-at n f j 0 l
+    cases j h (inr l) = filled-from f xs n j 0 l ∙ sym (rest j l h)
+
 -- two functions whose tables are the same agree below their length: one computed test for all entries
 pub tabulate-agree : {A : Type 0} (n : ℕ) (f g : ℕ → A) → tabulate n f ≡ tabulate n g → (k : ℕ) → k < n → f k ≡ g k
 tabulate-agree {A} n f g same k h =
@@ -90,3 +102,11 @@ unfolding tabulate
 take-tabulate {A} zero m f h = refl
 take-tabulate {A} (suc n) zero f h = absurd (not-suc-le-zero h)
 take-tabulate {A} (suc n) (suc m) f h = ap (λ (l : List A). f 0 ∷ l) (take-tabulate n m (λ i. f (suc i)) (le-of-suc-le-suc h))
+
+-- no value of a function is over a bound, and none of its table
+pub tabulate-few : (n : ℕ) (f : ℕ → ℕ) (most : ℕ) → ((i : ℕ) → f i ≤ most) → NoneOver most (tabulate n f)
+tabulate-few n f most few i = cases (below-or-above i n)
+  where
+    cases : (i < n) ⊎ (n ≤ i) → getD (tabulate n f) i 0 ≤ most
+    cases (inl l) = le-trans (le-of-eq (tabulate-at n f i 0 l)) (few i)
+    cases (inr l) = le-trans (le-of-eq (List·getD-eq-default (tabulate n f) 0 (rw (tabulate-length n f) l))) zero-le

@@ -18,7 +18,7 @@ use Rattle.theory_sets.specs.Masks.{has, size, meet, inside}
 use Rattle.theory_sets.proofs.Masks.{has-zero, has-suc, has-add, has-above, has-meet, add-below}
 use Rattle.theory_orders.proofs.Orders.{eqb-comm}
 
-low-bit : (a : ℕ) → indicator (has a 0) ≡ a % 2
+pub low-bit : (a : ℕ) → indicator (has a 0) ≡ a % 2
 low-bit a = ap indicator (has-zero a) ∙ cases (a % 2) (mod-lt a (zero-lt-suc 1))
   where
     cases : (x : ℕ) → x < 2 → indicator (eqb x 1) ≡ x

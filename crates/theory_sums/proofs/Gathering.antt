@@ -19,7 +19,7 @@ use Rattle.theory_sums.specs.Sums.{sumBelow, gathered}
 
 module _ (test : ℕ → Bool) (class amount : ℕ → ℕ) where
   -- a number that fails the test adds nothing, and another adds its amount to its class
-  gathered-step : (t i : ℕ) → gathered test class amount (t + 1) i ≡ gathered test class amount t i + cond (test t && eqb (class t) i) (amount t) 0
+  pub gathered-step : (t i : ℕ) → gathered test class amount (t + 1) i ≡ gathered test class amount t i + cond (test t && eqb (class t) i) (amount t) 0
   unfolding gathered sumBelow
   gathered-step t i = ap (sumBelow (λ a. cond (test a && eqb (class a) i) (amount a) 0)) (add-one t)
 

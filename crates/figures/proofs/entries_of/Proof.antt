@@ -8,7 +8,7 @@ use Rattle.numbers.specs.Tables.{tabulate, NoneOver}
 use Rattle.theory_orders.specs.Formulas.{pathCount}
 use Rattle.structure_words.specs.Words.{inWords}
 use Rattle.theory_figures.proofs.Sizes.{pathCount-few}
-use Rattle.figures_counts.proofs.Words.{tabulate-few}
+use Rattle.numbers.proofs.Tables.{tabulate-few}
 use Rattle.figures.specs.Inside.{entriesOf}
 use Rattle.figures.proofs.entries_of.Statement.{statement}
 use Rattle.figures.proofs.entries_of.Tie as tie
@@ -29,7 +29,7 @@ signed-requires : tie.Need-signed-requires
 signed-requires c κs =
     let counts-by-size = c .before in
     let test = inWords (counts-by-size .before .before .load .result) in
-    subst (λ (counts : List ℕ). NoneOver 65536 counts) (sym (counts-by-size .counts-by-size .ensures)) (tabulate-few 17 (pathCount 16 test) (pathCount-few 16 test))
+    subst (λ (counts : List ℕ). NoneOver 65536 counts) (sym (counts-by-size .counts-by-size .ensures)) (tabulate-few 17 (pathCount 16 test) 65536 (pathCount-few 16 test))
 
 returns : tie.Need-returns
 returns c =

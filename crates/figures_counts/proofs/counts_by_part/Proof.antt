@@ -17,8 +17,8 @@ use Rattle.structure_words.specs.Words.{inWords, wordOf}
 use Rattle.structure_words.proofs.Words.{inWords-at, has-wordOf}
 use Rattle.figures_counts.specs.Rows.{hasPart, rowsOf}
 use Rattle.figures_counts.specs.Inside.{inWord}
-use Rattle.numbers.proofs.Tables.{tabulate-same}
-use Rattle.figures_counts.proofs.Words.{sizes, sizes-most, sizes-next, sizes-all, tabulate-few}
+use Rattle.numbers.proofs.Tables.{tabulate-same, tabulate-few}
+use Rattle.figures_counts.proofs.Words.{sizes, sizes-most, sizes-next, sizes-all}
 use Rattle.figures_counts.proofs.counts_by_part.Statement.{statement}
 use Rattle.figures_counts.proofs.counts_by_part.Tie as tie
 
@@ -58,7 +58,7 @@ add-rows-requires c κs =
       long head,
       (
         subst (λ (rows : List ℕ). NoneOver 65536 rows) (sym (head .loop .inv .1))
-            (tabulate-few 289 (countAt words (head .loop .at)) (λ i. sizes-most (chosen words (i / 17)) (head .loop .at) (i % 17) (head .loop .inv .0))),
+            (tabulate-few 289 (countAt words (head .loop .at)) 65536 (λ i. sizes-most (chosen words (i / 17)) (head .loop .at) (i % 17) (head .loop .inv .0))),
         turn .loop-test .taken,
       ),
     )

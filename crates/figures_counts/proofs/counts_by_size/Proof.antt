@@ -16,8 +16,8 @@ use Rattle.theory_sets.specs.Masks.{has, size}
 use Rattle.structure_words.specs.Words.{inWords}
 use Rattle.structure_words.proofs.Words.{inWords-at}
 use Rattle.figures_counts.specs.Inside.{inWord}
-use Rattle.numbers.proofs.Tables.{tabulate-same}
-use Rattle.figures_counts.proofs.Words.{sizes, sizes-most, sizes-next, sizes-all, tabulate-few}
+use Rattle.numbers.proofs.Tables.{tabulate-same, tabulate-few}
+use Rattle.figures_counts.proofs.Words.{sizes, sizes-most, sizes-next, sizes-all}
 use Rattle.figures_counts.proofs.counts_by_size.Statement.{statement}
 use Rattle.figures_counts.proofs.counts_by_size.Tie as tie
 
@@ -50,7 +50,7 @@ add-word-requires c κs =
       long head,
       (
         subst (λ (counts : List ℕ). NoneOver 65536 counts) (sym (head .loop .inv .1))
-            (tabulate-few 17 (sizes test (head .loop .at)) (λ s. sizes-most test (head .loop .at) s (head .loop .inv .0))),
+            (tabulate-few 17 (sizes test (head .loop .at)) 65536 (λ s. sizes-most test (head .loop .at) s (head .loop .inv .0))),
         ones-le 10 (head .loop .at) (omega arith),
       ),
     )

@@ -1,7 +1,7 @@
 -- What a test that is joined of others says of them.
 -- Assumes nothing.
 use mathlib.Core.Path.{_≡_, refl, sym, _∙_}
-use mathlib.Core.Bool.{Bool, true, false, not, _&&_, _||_, true≢false, false≢true}
+use mathlib.Core.Bool.{Bool, true, false, cond, not, _&&_, _||_, true≢false, false≢true}
 use mathlib.Core.Logic.{_⊎_, inl, inr}
 use Prim.Native.Nat.{ℕ}
 use lib.Dec.{eqb}
@@ -77,3 +77,8 @@ false-of false h = refl
 -- two equations of numbers that follow from each other are the same test
 pub same-eqb : (a b c d : ℕ) → (a ≡ b → c ≡ d) → (c ≡ d → a ≡ b) → eqb a b ≡ eqb c d
 same-eqb a b c d there back = same-test (eqb a b) (eqb c d) (λ h. eq-eqb c d (there (eqb-true a b h))) (λ h. eq-eqb a b (back (eqb-true c d h)))
+
+-- two amounts that are the same where a test passes
+pub cond-same : (b : Bool) (x y : ℕ) → (b ≡ true → x ≡ y) → cond b x 0 ≡ cond b y 0
+cond-same true x y h = h refl
+cond-same false x y h = refl

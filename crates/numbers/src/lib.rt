@@ -1,8 +1,8 @@
-// Factorials up to 16, as fixed numbers, binomials by their formula, powers of 2, whether a number is in its range, and the numbers of a list.
+// Factorials up to 16, as fixed numbers, binomials by their formula, powers of 2, a number cut at 16, whether a number is in its range, and the numbers of a list.
 // Callers use what the functions mean, not how they find it.
 ghost use mathlib.Core.Path.{_≡_};
 ghost use mathlib.Core.Bool.{_&&_};
-ghost use Prim.Native.Nat.{_^_};
+ghost use Prim.Native.Nat.{_^_, min};
 ghost use lib.Dec.{leb};
 ghost use lib.ListN.{getD};
 ghost use Rattle.numbers.specs.Counts.{factorial as «n!», choose, upTo16};
@@ -56,6 +56,13 @@ pub fn power_of_two(n: usize) -> usize
     ensures { λ r. ⌜ r ≡ upTo16 n (2 ^ n) ⌝ }
 {
     if n <= 16 { 1 << n } else { 0 }
+}
+
+// The number, and 16 where it is over 16.
+pub fn at_most_16(number: usize) -> usize
+    ensures { λ r. ⌜ r ≡ min number 16 ⌝ }
+{
+    if number < 16 { number } else { 16 }
 }
 
 // Whether a number is 1 to `limit`.

@@ -16,7 +16,7 @@ pub fn spread(words: &[u64], parts: usize) -> [u64; 1024]
     ensures { λ r. ⌜ r ≡ wordsOf (spreadSet (min parts 16) (inWords (now (words .entry)))) ⌝ }
 {
     let mut next = copied(words);
-    let end = at_most_16(parts);
+    let end = numbers::at_most_16(parts);
     for part in 0..end {
         next = spread_over(&next, part);
     }
@@ -52,7 +52,7 @@ pub fn idle_parts(words: &[u64], parts: usize) -> usize
     ensures { λ r. ⌜ r ≡ packed (min parts 16) (idlePart 16 (inWords (now (words .entry)))) ⌝ }
 {
     let mut mask: usize = 0;
-    let end = at_most_16(parts);
+    let end = numbers::at_most_16(parts);
     for part in 0..end {
         if idle(words, part) {
             mask = mask | (1 << part);
@@ -132,7 +132,7 @@ fn spare(words: &[u64], at: usize, parts: usize) -> u64
     ensures { λ r. ⌜ r ≡ wordOf (spareSet (min parts 16) (inWords (now (words .entry)))) at ⌝ }
 {
     let mut some: u64 = 0;
-    let end = at_most_16(parts);
+    let end = numbers::at_most_16(parts);
     for part in 0..end {
         some = some | without(words, at, part);
     }
@@ -144,16 +144,9 @@ fn failing_above(words: &[u64], at: usize, parts: usize) -> u64
     ensures { λ r. ⌜ r ≡ wordOf (failingAboveSet (min parts 16) (inWords (now (words .entry)))) at ⌝ }
 {
     let mut some: u64 = 0;
-    let end = at_most_16(parts);
+    let end = numbers::at_most_16(parts);
     for part in 0..end {
         some = some | !with(words, at, part);
     }
     some
-}
-
-// The number of parts that is gone by, 16 at the most.
-fn at_most_16(parts: usize) -> usize
-    ensures { λ r. ⌜ r ≡ min parts 16 ⌝ }
-{
-    if parts < 16 { parts } else { 16 }
 }

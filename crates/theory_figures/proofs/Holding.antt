@@ -1,17 +1,19 @@
 -- A set that holds another: it is no smaller, and the last part for sets of the others. Assumes nothing.
-use mathlib.Core.Path.{_≡_, refl, sym, ap, _∙_}
+use mathlib.Core.Path.{_≡_, refl, sym, ap, _∙_, subst}
 use mathlib.Core.Bool.{Bool, true, false}
 use mathlib.Core.Logic.{_⊎_, inl, inr}
 use Prim.Native.Nat.{ℕ, suc, _+_, _^_, _≤_, _<_}
 use native.Mathlib.Nat.{le-refl, two-pow-succ, eq-or-lt-of-le}
 use native.Mathlib.Omega.{arith}
+use lib.Dec.{eqb}
+use borrow.Author.Tests.{eqb-true, eqb-false}
 use Rattle.theory_sums.specs.Sums.{indicator}
 use Rattle.theory_sums.proofs.Sums.{sumBelow-le}
 use Rattle.theory_sets.specs.Masks.{has, size, holds}
-use Rattle.numbers.proofs.Bools.{clash, false-of, same-test}
-use Rattle.theory_sets.proofs.Masks.{has-above, holds-part, holds-of-parts}
+use Rattle.numbers.proofs.Bools.{true-or-false, clash, false-of, same-test}
+use Rattle.theory_sets.proofs.Masks.{has-above, holds-part, holds-of-parts, holds-refl, holds-with, lacking, add-below}
 use Rattle.numbers.proofs.Bounds.{below-or-above}
-use Rattle.theory_orders.proofs.Sizes.{size-bits, has-last, has-others}
+use Rattle.theory_orders.proofs.Sizes.{size-add, size-bits, has-last, has-others}
 
 -- a set that holds another is no smaller
 pub size-holds : (n a b : ℕ) → a < 2 ^ n → b < 2 ^ n → holds a b ≡ true → size b ≤ size a
@@ -24,6 +26,18 @@ size-holds n a b ha hb h =
     fewer true false h = absurd (clash (h refl) refl)
     fewer false true h = omega arith
     fewer false false h = le-refl 0
+
+-- a set that is no larger than one that it holds is that one, and is held by it
+pub holds-same-size : (n a b : ℕ) → a < 2 ^ n → b < 2 ^ n → holds a b ≡ true → size a ≤ size b → holds b a ≡ true
+holds-same-size n a b ha hb within small = cases (true-or-false (eqb a b))
+  where
+    cases : (eqb a b ≡ true) ⊎ (eqb a b ≡ false) → holds b a ≡ true
+    cases (inl e) = subst (λ (x : ℕ). holds x a ≡ true) (eqb-true a b e) (holds-refl a)
+    cases (inr differ) =
+        let part = lacking n a b ha within (eqb-false a b differ) in
+        let i = part .0 in
+        let larger = size-holds n a (b + 2 ^ i) ha (add-below n b i hb (part .1) (part .3)) (holds-with a b i within (part .2) (part .3)) in
+        absurd (omega (arith, larger, size-add b i (part .3)))
 
 -- the last part, for sets of the others
 module _ (n a b : ℕ) (ha : a < 2 ^ n) (hb : b < 2 ^ n) where

@@ -69,6 +69,12 @@ module _ {A : Type 0} where
       cases true false k ih = ih (omega arith) ∙ sym (zero-add later)
       cases false b k ih = ih (omega arith) ∙ sym (zero-add later)
 
+  -- no entry passes a test
+  pub some-none : (test : A → Bool) (xs : List A) → ((x : A) → test x ≡ false) → some test xs ≡ false
+  unfolding some
+  some-none test [] h = refl
+  some-none test (x ∷ xs) h = ap₂ (λ (p q : Bool). p || q) (h x) (some-none test xs h)
+
 module _ {A B : Type 0} where
   pub sum-map : (f : B → ℕ) (g : A → B) (xs : List A) → sum f (map g xs) ≡ sum (λ x. f (g x)) xs
   unfolding sum
@@ -148,6 +154,12 @@ unfolding sumBelow
 sumBelow-exchange f zero l = sym (sumBelow-zero l)
 sumBelow-exchange f (suc k) l =
     ap (λ (u : ℕ). u + sumBelow (f k) l) (sumBelow-exchange f k l) ∙ sym (sumBelow-add (λ j. sumBelow (λ i. f i j) k) (f k) l)
+
+-- a sum over a list and one over the numbers below a bound, exchanged
+pub sum-below : {A : Type 0} (f : ℕ → A → ℕ) (k : ℕ) (xs : List A) → sumBelow (λ i. sum (f i) xs) k ≡ sum (λ x. sumBelow (λ i. f i x) k) xs
+unfolding sumBelow
+sum-below f zero xs = sym (sum-zero xs)
+sum-below f (suc k) xs = ap (λ (u : ℕ). u + sum (f k) xs) (sum-below f k xs) ∙ sym (sum-add (λ x. sumBelow (λ i. f i x) k) (f k) xs)
 
 less-or-same : (i k : ℕ) → indicator (ltb i k) + indicator (eqb i k) ≡ indicator (leb i k)
 less-or-same zero zero = refl

@@ -22,6 +22,8 @@ ghost use Rattle.shares_claim.specs.SetBySet.{sharesBySets};
 ghost use Rattle.shares_claim.specs.Reliability.{sharesByReliability, reliabilityCells};
 ghost use Rattle.shares_claim.specs.Claim.{groupCounts};
 ghost use Rattle.shares.specs.Both.{both, bothDelivered};
+ghost use Rattle.theory_joint.specs.Joint.{jointSquare};
+ghost use Rattle.joint.specs.Refusals.{jointRefusal};
 ghost use Rattle.vector_kind.specs.Kinds.{kindOf, kindRefusal};
 ghost use Rattle.vector_conversion.specs.Vectors.{vectorRefusal, converted};
 ghost use Rattle.record.specs.Contents.{cursor, stepAt};
@@ -274,6 +276,19 @@ pub extern "C" fn nahokipe_shares_by_both_routes(
     ensures { λ r. ⌜ outcome r (both (now (first .exit)) (now (second .exit))) ≡ retold ofWritten (bothDelivered (sharesRefusal n (now (table .entry)) group) (groupCounts n (inTable (now (table .entry))) group) (now (first .entry)) (now (second .entry))) ⌝ }
 {
     of_written(shares::shares_by_both_routes(n, table, group, first, second))
+}
+
+// The square of counts of two machines with the same parts: in how many failure orders which failure stops the first, and which the second.
+#[no_mangle]
+pub extern "C" fn nahokipe_joint_signature(
+    n: usize,
+    first: &[u8],
+    second: &[u8],
+    cells: &mut [u64],
+) -> Answer
+    ensures { λ r. ⌜ outcome r (now (cells .exit)) ≡ retold ofWritten (delivered (jointRefusal n (now (first .entry)) (now (second .entry))) (jointSquare n (inTable (now (first .entry))) (inTable (now (second .entry)))) (now (cells .entry))) ⌝ }
+{
+    of_written(joint::joint_signature(n, first, second, cells))
 }
 
 // The verdict on a vector, whose kind comes as a number.

@@ -1,5 +1,5 @@
-// Factorials up to 16, as fixed numbers, binomials by their formula, powers of 2, a number cut at 16, whether a number is in its range, and the numbers of a list.
-// Callers use what the functions mean, not how they find it.
+// Factorials up to 16, as fixed numbers, binomials by their formula, powers of 2, a number cut at 16, whether a number is in its range, and
+// the numbers of a list. Callers use what the functions mean, not how they find it.
 ghost use mathlib.Core.Path.{_≡_};
 ghost use mathlib.Core.Bool.{_&&_};
 ghost use Prim.Native.Nat.{_^_, min};

@@ -25,8 +25,9 @@
  * the last one gave.
  *
  * Link libnahokipe.a, for x86-64: it needs memcpy and memset and nothing else. Calls keep nothing between them and share nothing, so they
- * may run in any number of threads at once, on buffers of their own. 256 KiB of stack are enough for every call; the 128 KiB that some C
- * libraries give a thread are not.
+ * may run in any number of threads at once, on buffers of their own. 256 KiB of stack are enough for every call but one:
+ * nahokipe_joint_signature needs 640 KiB, since it takes an array of 2^16 words. The 128 KiB that some C libraries give a thread are not
+ * enough.
  */
 #ifndef NAHOKIPE_H
 #define NAHOKIPE_H
@@ -138,14 +139,15 @@ typedef struct nahokipe_answer {
 /*
  * Lengths that are always enough. In cells: the most parts, which bound a signature, importances, shares and part numbers; the most retired
  * numbers of a record; the most sets of a list, and minimal sets and minimal cut sets of a machine; the most entries of a vector; the most
- * coefficients of h(x,z). In bytes: no table, record of either edition or sheet and no drawing's text that is written or accepted is longer
- * than these, and the last two are enough for every report and for the line of every refusal.
+ * coefficients of h(x,z); the most cells of a joint signature. In bytes: no table, record of either edition or sheet and no drawing's text
+ * that is written or accepted is longer than these, and the last two are enough for every report and for the line of every refusal.
  */
 #define NAHOKIPE_MOST_PARTS 16
 #define NAHOKIPE_MOST_RETIRED 64
 #define NAHOKIPE_MOST_SETS 12870
 #define NAHOKIPE_MOST_ENTRIES 17
 #define NAHOKIPE_MOST_COEFFICIENTS 81
+#define NAHOKIPE_MOST_JOINT 256
 #define NAHOKIPE_LONGEST_TABLE 8192
 #define NAHOKIPE_LONGEST_RECORD 39217
 #define NAHOKIPE_LONGEST_SHEET 155
@@ -271,6 +273,19 @@ nahokipe_answer nahokipe_shares_by_both_routes(size_t n, const uint8_t *table, s
  * nahokipe_mask_of makes it.
  */
 nahokipe_answer nahokipe_reliability(size_t n, const uint8_t *table, size_t table_len, size_t group, int64_t *cells, size_t cells_len);
+
+/*
+ * Writes the joint signature of two machines of the same n parts, each given by its table, a square of n^2 cells, NAHOKIPE_MOST_JOINT at
+ * the most: cell (k - 1) n + l - 1 says in how many of the n! orders the k-th failure stops the first machine and the l-th the second. The
+ * cells total n!; those of row k sum to the k-th cell of the first machine's nahokipe_signature, those of column l to the l-th of the
+ * second's. It takes more stack than the other calls, as said at the top. Refused, in this order: 1, 6 to 10 of the first table, 6 to 10 of
+ * the second, 11. A refusal does not tell which of the tables it is about; nahokipe_table_verdict of each does.
+ *
+ * WARNING: the machines share parts by position, and positions are not part numbers. The tables of two records belong together only where
+ * both records have the same part numbers.
+ */
+nahokipe_answer nahokipe_joint_signature(size_t n, const uint8_t *first, size_t first_len, const uint8_t *second, size_t second_len,
+                                         uint64_t *cells, size_t cells_len);
 
 /*
  * Vectors. A vector of n parts is of one of four kinds: 1 path counts, 2 tail, 3 signature, 4 domination. A signature has n entries, the

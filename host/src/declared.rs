@@ -255,6 +255,16 @@ extern "C" {
         cells_len: usize,
     ) -> Answer;
 
+    pub(crate) fn nahokipe_joint_signature(
+        n: usize,
+        first: *const u8,
+        first_len: usize,
+        second: *const u8,
+        second_len: usize,
+        cells: *mut u64,
+        cells_len: usize,
+    ) -> Answer;
+
     pub(crate) fn nahokipe_vector_verdict(
         kind: u8,
         n: usize,

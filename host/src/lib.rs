@@ -51,7 +51,7 @@
 //!
 //! The package links libnahokipe.a, which `rt staticlib nahokipe` writes to target/staticlib of the repository; the variable NAHOKIPE_LIB_DIR
 //! names another folder that has it. Calls keep nothing between them and may run in any number of threads at once; 256 KiB of stack are
-//! enough for every call.
+//! enough for every call but [`joint_signature`], which needs 640 KiB.
 //!
 //! `./check` runs the tests, and `cargo bench --manifest-path host/Cargo.toml` the benchmarks.
 
@@ -62,6 +62,7 @@ mod drawings;
 mod editions;
 mod figures;
 mod idle;
+mod joint;
 mod kind;
 pub mod lent;
 mod part_numbers;
@@ -80,6 +81,7 @@ pub use drawings::{drawing_of_record, record_of_drawing};
 pub use editions::{edition, retired, to_edition_1, to_edition_2};
 pub use figures::{domination, figures, importance, path_counts, signature, tail, Figures};
 pub use idle::idle_parts;
+pub use joint::joint_signature;
 pub use kind::Kind;
 pub use part_numbers::{mask_of, numbers_of, position_of};
 pub use patterns::{table_of_pattern, Pattern};

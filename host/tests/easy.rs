@@ -3,23 +3,26 @@
 
 use nahokipe::{
     add_part, add_set, add_set_of_parts, convert, domination, drawing_of_record, dual, edition,
-    figures, first_record, idle_parts, importance, lent, minimal_cuts, minimal_sets, path_counts,
-    read_sheet, record_end, record_of_drawing, refused_line, reliability, report, retired,
-    sets_of_record, shares_by_both_routes, shares_by_reliability, shares_by_sets, signature,
-    table_of_cuts, table_of_list, table_of_pattern, table_of_record, tail, take_out,
-    take_out_group, take_out_part, take_out_parts, to_edition_1, to_edition_2, vector_verdict,
-    write_sheet, Figures, Kind, Refusal, Vector,
+    figures, first_record, idle_parts, importance, joint_signature, lent, minimal_cuts,
+    minimal_sets, path_counts, read_sheet, record_end, record_of_drawing, refused_line,
+    reliability, report, retired, sets_of_record, shares_by_both_routes, shares_by_reliability,
+    shares_by_sets, signature, table_of_cuts, table_of_list, table_of_pattern, table_of_record,
+    tail, take_out, take_out_group, take_out_part, take_out_parts, to_edition_1, to_edition_2,
+    vector_verdict, write_sheet, Figures, Kind, Refusal, Vector,
 };
 use nahokipe_testing::making::{damaged_drawing, damaged_record, flipped, largest_drawing};
 use nahokipe_testing::making::{damaged_edition_2, largest_edition_2, random_edition_2};
 use nahokipe_testing::making::{largest_record, random_drawing, random_group, random_list};
-use nahokipe_testing::making::{random_record, random_set, random_table, random_wanted};
+use nahokipe_testing::making::{
+    random_pair, random_record, random_set, random_table, random_wanted,
+};
 use nahokipe_testing::making::{sets_of_size, six_of_sixteen, table_of_sets, unknown_number};
 use nahokipe_testing::naive_patterns::{self, PATTERNS};
 use nahokipe_testing::naive_records::{changed, whole_record, Change};
 use nahokipe_testing::seeded::Seeded;
 use nahokipe_testing::{naive, naive_cuts, naive_drawing, naive_figures, naive_idle};
-use nahokipe_testing::{naive_editions, naive_records, naive_report, naive_shares, naive_vectors};
+use nahokipe_testing::{naive_editions, naive_joint, naive_records, naive_report};
+use nahokipe_testing::{naive_shares, naive_vectors};
 
 // ---- structures and figures
 
@@ -62,6 +65,26 @@ fn compare_group(n: usize, table: &[u8], group: usize) {
     assert_eq!(shares_by_both_routes(n, table, group), both);
     let coefficients = naive_shares::reliability(n, table, group);
     assert_eq!(reliability(n, table, group), coefficients);
+}
+
+/// The joint signature of two tables.
+fn compare_pair(n: usize, first: &[u8], second: &[u8]) {
+    let expected = naive_joint::joint_signature(n, first, second);
+    assert_eq!(joint_signature(n, first, second), expected);
+}
+
+/// A machine, and a table that may be none, on either side of each other, and each beside another machine.
+#[test]
+fn pairs_of_tables() {
+    let mut seeded = Seeded::new(325);
+    for n in 1..=12 {
+        let [first, second] = random_pair(&mut seeded, n);
+        let broken = flipped(&first, seeded.between(0, (1 << n) - 1));
+        for (first, second) in [(&first, &second), (&first, &broken), (&broken, &second)] {
+            compare_pair(n, first, second);
+        }
+        compare_pair(n + 12, &first, &second);
+    }
 }
 
 #[test]
@@ -108,12 +131,14 @@ fn patterns() {
     }
 }
 
-/// 16 parts: the most sets, the most cut sets, where nine are needed, and the groups with the most shares and the most coefficients.
+/// 16 parts: the most sets, the most cut sets, where nine are needed, both beside each other, and the groups with the most shares and the most
+/// coefficients.
 #[test]
 fn the_largest_machine() {
     let [eight, nine] = [8, 9].map(|size| sets_of_size(16, size));
     compare_list(16, &eight);
     let [eight, nine] = [eight, nine].map(|sets| table_of_sets(16, &sets));
+    compare_pair(16, &eight, &nine);
     for table in [&eight, &nine, &six_of_sixteen()] {
         compare_table(16, table);
         for group in [0xFFFF, 0x00FF, 1] {

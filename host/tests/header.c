@@ -215,6 +215,33 @@ static void test_shares(void)
     expect_bytes("shares, refused", a, shares, sizeof a);
 }
 
+/* Document 004's example of two machines of four parts, both ways round; refusals leave the buffer as it was, before and behind that. */
+static void test_joint(void)
+{
+    static const uint8_t first[2] = {0x88, 0x88}, second[2] = {0x00, 0xFC}, not_of_full[2] = {0x00, 0x7C}, all_three[1] = {0x80};
+    static const uint64_t square[17] = {0, 6, 6, 0, 4, 2, 2, 0, 2, 2, 0, 0, 0, 0, 0, 0, 99};
+    static const uint64_t turned[17] = {0, 4, 2, 0, 6, 2, 2, 0, 6, 2, 0, 0, 0, 0, 0, 0, 99};
+    static const uint64_t untouched[17] = {99, 99, 99, 99, 99, 99, 99, 99, 99, 99, 99, 99, 99, 99, 99, 99, 99};
+    uint64_t cells[17];
+
+    memcpy(cells, untouched, sizeof cells);
+    expect("joint_signature, no parts", nahokipe_joint_signature(0, first, 2, second, 2, cells, 17), NAHOKIPE_WRONG_PART_COUNT, 0);
+    expect("joint_signature, 17 parts", nahokipe_joint_signature(17, first, 2, second, 2, cells, 17), NAHOKIPE_WRONG_PART_COUNT, 0);
+    expect("joint_signature, first long", nahokipe_joint_signature(3, first, 2, broken, 1, cells, 17), NAHOKIPE_WRONG_TABLE_LENGTH, 0);
+    expect("joint_signature, first broken", nahokipe_joint_signature(3, broken, 1, second, 2, cells, 17), NAHOKIPE_BROKEN_SET, 2);
+    expect("joint_signature, second broken", nahokipe_joint_signature(3, all_three, 1, broken, 1, cells, 8), NAHOKIPE_BROKEN_SET, 2);
+    expect("joint_signature, second short", nahokipe_joint_signature(4, first, 2, second, 1, cells, 0), NAHOKIPE_WRONG_TABLE_LENGTH, 0);
+    expect("joint_signature, second fails", nahokipe_joint_signature(4, first, 2, not_of_full, 2, cells, 15), NAHOKIPE_FULL_SET_FAILS, 0);
+    expect("joint_signature, short buffer", nahokipe_joint_signature(4, first, 2, second, 2, cells, 15), NAHOKIPE_SHORT_BUFFER, 16);
+    expect_bytes("joint_signature, refused", cells, untouched, sizeof cells);
+    expect("joint_signature", nahokipe_joint_signature(4, first, 2, second, 2, cells, 17), 0, 16);
+    expect_bytes("joint_signature", cells, square, sizeof cells);
+    expect("joint_signature, exchanged", nahokipe_joint_signature(4, second, 2, first, 2, cells, 16), 0, 16);
+    expect_bytes("joint_signature, exchanged", cells, turned, sizeof cells);
+    expect("joint_signature, first fails", nahokipe_joint_signature(4, not_of_full, 2, second, 1, cells, 17), NAHOKIPE_FULL_SET_FAILS, 0);
+    expect_bytes("joint_signature, refused behind that", cells, turned, sizeof cells);
+}
+
 static void test_vectors(void)
 {
     static const int64_t falling[4] = {0, 3, 2, 1};
@@ -624,6 +651,7 @@ int main(void)
     test_importance();
     test_figures();
     test_shares();
+    test_joint();
     test_vectors();
     test_sheets();
     test_records();

@@ -3,9 +3,9 @@
 
 use nahokipe::lent::{self, RecordAnswer};
 use nahokipe::{
-    drawing_of_record, first_record, list_verdict, path_counts, record_of_drawing, refused_line,
-    reliability, report, retired, table_of_record, take_out, whole_record, write_sheet, Kind,
-    Refusal,
+    drawing_of_record, first_record, joint_signature, list_verdict, path_counts, record_of_drawing,
+    refused_line, reliability, report, retired, table_of_record, take_out, whole_record,
+    write_sheet, Kind, Refusal,
 };
 use nahokipe_testing::making::{drawing_line, sets_of_size, six_of_sixteen};
 use nahokipe_testing::making::{largest_edition_2, largest_record};
@@ -98,6 +98,7 @@ fn lengths() -> Constants {
         ("MOST_SETS", lent::MOST_SETS),
         ("MOST_ENTRIES", lent::MOST_ENTRIES),
         ("MOST_COEFFICIENTS", lent::MOST_COEFFICIENTS),
+        ("MOST_JOINT", lent::MOST_JOINT),
         ("LONGEST_TABLE", lent::LONGEST_TABLE),
         ("LONGEST_RECORD", lent::LONGEST_RECORD),
         ("LONGEST_SHEET", lent::LONGEST_SHEET),
@@ -230,6 +231,14 @@ fn entries_and_coefficients() {
         cells.len()
     });
     assert_eq!(coefficients.max(), Some(lent::MOST_COEFFICIENTS));
+}
+
+/// The joint signature of two machines of 16 parts.
+#[test]
+fn cells_of_a_square() {
+    let table = six_of_sixteen();
+    let square = joint_signature(16, &table, &table).expect("accepted tables");
+    assert_eq!(square.len(), lent::MOST_JOINT);
 }
 
 /// What is proved of records of edition 1 is what the header says of both, with what edition 2 has more: two bytes in front, one for the count

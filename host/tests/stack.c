@@ -1,6 +1,7 @@
 /*
  * How much stack the calls take: each is run in a thread whose stack was painted, on the largest machine, and what is no longer paint was
- * used. README and nahokipe.h promise that 256 KiB are enough for every call; this test says so or fails, and prints the largest.
+ * used. README and nahokipe.h promise that 256 KiB are enough for every call but nahokipe_joint_signature, and 640 KiB for that one; this
+ * test says so or fails, and prints what that one takes and the largest of the others.
  */
 #define _XOPEN_SOURCE 700
 #include <pthread.h>
@@ -10,7 +11,7 @@
 
 #include "nahokipe.h"
 
-enum { ROOM = 4 << 20, PROMISED = 256 << 10, PAINT = 0xA5 };
+enum { ROOM = 4 << 20, PROMISED = 256 << 10, PROMISED_JOINT = 640 << 10, PAINT = 0xA5 };
 enum { SETS = NAHOKIPE_MOST_SETS, BYTES = NAHOKIPE_LONGEST_RECORD, DRAWN = NAHOKIPE_LONGEST_DRAWING };
 
 static uint16_t sets[SETS], found[SETS];
@@ -18,7 +19,7 @@ static uint8_t table[NAHOKIPE_LONGEST_TABLE], other[NAHOKIPE_LONGEST_TABLE], rec
 static uint8_t record_2[BYTES], filed_2[BYTES];
 static uint8_t text[NAHOKIPE_ENOUGH_FOR_REPORT], sheet[NAHOKIPE_LONGEST_SHEET];
 static int64_t counts[17], first[17], second[17], cells[81];
-static uint64_t parts[16], numbers[16], gone[NAHOKIPE_MOST_RETIRED];
+static uint64_t parts[16], numbers[16], gone[NAHOKIPE_MOST_RETIRED], square[NAHOKIPE_MOST_JOINT];
 static const uint64_t first_part[1] = {1};
 static size_t length_2, filed_length, gone_count;
 static size_t length, sheet_length, drawing_length, read_length, entered_length, set_count, cut_count;
@@ -45,6 +46,7 @@ static void table_of_ring(void) { given(nahokipe_table_of_ring(16, 2, other, siz
 static void figures(void) { given(nahokipe_figures(16, table, sizeof table, counts, 17, first, 17, second, 17, parts, 16)); }
 static void both_routes(void) { given(nahokipe_shares_by_both_routes(16, table, sizeof table, 0xFF, first, 17, second, 17)); }
 static void reliability(void) { given(nahokipe_reliability(16, table, sizeof table, 0xFF, cells, 81)); }
+static void joint_signature(void) { given(nahokipe_joint_signature(16, table, sizeof table, other, sizeof other, square, 256)); }
 static void convert(void) { given(nahokipe_convert(1, 16, counts, 17, 4, second, 17)); }
 static void write_sheet(void) { sheet_length = given(nahokipe_write_sheet(1, 16, counts, 17, sheet, sizeof sheet)); }
 static void read_sheet(void) { refusals += nahokipe_read_sheet(sheet, sheet_length, first, 17).number != 0; }
@@ -123,7 +125,7 @@ int main(void) {
         {"drawing_of_record of edition 2", drawing_of_record_2}, {"add_part", add_part},
     };
     const char *largest = "";
-    size_t most = 0, count = 0, bare;
+    size_t most = 0, count = 0, bare, joint;
     unsigned mask;
     if (posix_memalign((void **)&ground, 1 << 16, ROOM) != 0) return 1;
     for (mask = 0; mask < 65536; mask++) {
@@ -137,8 +139,9 @@ int main(void) {
         size_t taken = used(calls[count].made) - bare;
         if (taken > most) most = taken, largest = calls[count].name;
     }
-    printf("stack: the largest call is %s with %zu bytes\n", largest, most);
+    joint = used(joint_signature) - bare;
+    printf("stack: joint_signature takes %zu bytes, and the largest of the other calls is %s with %zu bytes\n", joint, largest, most);
     if (refusals != 0) fprintf(stderr, "stack: refused calls: %u\n", refusals);
-    if (refusals != 0 || set_count != SETS || cut_count != SETS || read_length != length || gone_count != 2 || most > PROMISED) return 1;
-    return 0;
+    if (refusals != 0 || set_count != SETS || cut_count != SETS || read_length != length || gone_count != 2) return 1;
+    return most > PROMISED || joint > PROMISED_JOINT;
 }

@@ -21,6 +21,7 @@ mod cuts;
 mod drawings;
 mod editions;
 mod figures;
+mod joint;
 mod part_numbers;
 mod patterns;
 mod records;
@@ -37,6 +38,7 @@ pub use cuts::{dual, minimal_cuts, table_of_cuts};
 pub use drawings::{drawing_of_record, record_of_drawing};
 pub use editions::{retired, to_edition_1, to_edition_2};
 pub use figures::{domination, figures, importance, path_counts, signature, tail};
+pub use joint::joint_signature;
 pub use part_numbers::numbers_of;
 pub use patterns::table_of_pattern;
 pub use records::{entered_record, first_record, table_of_record};
@@ -63,6 +65,9 @@ pub const MOST_ENTRIES: usize = 17;
 
 /// The most coefficients of h(x,z).
 pub const MOST_COEFFICIENTS: usize = 81;
+
+/// The most cells of a joint signature: 16 rows of 16.
+pub const MOST_JOINT: usize = 256;
 
 /// The bytes of a table of 16 parts, the longest.
 pub const LONGEST_TABLE: usize = 8_192;

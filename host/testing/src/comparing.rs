@@ -2,7 +2,7 @@
 
 use crate::naive;
 use crate::naive_records::{self as by_words, Change, Reading};
-use nahokipe::lent::{add_part, add_set, add_set_of_parts, RecordAnswer};
+use nahokipe::lent::{add_part, add_set, add_set_of_parts, joint_signature, RecordAnswer};
 use nahokipe::lent::{retired, whole_record_answer, MOST_RETIRED};
 use nahokipe::lent::{table_of_pattern, take_out, take_out_group, take_out_part, take_out_parts};
 use nahokipe::{edition, record_end, Pattern, Refusal};
@@ -35,14 +35,16 @@ pub fn buffers<T: Copy>(
     lengths.into_iter().flat_map(filled).collect()
 }
 
+/// What buffers of 64-bit numbers are filled with: a pattern and its opposite.
+const NUMBERS: [u64; 2] = [0x5A5A_5A5A_5A5A_5A5A, !0x5A5A_5A5A_5A5A_5A5A];
+
 /// The same for part numbers. Where none is given, a buffer without cells is long enough.
 pub fn buffers_of_numbers(result: &Result<Vec<u64>, Refusal>, enough: usize) -> Vec<Vec<u64>> {
-    let patterns = [0x5A5A_5A5A_5A5A_5A5A, !0x5A5A_5A5A_5A5A_5A5A];
     match result {
         Ok(numbers) if numbers.is_empty() => {
-            [0, 1, 9].map(|length| vec![patterns[0]; length]).into()
+            [0, 1, 9].map(|length| vec![NUMBERS[0]; length]).into()
         }
-        _ => buffers(result, enough, patterns),
+        _ => buffers(result, enough, NUMBERS),
     }
 }
 
@@ -116,6 +118,18 @@ pub fn same_table_of_table(
     expected: &Result<Vec<u8>, Refusal>,
 ) {
     same_of_table(call, (n, table), expected, table_cells(n));
+}
+
+/// The joint signature of two tables over n parts, into buffers of every length that matters.
+pub fn same_joint_signature(
+    (n, first, second): (usize, &[u8], &[u8]),
+    expected: &Result<Vec<u64>, Refusal>,
+) {
+    let call = |cells: &mut [u64]| joint_signature(n, first, second, cells);
+    let enough = n.clamp(1, 16) * n.clamp(1, 16);
+    same_in_buffers(call, expected, (enough, NUMBERS), || {
+        about_two_tables(n, first, second)
+    });
 }
 
 /// A call that works on bytes and writes into a buffer.
@@ -199,6 +213,12 @@ pub fn about_list(n: usize, list: &[u16]) -> String {
 /// A table, for a message.
 pub fn about_table(n: usize, table: &[u8]) -> String {
     format!("n = {n}, table of {}: {:02X?}", table.len(), front(table))
+}
+
+/// Two tables, for a message.
+pub fn about_two_tables(n: usize, first: &[u8], second: &[u8]) -> String {
+    let [first, second] = [first, second].map(|table| about_table(n, table));
+    format!("{first}, beside {second}")
 }
 
 /// What is handed out: all of an accepted record, and nothing beside a refusal.

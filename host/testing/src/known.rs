@@ -1,7 +1,7 @@
 //! Records, vectors, texts and tables that are refused, with the number and the place that documents 01 and 02 give them, groups with what
 //! taking them out comes to, records that are entered, changes by part numbers, records of both editions and changes of edition 2, texts with
-//! their records, machines with their cut sets and with their idle parts, and stock patterns: worked out by hand, and asked of the calculator
-//! and of the second implementation alike.
+//! their records, machines with their cut sets and with their idle parts, pairs of machines with their joint signatures, and stock patterns:
+//! worked out by hand, and asked of the calculator and of the second implementation alike.
 
 use crate::naive_records::{Change, TOP_NUMBER};
 use nahokipe::Pattern::{self, AtLeast, Ring, Row};
@@ -693,6 +693,41 @@ pub const IDLE_MACHINES: [IdleMachine; 15] = [
         &[0x60],
         &[0, 0, 0, 0, 0, 0, 0, 0, 0, 0, 0, 0, 0xFF, 0xFF, 0xFF, 0xFF],
         0b001_1111,
+    ),
+];
+
+/// Two machines of the same n parts: their tables, and the square of their joint signature, row by row.
+pub type JointMachines = (usize, [&'static [u8]; 2], &'static [u64]);
+
+/// One part; two of which one, either or both run the machines; a controller with two pumps beside two of three; the middle part of three
+/// beside the two others; document 004's example 2.10, which prints half of these counts out of 12, both ways round; the bridge beside itself.
+pub const JOINT_MACHINES: [JointMachines; 13] = [
+    (1, [&[0x02], &[0x02]], &[1]),
+    (2, [&[0x0A], &[0x0A]], &[1, 0, 0, 1]),
+    (2, [&[0x0A], &[0x0C]], &[0, 1, 1, 0]),
+    (2, [&[0x0A], &[0x0E]], &[0, 1, 0, 1]),
+    (2, [&[0x0E], &[0x0A]], &[0, 0, 1, 1]),
+    (2, [&[0x0C], &[0x08]], &[1, 0, 1, 0]),
+    (2, [&[0x08], &[0x0E]], &[0, 2, 0, 0]),
+    (2, [&[0x0E], &[0x08]], &[0, 0, 2, 0]),
+    (3, [&[0xA8], &[0xE8]], &[0, 2, 0, 0, 4, 0, 0, 0, 0]),
+    (3, [&[0xCC], &[0xA0]], &[0, 2, 0, 2, 0, 0, 2, 0, 0]),
+    (
+        4,
+        [&[0x88, 0x88], &[0x00, 0xFC]],
+        &[0, 6, 6, 0, 4, 2, 2, 0, 2, 2, 0, 0, 0, 0, 0, 0],
+    ),
+    (
+        4,
+        [&[0x00, 0xFC], &[0x88, 0x88]],
+        &[0, 4, 2, 0, 6, 2, 2, 0, 6, 2, 0, 0, 0, 0, 0, 0],
+    ),
+    (
+        5,
+        [&[0x00, 0xEA, 0xEC, 0xEE], &[0x00, 0xEA, 0xEC, 0xEE]],
+        &[
+            0, 0, 0, 0, 0, 0, 24, 0, 0, 0, 0, 0, 72, 0, 0, 0, 0, 0, 24, 0, 0, 0, 0, 0, 0,
+        ],
     ),
 ];
 

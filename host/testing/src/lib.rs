@@ -11,6 +11,7 @@ pub mod naive_drawing;
 pub mod naive_editions;
 pub mod naive_figures;
 pub mod naive_idle;
+pub mod naive_joint;
 pub mod naive_patterns;
 pub mod naive_records;
 pub mod naive_report;

@@ -86,6 +86,22 @@ pub fn machines(n: usize) -> Vec<Vec<u8>> {
         .collect()
 }
 
+/// Every two machines of n parts, each beside itself too, n up to 4.
+pub fn every_pair(n: usize) -> Vec<[Vec<u8>; 2]> {
+    let machines = machines(n);
+    let mut pairs = Vec::new();
+    for first in &machines {
+        let beside = |second: &Vec<u8>| [first.clone(), second.clone()];
+        pairs.extend(machines.iter().map(beside));
+    }
+    pairs
+}
+
+/// Two tables of n parts that are accepted.
+pub fn random_pair(seeded: &mut Seeded, n: usize) -> [Vec<u8>; 2] {
+    [(); 2].map(|_| random_table(seeded, n))
+}
+
 /// Every machine of up to four parts, and random ones of up to sixteen.
 pub fn every_and_random_machines(seed: u64) -> Vec<(usize, Vec<u8>)> {
     let mut seeded = Seeded::new(seed);

@@ -2,8 +2,8 @@
 
 use crate::arguments::Arguments;
 use crate::ending::Ending;
-use crate::nearest;
-use crate::{changes, diff, edition, entering, explain, figures, idle, page, shares, showing};
+use crate::{changes, diff, edition, entering, explain, figures, idle};
+use crate::{joint, nearest, page, shares, showing};
 use std::ffi::OsStr;
 
 /// A command of the program.
@@ -43,7 +43,7 @@ const ONE_RECORD: Command = Command {
 };
 
 /// All commands, in the order of the help.
-static COMMANDS: [Command; 16] = [
+static COMMANDS: [Command; 17] = [
     Command {
         name: "enter",
         words: "TEXT RECORD",
@@ -203,6 +203,29 @@ polynomial in two variables, printed side by side and compared.
         fewest: 2,
         most: None,
         run: shares::shares,
+        ..ONE_RECORD
+    },
+    Command {
+        name: "joint",
+        words: "FIRST SECOND",
+        summary: "two machines on one cart: which failure stops which",
+        details: "\
+FIRST and SECOND are the records of two machines that share parts. Row k and column l of the
+square say in how many orders the k-th failure stops the first machine and the l-th the second;
+a dot is 0. The sums, at `any`, are the signatures: of the first machine behind the rows, of the
+second below the columns. Then it says in how many orders the first machine stops before the
+second, at the same failure, and after it.
+
+Both records must have the same part numbers, and equal numbers are taken for the same part. So
+enter both machines with the same `parts` line, that of the cart; a part that one of them does
+not need is idle there.
+
+    nahokipe joint heating.record pumping.record
+",
+        fewest: 2,
+        most: Some(2),
+        inputs: 2,
+        run: joint::joint,
         ..ONE_RECORD
     },
     Command {

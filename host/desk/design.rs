@@ -149,7 +149,7 @@ impl<'a> Difference<'a> {
 }
 
 /// The numbers of one machine that another lacks.
-fn numbers_lacking(these: &[u64], those: &[u64]) -> Vec<u64> {
+pub fn numbers_lacking(these: &[u64], those: &[u64]) -> Vec<u64> {
     let lacking = these.iter().filter(|number| !those.contains(number));
     lacking.copied().collect()
 }

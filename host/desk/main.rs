@@ -17,6 +17,7 @@ mod explain;
 mod figures;
 mod files;
 mod idle;
+mod joint;
 mod meaning;
 mod names;
 mod nearest;

@@ -10,6 +10,7 @@ mod explaining;
 mod faults;
 mod folder;
 mod idle;
+mod joint;
 mod keeping;
 mod manual;
 mod markup;

@@ -4,7 +4,7 @@ use crate::folder::{assert_has, Folder, BRIDGE, PUMPS};
 use std::fs;
 
 /// The commands that read one record, with what else they want.
-pub const READING: [&[&str]; 14] = [
+pub const READING: [&[&str]; 15] = [
     &["show"],
     &["cuts"],
     &["idle"],
@@ -19,6 +19,7 @@ pub const READING: [&[&str]; 14] = [
     &["edition"],
     &["edition", "2"],
     &["diff", "good"],
+    &["joint", "good"],
 ];
 
 /// A command of these on a file.
@@ -68,7 +69,8 @@ fn empty_files_and_texts_for_records() {
             .refused(25, BRIDGE.len());
         assert_has(&explanation, &["place 12: the first of these bytes"]);
     }
-    folder.run(&["diff", "empty", "good"]).refused(21, 0);
+    folder.run(&["diff", "good", "empty"]).refused(21, 0);
+    folder.run(&["joint", "good", "empty"]).refused(21, 0);
     folder.run(&["enter", "empty", "record"]).refused(27, 1);
     folder.run(&["new", "empty", "record"]).refused(27, 1);
     folder.run(&["new", "good", "record"]).refused(27, 1);

@@ -45,6 +45,7 @@ fn a_closed_pipe_ends_quietly() {
         &["explain", "17"],
         &["diff", "pumps", "record"],
         &["shares", "pumps", "3"],
+        &["joint", "pumps", "pumps"],
     ] {
         let ran = closed(&folder, words, None);
         assert_eq!((ran.status, ran.error.as_str()), (Some(0), ""), "{words:?}");
@@ -89,7 +90,7 @@ fn the_head_of_a_page() {
 fn a_full_disk_behind_standard_output() {
     let folder = Folder::with("pumps", PUMPS);
     folder.write("text", "mark 5\nparts 1 2\nset 1\n");
-    let printing: [&[&str]; 12] = [
+    let printing: [&[&str]; 13] = [
         &["show", "pumps"],
         &["cuts", "pumps"],
         &["idle", "pumps"],
@@ -102,6 +103,7 @@ fn a_full_disk_behind_standard_output() {
         &["edition", "pumps"],
         &["edition", "pumps", "2", "-o", "-"],
         &["diff", "pumps", "pumps"],
+        &["joint", "pumps", "pumps"],
     ];
     for words in printing {
         let mut command = folder.command(words);

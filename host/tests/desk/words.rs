@@ -3,9 +3,9 @@
 use crate::folder::{assert_has, Folder, PUMPS};
 
 /// All commands.
-pub const COMMANDS: [&str; 16] = [
-    "enter", "new", "show", "cuts", "idle", "drawing", "report", "figures", "shares", "add-part",
-    "add-set", "take-out", "edition", "diff", "page", "explain",
+pub const COMMANDS: [&str; 17] = [
+    "enter", "new", "show", "cuts", "idle", "drawing", "report", "figures", "shares", "joint",
+    "add-part", "add-set", "take-out", "edition", "diff", "page", "explain",
 ];
 
 #[test]
@@ -69,6 +69,8 @@ fn no_command_and_unknown_commands() {
         ("cut", "cuts"),
         ("Idle", "idle"),
         ("idel", "idle"),
+        ("join", "joint"),
+        ("Joint", "joint"),
         ("news", "new"),
         ("editions", "edition"),
     ];
@@ -86,7 +88,7 @@ fn no_command_and_unknown_commands() {
 }
 
 /// Words that are wrong, and what is said of them.
-const WRONG_USES: [(&[&str], &str); 57] = [
+const WRONG_USES: [(&[&str], &str); 64] = [
     (&["enter", "text"], "a word is missing"),
     (
         &["enter", "text", "record", "more"],
@@ -212,6 +214,25 @@ const WRONG_USES: [(&[&str], &str); 57] = [
     ),
     (&["shares", "pumps"], "a word is missing"),
     (&["shares", "pumps", "3", "3"], "number 3 stands twice"),
+    (&["joint"], "a word is missing"),
+    (&["joint", "pumps"], "a word is missing"),
+    (
+        &["joint", "pumps", "pumps", "3"],
+        "`3` is a word too many",
+    ),
+    (&["joint", "-", "-"], "standard input cannot be read twice"),
+    (
+        &["joint", "pumps", "pumps", "--names", "names"],
+        "there is no option `--names`",
+    ),
+    (
+        &["joint", "pumps", "pumps", "--names=names"],
+        "there is no option `--names=names`\n",
+    ),
+    (
+        &["joint", "pumps", "pumps", "-o", "new"],
+        "there is no option `-o`",
+    ),
     (&["diff", "pumps"], "a word is missing"),
     (&["diff", "-", "-"], "standard input cannot be read twice"),
     (

@@ -13,8 +13,9 @@
  * Every function takes every input. A call that is refused leaves what was lent to it as it was; one that is given writes its result's
  * length and not one cell more.
  *
- * What a caller has to keep: a pointer is not null, also where its length is 0, and leads to as many cells as its length says; no two
- * buffers that are lent to one call overlap; and nothing else changes them before the call returns.
+ * What a caller has to keep: a pointer is not null, also where its length is 0, and leads to as many cells as its length says; a buffer
+ * that a call writes to overlaps no other that is lent to it, while two that it only reads may be one, as for a machine beside itself; and
+ * nothing else changes them before the call returns.
  *
  * Positions of parts are not part numbers: when a part is taken out, the parts behind it move to lower positions and keep their numbers.
  * After part 3 has left a machine of the parts 1 to 5, part 4 stands at position 3. Sets and groups are masks of positions everywhere.

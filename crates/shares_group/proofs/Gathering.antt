@@ -1,16 +1,14 @@
 -- What a pass over the words of a table gathers by class. Assumes nothing.
-use mathlib.Core.Path.{_≡_, ap, _∙_}
+use mathlib.Core.Path.{_≡_, ap}
 use mathlib.Core.Bool.{Bool, cond, _&&_}
 use mathlib.Core.List.{List}
 use Prim.Native.Nat.{ℕ, _^_, _≤_}
-use native.Mathlib.Nat.{lt-of-lt-of-le}
 use lib.Dec.{eqb}
-use lib.Pow.{pow-mono}
 use Rattle.theory_sums.specs.Sums.{gathered}
 use Rattle.theory_sums.proofs.Sums.{sumBelow-same}
 use Rattle.theory_sets.specs.Tables.{inTable}
 use Rattle.structure_words.specs.Words.{inWords, wordsOf}
-use Rattle.structure_words.proofs.Words.{inWords-wordsOf}
+use Rattle.structure_words.proofs.Words.{words-say}
 
 -- a pass over the words of a table gathers what the table's path sets give
 pub gathered-words : (n : ℕ) (table words : List ℕ) (class amount : ℕ → ℕ) → n ≤ 16 → words ≡ wordsOf (inTable table) → (i : ℕ)
@@ -18,5 +16,4 @@ pub gathered-words : (n : ℕ) (table words : List ℕ) (class amount : ℕ → 
 unfolding gathered
 gathered-words n table words class amount few loaded i =
     sumBelow-same _ _ (2 ^ n) (λ a h.
-    ap (λ (b : Bool). cond (b && eqb (class a) i) (amount a) 0)
-    (ap (λ (ws : List ℕ). inWords ws a) loaded ∙ inWords-wordsOf (inTable table) a (lt-of-lt-of-le h (pow-mono few))))
+    ap (λ (b : Bool). cond (b && eqb (class a) i) (amount a) 0) (words-say n (inTable table) words few loaded a h))

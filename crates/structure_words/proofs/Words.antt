@@ -3,15 +3,15 @@
 use mathlib.Core.Path.{_≡_, sym, ap, ap₂, _∙_, subst}
 use mathlib.Core.Bool.{Bool, false, not, _&&_, _||_}
 use mathlib.Core.List.{List}
-use Prim.Native.Nat.{ℕ, _+_, _-_, _*_, _/_, _%_, _^_, _<_}
+use Prim.Native.Nat.{ℕ, _+_, _-_, _*_, _/_, _%_, _^_, _≤_, _<_}
 use native.Mathlib.Decide.{ℕ-discrete}
-use native.Mathlib.Nat.{mod-lt, div-add-mod, zero-lt-suc}
+use native.Mathlib.Nat.{mod-lt, div-add-mod, zero-lt-suc, lt-of-lt-of-le}
 use native.Mathlib.Numerals.{add-one}
 use native.Mathlib.Omega.{arith}
 use lib.Bits.{or-lt, and-lt}
 use lib.Dec.{eqb}
 use lib.ListN.{getD, set, length-set, replicate, length-replicate, getD-replicate}
-use lib.Pow.{pow-pos, pow-lt}
+use lib.Pow.{pow-pos, pow-lt, pow-mono}
 use lib.Seq.{getD-set-same, getD-set-other}
 use borrow.Author.Tests.{ne-eqb}
 use Rattle.numbers.proofs.Tables.{tabulate-at, tabulate-length, tabulate-unique}
@@ -59,6 +59,10 @@ inWords-wordsOf works a h =
     let split : 64 * (a / 64) + a % 64 ≡ a = div-add-mod a 64 in
     ap (λ (w : ℕ). has w (a % 64)) (tabulate-at 1024 (wordOf works) (a / 64) 0 (omega (arith, split)))
     ∙ has-wordOf works (a / 64) (a % 64) (mod-lt a (zero-lt-suc 63)) ∙ ap works split
+
+-- the words of a set function say of the sets of n parts what it says
+pub words-say : (n : ℕ) (works : ℕ → Bool) (words : List ℕ) → n ≤ 16 → words ≡ wordsOf works → (a : ℕ) → a < 2 ^ n → inWords words a ≡ works a
+words-say n works words few is a h = ap (λ (ws : List ℕ). inWords ws a) is ∙ inWords-wordsOf works a (lt-of-lt-of-le h (pow-mono few))
 
 -- ---- joined, common and remaining sets
 

@@ -14,7 +14,7 @@ use Rattle.theory_orders.specs.Counting.{behind, entries, stops}
 use Rattle.theory_orders.proofs.Positions.{Within, order-within, within-rest, mask-step, mask-below, mask-order}
 
 -- the first entry stops the system, or a later one does, where the system works at first
-stop-or-later : (first later : Bool) → (later ≡ true → first ≡ true) → indicator (not later && first) + indicator later ≡ indicator first
+pub stop-or-later : (first later : Bool) → (later ≡ true → first ≡ true) → indicator (not later && first) + indicator later ≡ indicator first
 stop-or-later first true h = ap indicator (sym (h refl))
 stop-or-later first false h = add-zero (indicator first)
 

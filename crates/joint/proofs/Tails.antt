@@ -3,12 +3,11 @@ use mathlib.Core.Path.{_≡_, refl, sym, ap, ap₂, _∙_}
 use mathlib.Core.Bool.{Bool}
 use mathlib.Core.List.{List}
 use mathlib.Core.Logic.{_⊎_, inl, inr}
-use Prim.Native.Nat.{ℕ, zero, suc, _+_, _-_, _*_, _/_, _%_, _^_, _≤_, _<_, min}
+use Prim.Native.Nat.{ℕ, zero, suc, _+_, _-_, _*_, _/_, _%_, _≤_, _<_, min}
 use native.Mathlib.Nat.{min-eq-left, le-trans, le-of-eq, mul-comm, mul-le-mul, mul-le-mul-right, lt-of-lt-of-le, div-lt-iff-lt-mul, mod-lt, mul-zero, not-suc-le-zero, zero-lt-suc}
 use native.Mathlib.Numerals.{add-one}
 use native.Mathlib.Omega.{arith}
 use lib.ListN.{length, getD}
-use lib.Pow.{pow-mono}
 use borrow.Author.Tests.{le-leb, lt-leb}
 use Rattle.numbers.specs.Counts.{factorial}
 use Rattle.numbers.specs.Tables.{tabulate}
@@ -19,7 +18,7 @@ use Rattle.theory_sets.specs.Tables.{inTable}
 use Rattle.answer.specs.declared.Verdict.the-variants.{Accepted}
 use Rattle.answer.proofs.Outcomes.{then-accepted}
 use Rattle.structure_words.specs.Words.{inWords, wordsOf}
-use Rattle.structure_words.proofs.Words.{inWords-wordsOf}
+use Rattle.structure_words.proofs.Words.{words-say}
 use Rattle.structure.specs.Accepted.{AcceptedTable}
 use Rattle.structure.specs.Checks.{tableRefusal}
 use Rattle.structure.proofs.Acceptance.{accepted-table}
@@ -127,11 +126,6 @@ square-few n h = mul-le-mul h h
 
 -- ---- the pairs of two accepted tables
 
--- the words of a table say of the sets of n parts what the table says
-words-same : (n : ℕ) (table words : List ℕ) → n ≤ 16 → words ≡ wordsOf (inTable table) → (a : ℕ) → a < 2 ^ n → inWords words a ≡ inTable table a
-words-same n table words few is a h =
-    ap (λ (ws : List ℕ). inWords ws a) is ∙ inWords-wordsOf (inTable table) a (lt-of-lt-of-le h (pow-mono few))
-
 pub tables-accepted : (n : ℕ) (first second : List ℕ) → jointRefusal n first second ≡ Accepted → AcceptedTable n first × AcceptedTable n second
 unfolding jointRefusal
 tables-accepted n first second h =
@@ -146,8 +140,8 @@ module _ (n : ℕ) (first second : List ℕ) (accepted : jointRefusal n first se
       let tables = tables-accepted n first second accepted in
       let few = tables .0 .few in
       let parts : min n 16 ≡ n = min-eq-left few in
-      let same-one = words-same n first one few is-one in
-      let same-other = words-same n second other few is-other in
+      let same-one = words-say n (inTable first) one few is-one in
+      let same-other = words-say n (inTable second) other few is-other in
       record {
         few = few;
         one = inTable first;

@@ -17,7 +17,7 @@ use Rattle.theory_orders.specs.Orders.{orders, mask}
 use Rattle.theory_orders.specs.Counting.{Entry, behind, entries, stops, inGroup, stopsAsKth}
 use Rattle.theory_orders.proofs.Orders.{orders-only, sum-of-order}
 use Rattle.theory_orders.proofs.Positions.{Within, order-within, within-rest, within-first, mask-below, mask-order}
-use Rattle.theory_orders.proofs.Stopping.{works-before}
+use Rattle.theory_orders.proofs.Stopping.{stop-or-later, works-before}
 use Rattle.theory_joint.specs.Joint.{stoppedBy}
 
 -- ---- the k-th failure
@@ -108,12 +108,8 @@ module _ (n : ℕ) (works : ℕ → Bool) (coherent : Semicoherent n works) wher
         arith,
         stopped-until k list h (le-trans (le-step (le-refl k)) l),
         ap indicator (stopped-by n works k list h l),
-        step (worksAfter works k list) (worksAfter works (suc k) list) (works-earlier k list h),
+        stop-or-later (worksAfter works k list) (worksAfter works (suc k) list) (works-earlier k list h),
       )
-    where
-      step : (before after : Bool) → (after ≡ true → before ≡ true) → indicator (not after && before) + indicator after ≡ indicator before
-      step before true w = ap indicator (sym (w refl))
-      step before false w = add-zero (indicator before)
 
 pub order-length : (n : ℕ) (order : List ℕ) → List·Memᴰ order (orders n) → length order ≡ n
 order-length n order m = sym (sum-ones order) ∙ sum-of-order (λ i. 1) n order m ∙ sumBelow-ones n

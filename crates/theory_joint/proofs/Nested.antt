@@ -23,7 +23,7 @@ use Rattle.theory_orders.proofs.Divisions.{divisions, divisions-same}
 use Rattle.theory_figures.proofs.Holding.{size-holds}
 use Rattle.theory_joint.specs.Formula.{nestings, pathOf, nestedPairs}
 use Rattle.theory_joint.proofs.Failures.{worksAfter, order-length}
-use Rattle.theory_joint.proofs.Places.{AtSets, doubleDivisions, leftAt, leaving, sum-places}
+use Rattle.theory_joint.proofs.Places.{divisions-none, AtSets, doubleDivisions, leftAt, leaving, sum-places}
 
 -- in how many orders the first machine works after k failures and the second after l
 unfoldable pub survivals : ℕ → (ℕ → Bool) → (ℕ → Bool) → ℕ → ℕ → ℕ
@@ -44,11 +44,6 @@ survivals-most n first second k l =
     most false = omega arith
 
 -- ---- a place of a list
-
-divisions-none : (f : List ℕ → List ℕ → ℕ) (list : List ℕ) → ((before after : List ℕ) → f before after ≡ 0) → divisions f list ≡ 0
-unfolding divisions
-divisions-none f [] h = h [] []
-divisions-none f (i ∷ rest) h = ap₂ (λ (u v : ℕ). u + v) (h [] (i ∷ rest)) (divisions-none (λ before after. f (i ∷ before) after) rest (λ before after. h (i ∷ before) after))
 
 -- of the ways to divide a list in two, the one with k entries before the place
 divisions-at : (f : List ℕ → List ℕ → ℕ) (k : ℕ) (list : List ℕ) → k ≤ length list

@@ -4,7 +4,7 @@ use mathlib.Core.Path.{_≡_, refl, sym, ap, ap₂, _∙_}
 use mathlib.Core.Bool.{Bool, true, false, cond, not, _&&_}
 use mathlib.Core.Logic.{_⊎_, inl, inr}
 use Prim.Native.Nat.{ℕ, _-_, _*_, _^_, _≤_, _<_}
-use native.Mathlib.Nat.{le-trans, le-of-eq, lt-of-le-of-lt, mul-comm, mul-le-mul-right}
+use native.Mathlib.Nat.{le-trans, le-of-eq, lt-of-le-of-lt, mul-comm, lt-of-mul-lt-mul-right}
 use native.Mathlib.Omega.{arith}
 use lib.Count.{ones-le}
 use lib.Dec.{leb, ltb, eqb}
@@ -54,19 +54,11 @@ few-nestings n i j h k l =
     none : tooMany n i j ≡ false
     none = any-none (tooMany n i) 17 j (any-none (λ y. any (tooMany n y) 17) 17 i (any-none (λ x. any (λ y. any (tooMany x y) 17) 17) 17 n refl (omega arith)) (omega arith)) (omega arith)
 
--- a product with a smaller factor
-less-of : (x y c : ℕ) → x * c < y * c → x < y
-less-of x y c h = cases (below-or-above x y)
-  where
-    cases : (x < y) ⊎ (y ≤ x) → x < y
-    cases (inl less) = less
-    cases (inr more) = absurd (omega (arith, mul-le-mul-right c more))
-
 pub pairs-few : (n : ℕ) (outer inner : ℕ → Bool) (i j : ℕ) → n ≤ 16 → nestedPairs n outer inner i j < 2 ^ 21
 pairs-few n outer inner i j few = cases (below-or-above n i) (below-or-above i j)
   where
     nested : i ≤ n → j ≤ i → nestedPairs n outer inner i j < 2 ^ 21
-    nested k l = less-of (nestedPairs n outer inner i j) (2 ^ 21) (nestings n i j)
+    nested k l = lt-of-mul-lt-mul-right (nestings n i j)
         (lt-of-le-of-lt (le-trans (le-of-eq (mul-comm (nestedPairs n outer inner i j) (nestings n i j) ∙ sym (survivals-nested n outer inner i j l k)))
         (survivals-most n outer inner (n - i) (n - j))) (few-nestings n i j few k l))
 

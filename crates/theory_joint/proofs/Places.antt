@@ -36,15 +36,17 @@ double-same : (f g : AtPlaces) (list : List ℕ) → ((before between behind : L
 unfolding doubleDivisions
 double-same f g list h = divisions-same _ _ list (λ before rest. divisions-same (f before) (g before) rest (h before))
 
+-- nothing at any place
+pub divisions-none : (f : List ℕ → List ℕ → ℕ) (list : List ℕ) → ((before after : List ℕ) → f before after ≡ 0) → divisions f list ≡ 0
+unfolding divisions
+divisions-none f [] h = h [] []
+divisions-none f (i ∷ rest) h = ap₂ (λ (u v : ℕ). u + v) (h [] (i ∷ rest)) (divisions-none (λ before after. f (i ∷ before) after) rest (λ before after. h (i ∷ before) after))
+
 -- a sum over a list of what is summed over the divisions of another
 sum-divisions-of : (f : AtPlaces) (xs : List (List ℕ)) (list : List ℕ)
     → sum (λ x. divisions (f x) list) xs ≡ divisions (λ before after. sum (λ x. f x before after) xs) list
 unfolding sum divisions
-sum-divisions-of f [] list = sym (none list)
-  where
-    none : (rest : List ℕ) → divisions (λ before after. 0) rest ≡ 0
-    none [] = refl
-    none (i ∷ rest) = ap (λ (u : ℕ). 0 + u) (none rest)
+sum-divisions-of f [] list = sym (divisions-none (λ before after. 0) list (λ before after. refl))
 sum-divisions-of f (x ∷ xs) list =
     ap (λ (u : ℕ). divisions (f x) list + u) (sum-divisions-of f xs list) ∙ sym (divisions-add (f x) (λ before after. sum (λ y. f y before after) xs) list)
 

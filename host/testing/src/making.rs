@@ -3,8 +3,9 @@
 use crate::naive::{self, MOST_SETS};
 use crate::naive_bytes::numbers_bytes;
 use crate::naive_editions::{edition_2_bytes, edition_2_numbers, MOST_RETIRED};
-use crate::naive_records::{record_bytes, record_numbers, Plain, TOP_NUMBER};
+use crate::naive_records::{record_bytes, record_numbers, whole_record, Plain, TOP_NUMBER};
 use crate::seeded::Seeded;
+use nahokipe::Refusal;
 use std::collections::BTreeSet;
 
 /// All sets of `size` parts among n, ascending.
@@ -257,6 +258,17 @@ pub fn spoilt_record(seeded: &mut Seeded, n: usize, round: usize) -> Vec<u8> {
         0 => [random_record(seeded, n), vec![1]].concat(),
         _ => damaged_record(seeded, n),
     }
+}
+
+/// Spoilt records of 1 to 16 parts, so many rounds of each, that are refused, and what refuses each.
+pub fn refused_records(seeded: &mut Seeded, rounds: usize) -> Vec<(Vec<u8>, Refusal)> {
+    let kinds = (1..=16).flat_map(|n| (0..rounds).map(move |round| (n, round)));
+    let spoilt = kinds.map(|(n, round)| spoilt_record(seeded, n, round));
+    let refused = |bytes: Vec<u8>| {
+        let refusal = whole_record(&bytes).err()?;
+        Some((bytes, refusal))
+    };
+    spoilt.filter_map(refused).collect()
 }
 
 /// A record of n parts with one of its numbers changed, taken away, given twice or exchanged with the next; most are refused.

@@ -4,9 +4,9 @@ use crate::counting::counts;
 use crate::folder::{assert_has, Folder, BRIDGE, PUMPS};
 use crate::manual::with_examples;
 use nahokipe_testing::making::{every_plain, largest_record, minimal_of_list, random_list_over};
-use nahokipe_testing::making::{random_plain, random_set, spoilt_record};
+use nahokipe_testing::making::{random_plain, random_set, refused_records};
 use nahokipe_testing::naive_idle::idle_parts;
-use nahokipe_testing::naive_records::{named, record_bytes, table_of_record, whole_record};
+use nahokipe_testing::naive_records::{named, record_bytes, table_of_record};
 use nahokipe_testing::naive_records::{Plain, TOP_NUMBER};
 use nahokipe_testing::seeded::Seeded;
 
@@ -316,23 +316,16 @@ fn from_standard_input() {
 /// What is no record is refused as every command refuses it, and a file of names is then not read.
 #[test]
 fn spoilt_records() {
-    let mut seeded = Seeded::new(784);
+    let records = refused_records(&mut Seeded::new(784), 4);
+    assert!(records.len() > 30, "{}", records.len());
     let folder = Folder::new();
-    let mut seen = 0;
-    let rounds = (1..=16).flat_map(|n| (0..4).map(move |round| (n, round)));
-    for (n, round) in rounds {
-        let bytes = spoilt_record(&mut seeded, n, round);
+    for (bytes, refusal) in records {
         folder.write("record", &bytes);
-        let Err(refusal) = whole_record(&bytes) else {
-            continue;
-        };
-        seen += 1;
         let ran = folder.run(&["idle", "record", "--names", "nothing"]);
         let explanation = ran.refused(refusal.number, refusal.place);
         assert_has(&explanation, &["nahokipe: record: this is no whole record"]);
         assert_eq!(folder.read("record"), bytes);
     }
-    assert!(seen > 30, "{seen}");
 }
 
 #[test]

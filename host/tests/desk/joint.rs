@@ -6,7 +6,7 @@ use crate::editions::random_second;
 use crate::folder::{assert_has, Folder, Ran, BRIDGE, PUMPS};
 use crate::share::Share;
 use nahokipe_testing::making::{every_plain, largest_plain, minimal_of_list, random_list};
-use nahokipe_testing::making::{random_plain, sets_of_size, spoilt_record};
+use nahokipe_testing::making::{random_plain, refused_records, sets_of_size};
 use nahokipe_testing::naive_editions::edition_2_bytes;
 use nahokipe_testing::naive_figures::factorial;
 use nahokipe_testing::naive_joint::joint_signature;
@@ -424,18 +424,12 @@ fn other_marks_and_editions() {
 /// the first.
 #[test]
 fn spoilt_records() {
-    let mut seeded = Seeded::new(805);
+    let records = refused_records(&mut Seeded::new(805), 3);
+    assert!(records.len() > 20, "{}", records.len());
     let folder = Folder::with("pumps", PUMPS);
     folder.write("empty", "");
-    let mut seen = 0;
-    let rounds = (1..=16).flat_map(|n| (0..3).map(move |round| (n, round)));
-    for (n, round) in rounds {
-        let bytes = spoilt_record(&mut seeded, n, round);
+    for (bytes, refusal) in records {
         folder.write("record", &bytes);
-        let Err(refusal) = whole_record(&bytes) else {
-            continue;
-        };
-        seen += 1;
         for words in [["joint", "record", "pumps"], ["joint", "pumps", "record"]] {
             let ran = folder.run(&words);
             let explanation = ran.refused(refusal.number, refusal.place);
@@ -446,7 +440,6 @@ fn spoilt_records() {
         let explanation = folder.run(&["joint", "empty", "record"]).refused(21, 0);
         assert_has(&explanation, &["nahokipe: empty: "]);
     }
-    assert!(seen > 20, "{seen}");
 }
 
 #[test]

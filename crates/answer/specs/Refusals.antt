@@ -128,3 +128,7 @@ differentCount = 31
 -- a record that is to be written as one of edition 1 has retired numbers
 abbrev pub retiredPresent : ℕ
 retiredPresent = 32
+
+-- a tail sheet is to be written by name
+abbrev pub tailSheet : ℕ
+tailSheet = 34

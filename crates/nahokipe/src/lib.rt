@@ -36,7 +36,8 @@ ghost use Rattle.record_naming.specs.Naming.{foundMask, namedRefusal};
 ghost use Rattle.record_by_number.specs.Parts.{partPosition, partsMask, changedThere};
 ghost use Rattle.drawing_text.specs.Drawings.{recordOfDrawing};
 ghost use Rattle.drawing_text.specs.Writing.{drawingOfRecord};
-ghost use Rattle.sheet.specs.Sheets.{sheetBytes, sheetOf};
+ghost use Rattle.sheet.specs.Saving.{sheetAs, savedSheet, tailSheetRefusal};
+ghost use Rattle.sheet.specs.Sheets.{sheetOf};
 ghost use Rattle.sheet_entries.specs.Answers.{entriesDelivered};
 ghost use Rattle.report_lines.specs.Lines.{refusedLine};
 ghost use Rattle.report_text.specs.Reporting.{reportBuffers, reported};
@@ -313,17 +314,31 @@ pub extern "C" fn nahokipe_convert(
     of_written(vector::convert_numbered(kind, n, entries, target, cells))
 }
 
-// The sheet of a vector, whose kind comes as a number.
+// A vector saved as a sheet, a tail as the signature; its kind comes as a number.
 #[no_mangle]
-pub extern "C" fn nahokipe_write_sheet(
+pub extern "C" fn nahokipe_save_sheet(
     kind: u8,
     n: usize,
     entries: &[i64],
     buffer: &mut [u8],
 ) -> Answer
-    ensures { λ r. ⌜ outcome r (now (buffer .exit)) ≡ retold ofWritten (delivered (kindRefusal kind (vectorRefusal (kindOf kind) n (now (entries .entry)))) (sheetBytes (kindOf kind) n (now (entries .entry))) (now (buffer .entry))) ⌝ }
+    ensures { λ r. ⌜ outcome r (now (buffer .exit)) ≡ retold ofWritten (delivered (kindRefusal kind (vectorRefusal (kindOf kind) n (now (entries .entry)))) (savedSheet (kindOf kind) n (now (entries .entry))) (now (buffer .entry))) ⌝ }
 {
-    of_written(sheet::write_sheet_numbered(kind, n, entries, buffer))
+    of_written(sheet::save_sheet_numbered(kind, n, entries, buffer))
+}
+
+// A vector saved as a sheet of the kind that is named; both kinds come as numbers.
+#[no_mangle]
+pub extern "C" fn nahokipe_save_sheet_as(
+    kind: u8,
+    n: usize,
+    entries: &[i64],
+    target: u8,
+    buffer: &mut [u8],
+) -> Answer
+    ensures { λ r. ⌜ outcome r (now (buffer .exit)) ≡ retold ofWritten (delivered (tailSheetRefusal target (kindRefusal kind (kindRefusal target (vectorRefusal (kindOf kind) n (now (entries .entry)))))) (sheetAs (kindOf target) (kindOf kind) n (now (entries .entry))) (now (buffer .entry))) ⌝ }
+{
+    of_written(sheet::save_sheet_as_numbered(kind, n, entries, target, buffer))
 }
 
 // The entries of a sheet.

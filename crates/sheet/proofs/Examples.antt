@@ -1,19 +1,23 @@
 -- 01's sheets and those at the edges of its refusals, computed. Assumes nothing.
 use mathlib.Core.Path.{_≡_, refl}
-use mathlib.Core.List.{[], _∷_, _++_}
-use lib.IntN.{pos, negsuc}
+use mathlib.Core.List.{List, [], _∷_, _++_}
+use lib.IntN.{ℤ, pos, negsuc}
 use lib.ListN.{replicate}
-use Rattle.answer.specs.Outcome.{at}
+use Rattle.answer.specs.Outcome.{at, outcome, delivered}
+use Rattle.answer.specs.declared.Written.the-variants.{Refused}
 use Rattle.numbers.specs.Counts.{factorial, choose}
+use Rattle.numbers.specs.Tables.{tabulate}
 use Rattle.theory_sums.specs.Sums.{sumBelowℤ}
 use Rattle.theory_sets.specs.Masks.{any, those}
 use Rattle.codec.specs.ByteForm.{grouped, bytesOf, formsOf}
 use Rattle.codec.specs.Reads.{found, refused}
 use Rattle.codec.specs.Reading.{numberIn, numberAt}
 use Rattle.codec.specs.FieldReads.{fieldAt, fieldsAt}
-use Rattle.vector_kind.specs.Kinds.{kindOf}
-use Rattle.vector_conversion.specs.Vectors.{scaledCount, unitOf, wrongCount, falls, pathCountsRefusal, countsRefusal}
-use Rattle.vector_kind.specs.declared.Kind.the-variants.{Signature, Domination}
+use Rattle.theory_figures.specs.Figures.{tail, signature as signatureOf}
+use Rattle.vector_kind.specs.Kinds.{kindOf, kindRefusal}
+use Rattle.vector_conversion.specs.Vectors.{scaledCount, unitOf, wrongCount, falls, pathCountsRefusal, countsRefusal, vectorRefusal, figure}
+use Rattle.vector_kind.specs.declared.Kind.the-variants.{PathCounts, Tail, Signature, Domination}
+use Rattle.sheet.specs.Saving.{sheetAs, savedSheet, tailSheetRefusal}
 use Rattle.sheet.specs.Sheets.{entryBytes, sheetBytes, sheet, entriesAt, sheetOf}
 
 empty : sheetOf [] ≡ refused (at 21 0)
@@ -67,3 +71,29 @@ domination-bytes = refl
 largest : sheetOf (0x04 ∷ 0x01 ∷ 0x00 ∷ replicate 8 0xFF ++ (0x7F ∷ [])) ≡ refused (at 13 1)
 unfolding sheetOf entriesAt fieldsAt fieldAt numberAt numberIn kindOf factorial choose sumBelowℤ any those scaledCount unitOf wrongCount falls pathCountsRefusal countsRefusal
 largest = refl
+
+-- ---- tails, which are read and no longer written (02, §11)
+
+-- the bridge's tail
+abbrev bridgeTail : List ℤ
+bridgeTail = pos 120 ∷ pos 120 ∷ pos 96 ∷ pos 24 ∷ pos 0 ∷ pos 0 ∷ []
+
+-- as a sheet of kind 2 it is read
+tail-read : sheetOf (0x02 ∷ 0x05 ∷ 0x78 ∷ 0x78 ∷ 0x60 ∷ 0x18 ∷ 0x00 ∷ 0x00 ∷ []) ≡ found (sheet Tail 5 bridgeTail) 8
+unfolding sheetOf entriesAt fieldsAt fieldAt numberAt numberIn kindOf factorial choose sumBelowℤ any those scaledCount unitOf wrongCount falls pathCountsRefusal countsRefusal
+tail-read = refl
+
+-- it is saved as the bridge's signature 0, 24, 72, 24, 0
+tail-saved : savedSheet Tail 5 bridgeTail ≡ 0x03 ∷ 0x05 ∷ 0x00 ∷ 0x18 ∷ 0x48 ∷ 0x18 ∷ 0x00 ∷ []
+unfolding sheetBytes entryBytes formsOf bytesOf grouped factorial choose tabulate sumBelowℤ scaledCount unitOf figure signatureOf tail
+tail-saved = refl
+
+-- and by name as its path counts 0, 0, 2, 8, 5, 1
+tail-as-counts : sheetAs PathCounts Tail 5 bridgeTail ≡ 0x01 ∷ 0x05 ∷ 0x00 ∷ 0x00 ∷ 0x02 ∷ 0x08 ∷ 0x05 ∷ 0x01 ∷ []
+unfolding sheetBytes entryBytes formsOf bytesOf grouped factorial choose tabulate sumBelowℤ scaledCount unitOf figure
+tail-as-counts = refl
+
+-- by name as a tail it is 34, whatever is wrong beside: here the vector's kind is 0, n is 0 and the buffer is empty
+tail-by-name : delivered (tailSheetRefusal 2 (kindRefusal 0 (kindRefusal 2 (vectorRefusal (kindOf 0) 0 [])))) (sheetAs (kindOf 2) (kindOf 0) 0 []) []
+    ≡ outcome (Refused (at 34 0)) []
+tail-by-name = refl

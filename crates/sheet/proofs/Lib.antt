@@ -1,5 +1,6 @@
 pub mod Codes
 mod Written
+pub mod Saving
 pub mod Examples
 pub mod Bounds
 pub mod Lengths

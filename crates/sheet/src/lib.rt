@@ -1,4 +1,4 @@
-// Vector sheets (01, "Records on disk"), written from a vector.
+// Vector sheets (01, "Records on disk"), written from a vector. Tails are read and no longer written (02, §11).
 use answer::Verdict;
 use answer::Written;
 use vector::Vector;
@@ -8,38 +8,105 @@ ghost use Prim.Native.Nat.{_≤_};
 ghost use lib.ListN.{length};
 ghost use Rattle.answer.specs.Outcome.{outcome, delivered};
 ghost use Rattle.vector.specs.InStruct.{entriesOf, structRefusal};
-ghost use Rattle.vector_kind.specs.Kinds.{kindOf, kindRefusal};
+ghost use Rattle.vector_kind.specs.Kinds.{kindNumber, kindOf, kindRefusal};
 ghost use Rattle.vector_conversion.specs.Vectors.{vectorRefusal};
+ghost use Rattle.sheet.specs.Saving.{sheetAs, savedKind, savedSheet, tailSheetRefusal};
 ghost use Rattle.sheet.specs.Sheets.{coded, sheetBytes};
 
-// The sheet of a vector, into a lent buffer.
-pub fn write_sheet(kind: Kind, n: usize, entries: &[i64], buffer: &mut [u8]) -> Written
-    ensures { λ r. ⌜ outcome r (now (buffer .exit)) ≡ delivered (vectorRefusal kind n (now (entries .entry))) (sheetBytes kind n (now (entries .entry))) (now (buffer .entry)) ⌝ }
+// Saves a vector: the sheet of its own kind, and of a tail the signature sheet with the same path counts, into a lent buffer.
+pub fn save_sheet(kind: Kind, n: usize, entries: &[i64], buffer: &mut [u8]) -> Written
+    ensures { λ r. ⌜ outcome r (now (buffer .exit)) ≡ delivered (vectorRefusal kind n (now (entries .entry))) (savedSheet kind n (now (entries .entry))) (now (buffer .entry)) ⌝ }
 {
-    let verdict = vector_conversion::judge(kind, n, entries);
-    match verdict {
-        Verdict::Refused(refusal) => Written::Refused(refusal),
-        Verdict::Accepted => {
-            let mut sheet = [0u8; 155];
-            let length = write_numbers(kind, n, entries, &mut sheet);
-            answer::hand_out_bytes(&sheet[..length], buffer)
-        }
-    }
+    write_as(kind, n, entries, saved_kind(kind), buffer)
 }
 
-// The sheet of a vector whose kind comes as a number.
-pub fn write_sheet_numbered(kind: u8, n: usize, entries: &[i64], buffer: &mut [u8]) -> Written
-    ensures { λ r. ⌜ outcome r (now (buffer .exit)) ≡ delivered (kindRefusal kind (vectorRefusal (kindOf kind) n (now (entries .entry)))) (sheetBytes (kindOf kind) n (now (entries .entry))) (now (buffer .entry)) ⌝ }
+// Saves a vector whose kind comes as a number.
+pub fn save_sheet_numbered(kind: u8, n: usize, entries: &[i64], buffer: &mut [u8]) -> Written
+    ensures { λ r. ⌜ outcome r (now (buffer .exit)) ≡ delivered (kindRefusal kind (vectorRefusal (kindOf kind) n (now (entries .entry)))) (savedSheet (kindOf kind) n (now (entries .entry))) (now (buffer .entry)) ⌝ }
 {
     if vector_kind::is_kind(kind) {
-        return write_sheet(vector_kind::kind_of(kind), n, entries, buffer);
+        return save_sheet(vector_kind::kind_of(kind), n, entries, buffer);
     }
     answer::unwritten(answer::WRONG_KIND, 0)
 }
 
-// The sheet of a vector in a struct, into a lent buffer.
-pub fn sheet_of_vector(vector: Vector, buffer: &mut [u8]) -> Written
-    ensures { λ r. ⌜ outcome r (now (buffer .exit)) ≡ delivered (structRefusal vector) (sheetBytes (vector .kind) (vector .n) (entriesOf vector)) (now (buffer .entry)) ⌝ }
+// Saves a vector in a struct.
+pub fn save_vector(vector: Vector, buffer: &mut [u8]) -> Written
+    ensures { λ r. ⌜ outcome r (now (buffer .exit)) ≡ delivered (structRefusal vector) (savedSheet (vector .kind) (vector .n) (entriesOf vector)) (now (buffer .entry)) ⌝ }
+{
+    let kind = vector.kind;
+    write_vector_as(vector, saved_kind(kind), buffer)
+}
+
+// Saves a vector as the sheet of the kind that is named, which may not be the tail, into a lent buffer.
+pub fn save_sheet_as(
+    kind: Kind,
+    n: usize,
+    entries: &[i64],
+    target: Kind,
+    buffer: &mut [u8],
+) -> Written
+    ensures { λ r. ⌜ outcome r (now (buffer .exit)) ≡ delivered (tailSheetRefusal (kindNumber target) (vectorRefusal kind n (now (entries .entry)))) (sheetAs target kind n (now (entries .entry))) (now (buffer .entry)) ⌝ }
+{
+    if target.number() == 2 {
+        return answer::unwritten(answer::TAIL_SHEET, 0);
+    }
+    write_as(kind, n, entries, target, buffer)
+}
+
+// Saves a vector by the kind that is named, where both kinds come as numbers.
+pub fn save_sheet_as_numbered(
+    kind: u8,
+    n: usize,
+    entries: &[i64],
+    target: u8,
+    buffer: &mut [u8],
+) -> Written
+    ensures { λ r. ⌜ outcome r (now (buffer .exit)) ≡ delivered (tailSheetRefusal target (kindRefusal kind (kindRefusal target (vectorRefusal (kindOf kind) n (now (entries .entry)))))) (sheetAs (kindOf target) (kindOf kind) n (now (entries .entry))) (now (buffer .entry)) ⌝ }
+{
+    if target == 2 {
+        return answer::unwritten(answer::TAIL_SHEET, 0);
+    }
+    if vector_kind::is_kind(kind) {
+        if vector_kind::is_kind(target) {
+            return write_as(
+                vector_kind::kind_of(kind),
+                n,
+                entries,
+                vector_kind::kind_of(target),
+                buffer,
+            );
+        }
+        return answer::unwritten(answer::WRONG_KIND, 0);
+    }
+    answer::unwritten(answer::WRONG_KIND, 0)
+}
+
+// Saves a vector in a struct by the kind that is named.
+pub fn save_vector_as(vector: Vector, target: Kind, buffer: &mut [u8]) -> Written
+    ensures { λ r. ⌜ outcome r (now (buffer .exit)) ≡ delivered (tailSheetRefusal (kindNumber target) (structRefusal vector)) (sheetAs target (vector .kind) (vector .n) (entriesOf vector)) (now (buffer .entry)) ⌝ }
+{
+    if target.number() == 2 {
+        return answer::unwritten(answer::TAIL_SHEET, 0);
+    }
+    write_vector_as(vector, target, buffer)
+}
+
+// The kind that a vector is saved as.
+fn saved_kind(kind: Kind) -> Kind
+    ensures { λ r. ⌜ r ≡ savedKind kind ⌝ }
+{
+    match kind {
+        Kind::PathCounts => Kind::PathCounts,
+        Kind::Tail => Kind::Signature,
+        Kind::Signature => Kind::Signature,
+        Kind::Domination => Kind::Domination,
+    }
+}
+
+// The sheet of a kind for a vector in a struct.
+fn write_vector_as(vector: Vector, target: Kind, buffer: &mut [u8]) -> Written
+    ensures { λ r. ⌜ outcome r (now (buffer .exit)) ≡ delivered (structRefusal vector) (sheetAs target (vector .kind) (vector .n) (entriesOf vector)) (now (buffer .entry)) ⌝ }
 {
     let verdict = vector.judge();
     match verdict {
@@ -48,7 +115,23 @@ pub fn sheet_of_vector(vector: Vector, buffer: &mut [u8]) -> Written
             let kind = vector.kind;
             let length = vector.length;
             let entries = vector.entries;
-            write_sheet(kind, vector.n, &entries[..length], buffer)
+            write_as(kind, vector.n, &entries[..length], target, buffer)
+        }
+    }
+}
+
+// The sheet of a kind for a vector: its entries are converted, and written as numbers.
+fn write_as(kind: Kind, n: usize, entries: &[i64], target: Kind, buffer: &mut [u8]) -> Written
+    ensures { λ r. ⌜ outcome r (now (buffer .exit)) ≡ delivered (vectorRefusal kind n (now (entries .entry))) (sheetAs target kind n (now (entries .entry))) (now (buffer .entry)) ⌝ }
+{
+    let mut cells = [0i64; 17];
+    let converted = vector_conversion::convert(kind, n, entries, target, &mut cells);
+    match converted {
+        Written::Refused(refusal) => Written::Refused(refusal),
+        Written::Length(count) => {
+            let mut sheet = [0u8; 155];
+            let length = write_numbers(target, n, &cells[..count], &mut sheet);
+            answer::hand_out_bytes(&sheet[..length], buffer)
         }
     }
 }

@@ -1,8 +1,10 @@
--- Sheets and vectors there and back, said of what the contracts of `vector_of_sheet` and `sheet_of_vector` cite. Assumes nothing.
+-- Sheets and vectors there and back, said of what the contracts of `vector_of_sheet`, `save_vector` and `save_vector_as` cite (01, "Records on
+-- disk"; 02, §11): a stored sheet of every kind is read; a vector that is saved is read back, and what is read is saved as the bytes that it was
+-- read from, but for a tail, which comes as the signature with the same path counts. Assumes nothing.
 use mathlib.Core.Path.{_≡_, refl, sym, ap, ap₂, _∙_}
 use mathlib.Core.Bool.{not}
 use mathlib.Core.List.{List}
-use Prim.Native.Nat.{ℕ}
+use Prim.Native.Nat.{ℕ, _≤_}
 use lib.Dec.{eqb}
 use lib.IntN.{ℤ}
 use lib.ListN.{length}
@@ -11,22 +13,68 @@ use Rattle.answer.specs.Refusals.{wrongVectorLength}
 use Rattle.answer.specs.declared.Verdict.{Verdict}
 use Rattle.answer.specs.declared.Verdict.the-variants.{Accepted}
 use Rattle.codec.specs.Bytes.{Bytes}
+use Rattle.codec.specs.Reads.{found}
 use Rattle.answer.specs.Checks.{partCountRefusal}
 use Rattle.vector.specs.InStruct.{vectorHolding, entriesOf, structRefusal}
 use Rattle.vector_kind.specs.Kinds.{lengthOf}
-use Rattle.vector_conversion.specs.Vectors.{countsRefusal, vectorRefusal}
+use Rattle.vector_conversion.specs.Vectors.{countsOf, countsRefusal, vectorRefusal, converted}
+use Rattle.vector_conversion.proofs.Acceptance.{accepted-vector}
+use Rattle.vector_conversion.proofs.Conversions.{counts-back, conversion-accepted}
 use Rattle.vector_kind.specs.declared.Kind.{Kind}
+use Rattle.vector_kind.specs.declared.Kind.the-variants.{Tail, Signature}
 use Rattle.vector.specs.declared.Vector.{Vector}
+use Rattle.sheet.specs.Saving.{sheetAs, savedKind, savedSheet}
+use Rattle.sheet.specs.Sheets.{sheetBytes, sheet, sheetOf}
+use Rattle.sheet.proofs.Saving.{saved-own}
 use Rattle.sheet_reading.specs.Answers.{sheetRead}
-use Rattle.sheet.specs.Sheets.{sheetBytes, sheetOf}
+use Rattle.sheet_reading.specs.declared.SheetRead.{SheetRead}
 use Rattle.sheet_reading.proofs.ReadSheet.{sheet-read}
 use Rattle.sheet_reading.proofs.Reading.{GivenAs, sheet-given}
 use Rattle.sheet_reading.proofs.WriteSheet.{sheet-form}
 
--- the sheet of an accepted vector is read as the struct that holds it
-pub written-read : (kind : Kind) (n : ℕ) (entries : List ℤ) → vectorRefusal kind n entries ≡ Accepted
-    → sheetRead (sheetOf (sheetBytes kind n entries)) ≡ record { vector = vectorHolding kind n entries; verdict = Accepted }
-written-read kind n entries accepted = ap sheetRead (sheet-read kind n entries accepted)
+-- a vector that is read: the struct that holds it
+abbrev pub readAs : Kind → ℕ → List ℤ → SheetRead
+readAs kind n entries = record { vector = vectorHolding kind n entries; verdict = Accepted }
+
+module _ (kind : Kind) (n : ℕ) (entries : List ℤ) (accepted : vectorRefusal kind n entries ≡ Accepted) where
+  -- ---- read after write
+
+  -- a sheet of each of the four kinds, as it was written until 02, §11, is read as the vector
+  pub stored-read : sheetRead (sheetOf (sheetBytes kind n entries)) ≡ readAs kind n entries
+  stored-read = ap sheetRead (sheet-read kind n entries accepted)
+
+  -- ---- read after save
+
+  -- what is saved by name is read as the vector of that kind
+  pub named-read : (target : Kind) → sheetRead (sheetOf (sheetAs target kind n entries)) ≡ readAs target n (converted target kind n entries)
+  named-read target = ap sheetRead (sheet-read target n (converted target kind n entries) (conversion-accepted kind n entries accepted target))
+
+  -- which has the same path counts
+  pub same-counts : (target : Kind) (j : ℕ) → j ≤ n → countsOf target n (converted target kind n entries) j ≡ countsOf kind n entries j
+  same-counts target = counts-back target n (countsOf kind n entries) (accepted-vector kind n entries accepted .counts .none)
+
+  -- so what is saved is read as the vector itself, and a tail as the signature
+  pub saved-read : sheetRead (sheetOf (savedSheet kind n entries)) ≡ readAs (savedKind kind) n (converted (savedKind kind) kind n entries)
+  saved-read = named-read (savedKind kind)
+
+  pub saved-read-own : (kind ≡ Tail → ⊥) → sheetRead (sheetOf (savedSheet kind n entries)) ≡ readAs kind n entries
+  saved-read-own other =
+      ap (λ (bytes : List ℕ). sheetRead (sheetOf bytes)) (saved-own kind n entries other accepted) ∙ stored-read
+
+-- ---- save after read
+
+-- whoever read it, into a struct or into lent cells: a sheet is saved as the very bytes that it was read from, and a tail as the signature
+module _ (bytes : List ℕ) (narrow : Bytes bytes) (n : ℕ) (entries : List ℤ) (end : ℕ) (buffer : List ℕ) where
+  pub sheet-saved : (kind : Kind) → sheetOf bytes ≡ found (sheet kind n entries) end → (kind ≡ Tail → ⊥)
+      → delivered (vectorRefusal kind n entries) (savedSheet kind n entries) buffer ≡ delivered Accepted bytes buffer
+  sheet-saved kind read other =
+      let form = sheet-form bytes narrow kind n entries end read in
+      ap₂ (λ (v : Verdict) (l : List ℕ). delivered v l buffer) (form .1) (saved-own kind n entries other (form .1) ∙ form .0)
+
+  pub tail-sheet-saved : sheetOf bytes ≡ found (sheet Tail n entries) end
+      → delivered (vectorRefusal Tail n entries) (savedSheet Tail n entries) buffer ≡ delivered Accepted (sheetAs Signature Tail n entries) buffer
+  tail-sheet-saved read =
+      ap (λ (v : Verdict). delivered v (savedSheet Tail n entries) buffer) (sheet-form bytes narrow Tail n entries end read .1)
 
 -- a struct whose length is that of its entries is judged as they are
 held-entries : (vector : Vector) → length (entriesOf vector) ≡ vector .length → structRefusal vector ≡ vectorRefusal (vector .kind) (vector .n) (entriesOf vector)
@@ -35,13 +83,41 @@ held-entries vector counted =
     ap (λ (k : ℕ). partCountRefusal 0 (vector .n) (refuse (not (eqb k (lengthOf (vector .kind) (vector .n)))) wrongVectorLength 0 (countsRefusal (vector .kind) (vector .n) (entriesOf vector))))
     (sym counted)
 
--- and what is read is written back as the very bytes that it was read from
-pub read-written : (bytes buffer : List ℕ) → Bytes bytes → sheetRead (sheetOf bytes) .verdict ≡ Accepted
-    → delivered (structRefusal (sheetRead (sheetOf bytes) .vector))
-    (sheetBytes (sheetRead (sheetOf bytes) .vector .kind) (sheetRead (sheetOf bytes) .vector .n) (entriesOf (sheetRead (sheetOf bytes) .vector))) buffer
-    ≡ delivered Accepted bytes buffer
-read-written bytes buffer narrow accepted =
-    let vector : Vector = sheetRead (sheetOf bytes) .vector in
-    let read : GivenAs (sheetOf bytes) (sheetRead (sheetOf bytes)) = sheet-given (sheetOf bytes) (sheetRead (sheetOf bytes)) refl accepted in
-    let form = sheet-form bytes narrow (vector .kind) (vector .n) (entriesOf vector) (read .end) (read .given) in
-    ap₂ (λ (v : Verdict) (l : List ℕ). delivered v l buffer) (held-entries vector (read .counted) ∙ form .1) (form .0)
+module _ (bytes buffer : List ℕ) (narrow : Bytes bytes) (accepted : sheetRead (sheetOf bytes) .verdict ≡ Accepted) where
+  -- the vector that is read
+  abbrev vector : Vector
+  vector = sheetRead (sheetOf bytes) .vector
+
+  read : GivenAs (sheetOf bytes) (sheetRead (sheetOf bytes))
+  read = sheet-given (sheetOf bytes) (sheetRead (sheetOf bytes)) refl accepted
+
+  same : structRefusal vector ≡ vectorRefusal (vector .kind) (vector .n) (entriesOf vector)
+  same = held-entries vector (read .counted)
+
+  -- what is read is saved as the very bytes that it was read from, unless it is a tail
+  pub read-saved : (vector .kind ≡ Tail → ⊥)
+      → delivered (structRefusal vector) (savedSheet (vector .kind) (vector .n) (entriesOf vector)) buffer ≡ delivered Accepted bytes buffer
+  read-saved other =
+      ap (λ (v : Verdict). delivered v (savedSheet (vector .kind) (vector .n) (entriesOf vector)) buffer) same
+      ∙ sheet-saved bytes narrow (vector .n) (entriesOf vector) (read .end) buffer (vector .kind) (read .given) other
+
+  -- a tail that is read is saved as the signature sheet, and reading that gives the same path counts
+  pub record SavedTail : Type 0 where
+    pub saved : delivered (structRefusal vector) (savedSheet (vector .kind) (vector .n) (entriesOf vector)) buffer
+        ≡ delivered Accepted (sheetAs Signature Tail (vector .n) (entriesOf vector)) buffer
+    pub again : sheetRead (sheetOf (sheetAs Signature Tail (vector .n) (entriesOf vector))) ≡ readAs Signature (vector .n) (converted Signature Tail (vector .n) (entriesOf vector))
+    pub counts : (j : ℕ) → j ≤ vector .n → countsOf Signature (vector .n) (converted Signature Tail (vector .n) (entriesOf vector)) j ≡ countsOf Tail (vector .n) (entriesOf vector) j
+
+  pub tail-saved : vector .kind ≡ Tail → SavedTail
+  tail-saved tail =
+      let given : sheetOf bytes ≡ found (sheet Tail (vector .n) (entriesOf vector)) (read .end) =
+      read .given ∙ ap (λ (kind : Kind). found (sheet kind (vector .n) (entriesOf vector)) (read .end)) tail in
+      let right : vectorRefusal Tail (vector .n) (entriesOf vector) ≡ Accepted = sheet-form bytes narrow Tail (vector .n) (entriesOf vector) (read .end) given .1 in
+      record {
+        saved =
+            ap₂ (λ (v : Verdict) (kind : Kind). delivered v (savedSheet kind (vector .n) (entriesOf vector)) buffer)
+            (same ∙ ap (λ (kind : Kind). vectorRefusal kind (vector .n) (entriesOf vector)) tail) tail
+            ∙ tail-sheet-saved bytes narrow (vector .n) (entriesOf vector) (read .end) buffer given;
+        again = named-read Tail (vector .n) (entriesOf vector) right Signature;
+        counts = same-counts Tail (vector .n) (entriesOf vector) right Signature;
+      }

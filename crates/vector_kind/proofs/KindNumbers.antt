@@ -2,7 +2,9 @@
 use mathlib.Core.Path.{_≡_, refl, ap}
 use mathlib.Core.Bool.{Bool, true, false, not, cond}
 use Prim.Native.Nat.{ℕ, _≤_}
-use borrow.Author.Tests.{le-ltb}
+use native.Mathlib.Omega.{arith}
+use lib.Dec.{eqb}
+use borrow.Author.Tests.{le-ltb, eqb-true}
 use Rattle.answer.specs.Outcome.{at}
 use Rattle.answer.specs.Refusals.{wrongKind}
 use Rattle.answer.specs.declared.Verdict.{Verdict}
@@ -25,6 +27,17 @@ kind-is-one PathCounts = refl
 kind-is-one Tail = refl
 kind-is-one Signature = refl
 kind-is-one Domination = refl
+
+-- 2 alone is the tail's number
+pub tail-number : (number : ℕ) → kindOf number ≡ Tail → number ≡ 2
+unfolding kindOf
+tail-number number same = cases (eqb number 2) (eqb number 3) (eqb number 4) refl same
+  where
+    cases : (two three four : Bool) → eqb number 2 ≡ two → cond two Tail (cond three Signature (cond four Domination PathCounts)) ≡ Tail → number ≡ 2
+    cases true three four e is = eqb-true number 2 e
+    cases false true four e is = absurd (omega (arith, ap kindNumber is))
+    cases false false true e is = absurd (omega (arith, ap kindNumber is))
+    cases false false false e is = absurd (omega (arith, ap kindNumber is))
 
 pub kind-passed : (number : ℕ) (later : Verdict) → isKind number ≡ true → kindRefusal number later ≡ later
 kind-passed number later h = refuse-passed (not (isKind number)) wrongKind 0 later (ap not h)

@@ -1,4 +1,4 @@
--- `sheet::sheet_of_vector` meets its contract: a vector that is refused has no sheet, and an accepted one has all its entries in its cells.
+-- `sheet::write_vector_as` meets its contract: a vector that is refused has no sheet, and an accepted one has all its entries in its cells.
 -- Assumes nothing.
 use mathlib.Core.Path.{_≡_, sym, ap, _∙_}
 use Prim.Native.Nat.{_≤_}
@@ -11,10 +11,10 @@ use Rattle.answer.specs.declared.Verdict.{Verdict}
 use Rattle.answer.specs.declared.Verdict.the-variants.{Accepted}
 use Rattle.vector.specs.InStruct.{mostEntries, entriesOf, structRefusal}
 use Rattle.vector.proofs.InStruct.{cells-all, accepted-few, held-same}
-use Rattle.sheet.specs.Sheets.{sheetBytes}
+use Rattle.sheet.specs.Saving.{sheetAs}
 use borrow.Author.Needs.{needs}
-use Rattle.sheet.proofs.sheet_of_vector.Statement.{statement}
-use Rattle.sheet.proofs.sheet_of_vector.Tie as tie
+use Rattle.sheet.proofs.write_vector_as.Statement.{statement}
+use Rattle.sheet.proofs.write_vector_as.Tie as tie
 
 -- an accepted vector has all its entries in its cells
 all : (c : tie.Start) → length (c .args .vector .entries) ≡ mostEntries
@@ -40,19 +40,19 @@ enum-told c = search needs
 array-share-prefix-entries : tie.Need-array-share-prefix-entries
 array-share-prefix-entries c = inside (c .before)
 
-slice-aggregate-write-sheet : tie.Need-slice-aggregate-write-sheet
-slice-aggregate-write-sheet c =
+slice-aggregate-write-as : tie.Need-slice-aggregate-write-as
+slice-aggregate-write-as c =
     let vector = c .before .before .before .before .before .before .args .vector in
     sym (length-take-le (vector .length) (vector .entries) (inside (c .before .before)))
 
-write-sheet-requires : tie.Need-write-sheet-requires
-write-sheet-requires c κs = search needs
+write-as-requires : tie.Need-write-as-requires
+write-as-requires c κs = search needs
 
 returns : tie.Need-returns
 returns c =
     let judged = c .before .before .before in
     let a = judged .before .before .args in
-    ap (λ (v : Verdict). delivered v (sheetBytes (a .vector .kind) (a .vector .n) (entriesOf (a .vector))) (now (a .buffer)))
+    ap (λ (v : Verdict). delivered v (sheetAs (a .target) (a .vector .kind) (a .vector .n) (entriesOf (a .vector))) (now (a .buffer)))
     (sym (c .before .verdict .given .1) ∙ judged .judge .ensures)
 
 same-length : tie.Need-same-length
@@ -63,20 +63,20 @@ returns-2 c =
     let told = c .before .before .before .before .before .before in
     let start = told .before .before .before .before in
     let a = start .args in
-    c .before .before .write-sheet .ensures
-    ∙ ap (λ (v : Verdict). delivered v (sheetBytes (a .vector .kind) (a .vector .n) (entriesOf (a .vector))) (now (a .buffer)))
+    c .before .before .write-as .ensures
+    ∙ ap (λ (v : Verdict). delivered v (sheetAs (a .target) (a .vector .kind) (a .vector .n) (entriesOf (a .vector))) (now (a .buffer)))
     (held-same (a .vector) (all start) (accepted told))
 
-pub sheet-of-vector-spec : {M : Type 1} → statement M
-sheet-of-vector-spec =
+pub write-vector-as-spec : {M : Type 1} → statement M
+write-vector-as-spec =
     tie.close
     (tie.spec
     judge-requires
     enum-known-verdict
     enum-told
     array-share-prefix-entries
-    slice-aggregate-write-sheet
-    write-sheet-requires
+    slice-aggregate-write-as
+    write-as-requires
     returns
     same-length
     returns-2)

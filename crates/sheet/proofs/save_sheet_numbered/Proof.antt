@@ -1,4 +1,4 @@
--- `sheet::write_sheet_numbered` meets its contract: 26 comes first, and else the vector decides.
+-- `sheet::save_sheet_numbered` meets its contract: 26 comes first, and else the vector decides.
 -- Assumes nothing.
 use mathlib.Core.Path.{sym, ap, _∙_}
 use denote.Ref.{now}
@@ -9,10 +9,10 @@ use Rattle.vector_kind.specs.Kinds.{kindOf}
 use Rattle.vector_conversion.specs.Vectors.{vectorRefusal}
 use Rattle.vector_kind.specs.declared.Kind.{Kind}
 use Rattle.vector_kind.proofs.KindNumbers.{kind-passed, kind-refused}
-use Rattle.sheet.specs.Sheets.{sheetBytes}
+use Rattle.sheet.specs.Saving.{savedSheet}
 use borrow.Author.Needs.{needs}
-use Rattle.sheet.proofs.write_sheet_numbered.Statement.{statement}
-use Rattle.sheet.proofs.write_sheet_numbered.Tie as tie
+use Rattle.sheet.proofs.save_sheet_numbered.Statement.{statement}
+use Rattle.sheet.proofs.save_sheet_numbered.Tie as tie
 
 is-kind-requires : tie.Need-is-kind-requires
 is-kind-requires c κs = search needs
@@ -20,8 +20,8 @@ is-kind-requires c κs = search needs
 kind-of-requires : tie.Need-kind-of-requires
 kind-of-requires c κs = search needs
 
-write-sheet-requires : tie.Need-write-sheet-requires
-write-sheet-requires c κs = search needs
+save-sheet-requires : tie.Need-save-sheet-requires
+save-sheet-requires c κs = search needs
 
 same-length : tie.Need-same-length
 same-length c = search needs
@@ -33,9 +33,9 @@ returns c =
     let told = kinds .before in
     let a = told .before .before .before .args in
     let entries = now (a .entries) in
-    writing .write-sheet .ensures
-    ∙ ap (λ (kind : Kind). delivered (vectorRefusal kind (a .n) entries) (sheetBytes kind (a .n) entries) (now (a .buffer))) (kinds .kind-of .ensures)
-    ∙ ap (λ (v : Verdict). delivered v (sheetBytes (kindOf (a .kind)) (a .n) entries) (now (a .buffer)))
+    writing .save-sheet .ensures
+    ∙ ap (λ (kind : Kind). delivered (vectorRefusal kind (a .n) entries) (savedSheet kind (a .n) entries) (now (a .buffer))) (kinds .kind-of .ensures)
+    ∙ ap (λ (v : Verdict). delivered v (savedSheet (kindOf (a .kind)) (a .n) entries) (now (a .buffer)))
     (sym (kind-passed (a .kind) (vectorRefusal (kindOf (a .kind)) (a .n) entries) (sym (told .before .is-kind .ensures) ∙ told .if1 .taken)))
 
 unwritten-requires : tie.Need-unwritten-requires
@@ -48,10 +48,10 @@ returns-2 c =
     let a = told .before .before .args in
     let entries = now (a .entries) in
     ap (λ (w : Written). outcome w (now (a .buffer))) (c .unwritten .ensures)
-    ∙ ap (λ (v : Verdict). delivered v (sheetBytes (kindOf (a .kind)) (a .n) entries) (now (a .buffer)))
+    ∙ ap (λ (v : Verdict). delivered v (savedSheet (kindOf (a .kind)) (a .n) entries) (now (a .buffer)))
     (sym (kind-refused (a .kind) (vectorRefusal (kindOf (a .kind)) (a .n) entries) (sym (told .is-kind .ensures) ∙ tested .if1 .left)))
 
-pub write-sheet-numbered-spec : {M : Type 1} → statement M
-write-sheet-numbered-spec =
+pub save-sheet-numbered-spec : {M : Type 1} → statement M
+save-sheet-numbered-spec =
     tie.close
-    (tie.spec is-kind-requires kind-of-requires write-sheet-requires same-length returns unwritten-requires returns-2)
+    (tie.spec is-kind-requires kind-of-requires save-sheet-requires same-length returns unwritten-requires returns-2)

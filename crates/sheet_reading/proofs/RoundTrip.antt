@@ -1,17 +1,19 @@
--- Sheets and vectors there and back, said of what the contracts of `vector_of_sheet`, `save_vector` and `save_vector_as` cite (01, "Records on
--- disk"; 02, §11): a stored sheet of every kind is read; a vector that is saved is read back, and what is read is saved as the bytes that it was
--- read from, but for a tail, which comes as the signature with the same path counts. Assumes nothing.
+-- Sheets and vectors there and back, said of what the contracts of the readers and of the calls that save cite (01, "Records on disk"; 02, §11):
+-- a sheet of every kind that was written before is read as before; a vector that is saved is read back, and what is read is saved as the bytes
+-- that it was read from, but for a tail, which is saved as the signature with the same path counts. Assumes nothing.
 use mathlib.Core.Path.{_≡_, refl, sym, ap, ap₂, _∙_}
 use mathlib.Core.Bool.{not}
 use mathlib.Core.List.{List}
 use Prim.Native.Nat.{ℕ, _≤_}
 use lib.Dec.{eqb}
 use lib.IntN.{ℤ}
-use lib.ListN.{length}
-use Rattle.answer.specs.Outcome.{refuse, delivered}
+use lib.ListN.{length, take}
+use Rattle.answer.specs.Outcome.{refuse, outcome, delivered}
 use Rattle.answer.specs.Refusals.{wrongVectorLength}
 use Rattle.answer.specs.declared.Verdict.{Verdict}
 use Rattle.answer.specs.declared.Verdict.the-variants.{Accepted}
+use Rattle.answer.specs.declared.Written.the-variants.{Length}
+use Rattle.answer.proofs.Deliveries.{given}
 use Rattle.codec.specs.Bytes.{Bytes}
 use Rattle.codec.specs.Reads.{found}
 use Rattle.answer.specs.Checks.{partCountRefusal}
@@ -36,15 +38,19 @@ use Rattle.sheet_reading.proofs.WriteSheet.{sheet-form}
 abbrev pub readAs : Kind → ℕ → List ℤ → SheetRead
 readAs kind n entries = record { vector = vectorHolding kind n entries; verdict = Accepted }
 
+-- ---- sheets as they were written until 02, §11
+
+-- what writing left of a vector of any kind, also of a tail, is read as that vector
+pub read-as-before : (kind : Kind) (n : ℕ) (entries : List ℤ) (before after : List ℕ) (count : ℕ)
+    → outcome (Length count) after ≡ delivered (vectorRefusal kind n entries) (sheetBytes kind n entries) before
+    → sheetRead (sheetOf (take count after)) ≡ readAs kind n entries
+read-as-before kind n entries before after count e =
+    let m = given (vectorRefusal kind n entries) (sheetBytes kind n entries) before after count e in
+    ap (λ (bytes : List ℕ). sheetRead (sheetOf bytes)) (m .front) ∙ ap sheetRead (sheet-read kind n entries (m .accepted))
+
+-- ---- read after save
+
 module _ (kind : Kind) (n : ℕ) (entries : List ℤ) (accepted : vectorRefusal kind n entries ≡ Accepted) where
-  -- ---- read after write
-
-  -- a sheet of each of the four kinds, as it was written until 02, §11, is read as the vector
-  pub stored-read : sheetRead (sheetOf (sheetBytes kind n entries)) ≡ readAs kind n entries
-  stored-read = ap sheetRead (sheet-read kind n entries accepted)
-
-  -- ---- read after save
-
   -- what is saved by name is read as the vector of that kind
   pub named-read : (target : Kind) → sheetRead (sheetOf (sheetAs target kind n entries)) ≡ readAs target n (converted target kind n entries)
   named-read target = ap sheetRead (sheet-read target n (converted target kind n entries) (conversion-accepted kind n entries accepted target))
@@ -59,7 +65,7 @@ module _ (kind : Kind) (n : ℕ) (entries : List ℤ) (accepted : vectorRefusal 
 
   pub saved-read-own : (kind ≡ Tail → ⊥) → sheetRead (sheetOf (savedSheet kind n entries)) ≡ readAs kind n entries
   saved-read-own other =
-      ap (λ (bytes : List ℕ). sheetRead (sheetOf bytes)) (saved-own kind n entries other accepted) ∙ stored-read
+      ap (λ (bytes : List ℕ). sheetRead (sheetOf bytes)) (saved-own kind n entries other accepted) ∙ ap sheetRead (sheet-read kind n entries accepted)
 
 -- ---- save after read
 

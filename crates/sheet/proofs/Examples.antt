@@ -79,19 +79,19 @@ abbrev bridgeTail : List ℤ
 bridgeTail = pos 120 ∷ pos 120 ∷ pos 96 ∷ pos 24 ∷ pos 0 ∷ pos 0 ∷ []
 
 -- as a sheet of kind 2 it is read
-tail-read : sheetOf (0x02 ∷ 0x05 ∷ 0x78 ∷ 0x78 ∷ 0x60 ∷ 0x18 ∷ 0x00 ∷ 0x00 ∷ []) ≡ found (sheet Tail 5 bridgeTail) 8
+bridge-read : sheetOf (0x02 ∷ 0x05 ∷ 0x78 ∷ 0x78 ∷ 0x60 ∷ 0x18 ∷ 0x00 ∷ 0x00 ∷ []) ≡ found (sheet Tail 5 bridgeTail) 8
 unfolding sheetOf entriesAt fieldsAt fieldAt numberAt numberIn kindOf factorial choose sumBelowℤ any those scaledCount unitOf wrongCount falls pathCountsRefusal countsRefusal
-tail-read = refl
+bridge-read = refl
 
 -- it is saved as the bridge's signature 0, 24, 72, 24, 0
-tail-saved : savedSheet Tail 5 bridgeTail ≡ 0x03 ∷ 0x05 ∷ 0x00 ∷ 0x18 ∷ 0x48 ∷ 0x18 ∷ 0x00 ∷ []
+bridge-saved : savedSheet Tail 5 bridgeTail ≡ 0x03 ∷ 0x05 ∷ 0x00 ∷ 0x18 ∷ 0x48 ∷ 0x18 ∷ 0x00 ∷ []
 unfolding sheetBytes entryBytes formsOf bytesOf grouped factorial choose tabulate sumBelowℤ scaledCount unitOf figure signatureOf tail
-tail-saved = refl
+bridge-saved = refl
 
 -- and by name as its path counts 0, 0, 2, 8, 5, 1
-tail-as-counts : sheetAs PathCounts Tail 5 bridgeTail ≡ 0x01 ∷ 0x05 ∷ 0x00 ∷ 0x00 ∷ 0x02 ∷ 0x08 ∷ 0x05 ∷ 0x01 ∷ []
+bridge-as-counts : sheetAs PathCounts Tail 5 bridgeTail ≡ 0x01 ∷ 0x05 ∷ 0x00 ∷ 0x00 ∷ 0x02 ∷ 0x08 ∷ 0x05 ∷ 0x01 ∷ []
 unfolding sheetBytes entryBytes formsOf bytesOf grouped factorial choose tabulate sumBelowℤ scaledCount unitOf figure
-tail-as-counts = refl
+bridge-as-counts = refl
 
 -- by name as a tail it is 34, whatever is wrong beside: here the vector's kind is 0, n is 0 and the buffer is empty
 tail-by-name : delivered (tailSheetRefusal 2 (kindRefusal 0 (kindRefusal 2 (vectorRefusal (kindOf 0) 0 [])))) (sheetAs (kindOf 2) (kindOf 0) 0 []) []

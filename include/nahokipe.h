@@ -82,6 +82,7 @@ extern "C" {
  *       that of their count where there are over 64
  *   31  a path count is not that of the record's sets; its first byte's position
  *   32  the record has retired numbers, and is to be written as one of edition 1
+ *   34  a tail sheet is to be written by name
  *
  * A record's own n, count and sets are refused with 1 to 5 as well, and then the place is the position of the number's first byte. A
  * drawing's text is refused with 1, 2, 3 and 17 as well, and then the place is the line's number, from 1.
@@ -130,6 +131,7 @@ typedef struct nahokipe_answer {
 #define NAHOKIPE_WRONG_RETIRED 30
 #define NAHOKIPE_DIFFERENT_COUNT 31
 #define NAHOKIPE_RETIRED_PRESENT 32
+#define NAHOKIPE_TAIL_SHEET 34
 
 /* The kinds of vectors by name; "Vectors", below, says what they are. */
 #define NAHOKIPE_PATH_COUNTS 1
@@ -307,11 +309,21 @@ nahokipe_answer nahokipe_convert(uint8_t kind, size_t n, const int64_t *entries,
 /*
  * A sheet is a vector in bytes: its kind, n and its entries, each as a number in groups of seven bits, the lowest first, one group a byte,
  * bit 7 set on all but the last. An entry v of a domination is written as 2v, or -2v - 1 where it is negative. Numbers reach 2^63 - 1.
+ * Sheets of kind 2 are still read, and none is written any more: what the two calls that save a vector write begins with 1, 3 or 4.
  */
 
-/* Writes the sheet of a vector: NAHOKIPE_LONGEST_SHEET bytes are enough for every vector. Refused: 26, 1, 12, 13, 14, 11. */
-nahokipe_answer nahokipe_write_sheet(uint8_t kind, size_t n, const int64_t *entries, size_t entries_len, uint8_t *sheet,
-                                     size_t sheet_len);
+/*
+ * Saves a vector: writes the sheet of its own kind, but for a tail that of the signature which stands for the same path counts.
+ * NAHOKIPE_LONGEST_SHEET bytes are enough for every vector. Refused: 26, 1, 12, 13, 14, 11.
+ */
+nahokipe_answer nahokipe_save_sheet(uint8_t kind, size_t n, const int64_t *entries, size_t entries_len, uint8_t *sheet, size_t sheet_len);
+
+/*
+ * Saves a vector as one of the target kind, which nahokipe_convert gives: writes the sheet of that one. NAHOKIPE_LONGEST_SHEET bytes are
+ * enough for every vector. Refused: 34 where the target is 2, whatever the rest is; 26 for either kind, 1, 12, 13, 14, 11.
+ */
+nahokipe_answer nahokipe_save_sheet_as(uint8_t kind, size_t n, const int64_t *entries, size_t entries_len, uint8_t target, uint8_t *sheet,
+                                       size_t sheet_len);
 
 /* What reading a sheet answers: number and value as in nahokipe_answer, and the vector's kind and n, which are 1 and 0 if it is refused. */
 typedef struct nahokipe_sheet {

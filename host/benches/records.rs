@@ -4,9 +4,11 @@
 
 mod baseline {
     mod closing;
-    // What is written of edition 2, the listed sets that reading hands on and the check of a table are for other benchmarks.
+    // What is written of edition 2 and of a number, the listed sets that reading hands on and the check of a table are for other benchmarks.
     #[allow(dead_code)]
     mod editions;
+    #[allow(dead_code)]
+    mod numbers;
     #[allow(dead_code)]
     pub mod records;
     mod sizes;

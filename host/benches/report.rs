@@ -6,11 +6,13 @@
 mod baseline {
     mod closing;
     mod counts;
-    // What is written of edition 2 and the checks of tables are for other benchmarks.
+    // What is written of edition 2 and of a number and the checks of tables are for other benchmarks.
     #[allow(dead_code)]
     mod editions;
     #[allow(dead_code)]
     mod figures;
+    #[allow(dead_code)]
+    mod numbers;
     #[allow(dead_code)]
     mod records;
     pub mod report;

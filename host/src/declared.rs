@@ -282,11 +282,21 @@ extern "C" {
         cells_len: usize,
     ) -> Answer;
 
-    pub(crate) fn nahokipe_write_sheet(
+    pub(crate) fn nahokipe_save_sheet(
         kind: u8,
         n: usize,
         entries: *const i64,
         entries_len: usize,
+        sheet: *mut u8,
+        sheet_len: usize,
+    ) -> Answer;
+
+    pub(crate) fn nahokipe_save_sheet_as(
+        kind: u8,
+        n: usize,
+        entries: *const i64,
+        entries_len: usize,
+        target: u8,
         sheet: *mut u8,
         sheet_len: usize,
     ) -> Answer;

@@ -91,7 +91,7 @@ pub use refusal::Refusal;
 pub use report::{refused_line, report};
 pub use shares::{reliability, shares_by_both_routes, shares_by_reliability, shares_by_sets};
 pub use structures::{list_verdict, minimal_sets, table_of_list, table_verdict};
-pub use vectors::{convert, read_sheet, vector_verdict, write_sheet, Vector};
+pub use vectors::{convert, read_sheet, save_sheet, save_sheet_as, vector_verdict, Vector};
 
 /// What a call writes into a buffer that is always enough, cut to its length.
 fn written<T: Clone + Default>(

@@ -37,8 +37,11 @@ pub struct Refusal {
     pub place: usize,
 }
 
-/// The reasons from number 1 on, in the words of include/nahokipe.h.
-const REASONS: [&str; 32] = [
+/// What is said of a number that no refusal has.
+const NO_REFUSAL: &str = "no refusal has this number";
+
+/// The reasons from number 1 on, in the words of include/nahokipe.h. There is no refusal 33.
+const REASONS: [&str; 34] = [
     "n is not 1 to 16",
     "the list is empty",
     "the list has over 12,870 sets",
@@ -71,6 +74,8 @@ const REASONS: [&str; 32] = [
     "a retired number is 0, not above the one before it, above the mark or in use, or there are over 64",
     "a path count is not that of the record's sets",
     "the record has retired numbers, and is to be written as one of edition 1",
+    NO_REFUSAL,
+    "a tail sheet is to be written by name",
 ];
 
 impl Refusal {
@@ -78,7 +83,7 @@ impl Refusal {
     pub fn reason(self) -> &'static str {
         match (self.number as usize).checked_sub(1) {
             Some(index) if index < REASONS.len() => REASONS[index],
-            _ => "no refusal has this number",
+            _ => NO_REFUSAL,
         }
     }
 }

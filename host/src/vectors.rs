@@ -33,21 +33,49 @@ pub fn convert(kind: Kind, n: usize, entries: &[i64], target: Kind) -> Result<Ve
     })
 }
 
-/// The sheet of a vector.
+/// The sheet that a vector is saved as: that of its own kind, but for a tail that of the signature with the same path counts.
 ///
 /// ```
-/// use nahokipe::{read_sheet, write_sheet, Kind};
+/// use nahokipe::{read_sheet, save_sheet, Kind};
 ///
-/// let sheet = write_sheet(Kind::Tail, 5, &[120, 120, 96, 24, 0, 0])?;
-/// assert_eq!(sheet, [2, 5, 120, 120, 96, 24, 0, 0]);
+/// let sheet = save_sheet(Kind::Domination, 2, &[0, 2, -1])?;
+/// assert_eq!(sheet, [4, 2, 0, 4, 1]);
+///
+/// let sheet = save_sheet(Kind::Tail, 5, &[120, 120, 96, 24, 0, 0])?;
+/// assert_eq!(sheet, [3, 5, 0, 24, 72, 24, 0]);
 /// let vector = read_sheet(&sheet)?;
-/// assert_eq!((vector.kind, vector.n), (Kind::Tail, 5));
-/// assert_eq!(vector.entries, [120, 120, 96, 24, 0, 0]);
+/// assert_eq!((vector.kind, vector.n), (Kind::Signature, 5));
+/// assert_eq!(vector.entries, [0, 24, 72, 24, 0]);
 /// # Ok::<(), nahokipe::Refusal>(())
 /// ```
-pub fn write_sheet(kind: Kind, n: usize, entries: &[i64]) -> Result<Vec<u8>, Refusal> {
+pub fn save_sheet(kind: Kind, n: usize, entries: &[i64]) -> Result<Vec<u8>, Refusal> {
     written(LONGEST_SHEET, |sheet| {
-        lent::write_sheet(kind.number(), n, entries, sheet)
+        lent::save_sheet(kind.number(), n, entries, sheet)
+    })
+}
+
+/// The sheet of the vector of the target kind that stands for the same path counts. No tail sheet is written any more: that target is refused
+/// with 34, whatever the vector is.
+///
+/// ```
+/// use nahokipe::{save_sheet_as, Kind, Refusal};
+///
+/// let signature = [0, 24, 72, 24, 0];
+/// let sheet = save_sheet_as(Kind::Signature, 5, &signature, Kind::PathCounts)?;
+/// assert_eq!(sheet, [1, 5, 0, 0, 2, 8, 5, 1]);
+///
+/// let refusal = save_sheet_as(Kind::Signature, 5, &signature, Kind::Tail).unwrap_err();
+/// assert_eq!(refusal, Refusal { number: 34, place: 0 });
+/// # Ok::<(), nahokipe::Refusal>(())
+/// ```
+pub fn save_sheet_as(
+    kind: Kind,
+    n: usize,
+    entries: &[i64],
+    target: Kind,
+) -> Result<Vec<u8>, Refusal> {
+    written(LONGEST_SHEET, |sheet| {
+        lent::save_sheet_as(kind.number(), n, entries, target.number(), sheet)
     })
 }
 
@@ -62,7 +90,19 @@ pub struct Vector {
     pub entries: Vec<i64>,
 }
 
-/// The vector of a sheet.
+/// The vector of a sheet, a tail too: such sheets are still read, and saved again as the signature.
+///
+/// ```
+/// use nahokipe::{read_sheet, save_sheet, Kind};
+///
+/// let stored = [2, 5, 120, 120, 96, 24, 0, 0];
+/// let vector = read_sheet(&stored)?;
+/// assert_eq!((vector.kind, vector.n), (Kind::Tail, 5));
+/// assert_eq!(vector.entries, [120, 120, 96, 24, 0, 0]);
+/// let sheet = save_sheet(vector.kind, vector.n, &vector.entries)?;
+/// assert_eq!(sheet, [3, 5, 0, 24, 72, 24, 0]);
+/// # Ok::<(), nahokipe::Refusal>(())
+/// ```
 pub fn read_sheet(sheet: &[u8]) -> Result<Vector, Refusal> {
     let mut entries = vec![0; MOST_ENTRIES];
     let read = lent::read_sheet(sheet, &mut entries)?;

@@ -5,10 +5,10 @@ use nahokipe::{
     add_part, add_set, add_set_of_parts, convert, domination, drawing_of_record, dual, edition,
     figures, first_record, idle_parts, importance, joint_signature, lent, minimal_cuts,
     minimal_sets, path_counts, read_sheet, record_end, record_of_drawing, refused_line,
-    reliability, report, retired, sets_of_record, shares_by_both_routes, shares_by_reliability,
-    shares_by_sets, signature, table_of_cuts, table_of_list, table_of_pattern, table_of_record,
-    tail, take_out, take_out_group, take_out_part, take_out_parts, to_edition_1, to_edition_2,
-    vector_verdict, write_sheet, Figures, Kind, Refusal, Vector,
+    reliability, report, retired, save_sheet, save_sheet_as, sets_of_record, shares_by_both_routes,
+    shares_by_reliability, shares_by_sets, signature, table_of_cuts, table_of_list,
+    table_of_pattern, table_of_record, tail, take_out, take_out_group, take_out_part,
+    take_out_parts, to_edition_1, to_edition_2, vector_verdict, Figures, Kind, Refusal, Vector,
 };
 use nahokipe_testing::making::{damaged_drawing, damaged_record, flipped, largest_drawing};
 use nahokipe_testing::making::{damaged_edition_2, largest_edition_2, random_edition_2};
@@ -20,6 +20,7 @@ use nahokipe_testing::making::{sets_of_size, six_of_sixteen, table_of_sets, unkn
 use nahokipe_testing::naive_patterns::{self, PATTERNS};
 use nahokipe_testing::naive_records::{changed, whole_record, Change};
 use nahokipe_testing::seeded::Seeded;
+use nahokipe_testing::stored::tail_sheets;
 use nahokipe_testing::{naive, naive_cuts, naive_drawing, naive_figures, naive_idle};
 use nahokipe_testing::{naive_editions, naive_joint, naive_records, naive_report};
 use nahokipe_testing::{naive_shares, naive_vectors};
@@ -249,7 +250,7 @@ fn changes_of_the_largest_record() {
 
 // ---- vectors
 
-/// Vectors of every kind, changed by one now and then: judged, turned into every other kind, and through a sheet.
+/// Vectors of every kind, changed by one now and then: judged, turned into every other kind, saved, saved by name, and read from a sheet.
 #[test]
 fn vectors() {
     let mut seeded = Seeded::new(324);
@@ -274,15 +275,38 @@ fn compare_vector(kind: Kind, n: usize, entries: &[i64]) {
     for target in Kind::ALL {
         let expected = naive_vectors::convert(number, n, entries, target.number());
         assert_eq!(convert(kind, n, entries, target), expected);
+        let expected = naive_vectors::save_sheet_as(number, n, entries, target.number());
+        assert_eq!(save_sheet_as(kind, n, entries, target), expected);
     }
-    let sheet = naive_vectors::write_sheet(number, n, entries);
-    assert_eq!(write_sheet(kind, n, entries), sheet);
-    if let Ok(sheet) = sheet {
+    let sheet = naive_vectors::save_sheet(number, n, entries);
+    assert_eq!(save_sheet(kind, n, entries), sheet);
+    if verdict.is_ok() {
+        let sheet = naive_vectors::sheet_bytes(number, n, entries);
         let entries = entries.to_vec();
         assert_eq!(read_sheet(&sheet), Ok(Vector { kind, n, entries }));
         let cut = &sheet[..sheet.len() - 1];
         let refusal = naive_vectors::read_sheet(cut).map(drop);
         assert_eq!(read_sheet(cut).map(drop), refusal);
+    }
+}
+
+/// Sheets that were stored with a tail: read as such, and saved as the signature.
+#[test]
+fn stored_tail_sheets() {
+    for (sheet, stored) in tail_sheets() {
+        let vector = read_sheet(&sheet).expect("a stored sheet");
+        let expected = Vector {
+            kind: Kind::Tail,
+            n: stored.n,
+            entries: stored.entries,
+        };
+        assert_eq!(vector, expected);
+        let Vector { kind, n, entries } = vector;
+        let sheet = save_sheet(kind, n, &entries).expect("an accepted tail");
+        let signature = read_sheet(&sheet).expect("a saved sheet");
+        assert_eq!((signature.kind, signature.n), (Kind::Signature, n));
+        let again = convert(Kind::Signature, n, &signature.entries, Kind::Tail);
+        assert_eq!(again, Ok(entries));
     }
 }
 

@@ -270,20 +270,85 @@ static void expect_sheet(const char *call, nahokipe_sheet sheet, unsigned number
     failures++;
 }
 
+/* The bridge's sheets: nine bytes each, of which those behind the sheet stay A5. The tail's was stored while such sheets were written. */
+static const uint8_t sheet_of_counts[9] = {0x01, 0x05, 0x00, 0x00, 0x02, 0x08, 0x05, 0x01, 0xA5};
+static const uint8_t sheet_of_tail[9] = {0x02, 0x05, 0x78, 0x78, 0x60, 0x18, 0x00, 0x00, 0xA5};
+static const uint8_t sheet_of_signature[9] = {0x03, 0x05, 0x00, 0x18, 0x48, 0x18, 0x00, 0xA5, 0xA5};
+static const uint8_t sheet_of_domination[9] = {0x04, 0x05, 0x00, 0x00, 0x04, 0x04, 0x09, 0x04, 0xA5};
+
+/* A vector that is saved, and a buffer that is one byte too short for that and stays as it was. */
+static void test_saved(const char *name, uint8_t kind, const int64_t *entries, size_t count, const uint8_t *expected, size_t length)
+{
+    uint8_t sheet[9], untouched[9];
+
+    memset(sheet, 0xA5, sizeof sheet);
+    memset(untouched, 0xA5, sizeof untouched);
+    expect(name, nahokipe_save_sheet(kind, 5, entries, count, sheet, length - 1), NAHOKIPE_SHORT_BUFFER, length);
+    expect_bytes(name, sheet, untouched, sizeof sheet);
+    expect(name, nahokipe_save_sheet(kind, 5, entries, count, sheet, 9), 0, length);
+    expect_bytes(name, sheet, expected, sizeof sheet);
+}
+
+/* The tail saved as one of the target kind, in the same way. */
+static void test_saved_as(const char *name, uint8_t target, const uint8_t *expected, size_t length)
+{
+    uint8_t sheet[9], untouched[9];
+
+    memset(sheet, 0xA5, sizeof sheet);
+    memset(untouched, 0xA5, sizeof untouched);
+    expect(name, nahokipe_save_sheet_as(NAHOKIPE_TAIL, 5, tail, 6, target, sheet, length - 1), NAHOKIPE_SHORT_BUFFER, length);
+    expect_bytes(name, sheet, untouched, sizeof sheet);
+    expect(name, nahokipe_save_sheet_as(NAHOKIPE_TAIL, 5, tail, 6, target, sheet, 9), 0, length);
+    expect_bytes(name, sheet, expected, sizeof sheet);
+}
+
+/* A tail sheet by name, where each of the other checks would fail too, and what those give for another target. */
+static void test_tail_sheets(void)
+{
+    static const int64_t falling[4] = {0, 3, 2, 1}, not_whole[6] = {120, 120, 100, 24, 0, 0};
+    uint8_t sheet[9], untouched[9];
+
+    memset(sheet, 0xA5, sizeof sheet);
+    memset(untouched, 0xA5, sizeof untouched);
+    expect("save_sheet_as, tail", nahokipe_save_sheet_as(3, 5, signature, 5, NAHOKIPE_TAIL, sheet, 9), NAHOKIPE_TAIL_SHEET, 0);
+    expect("save_sheet_as, tail of no kind", nahokipe_save_sheet_as(5, 5, tail, 6, 2, sheet, 9), NAHOKIPE_TAIL_SHEET, 0);
+    expect("save_sheet_as, of no kind", nahokipe_save_sheet_as(5, 5, tail, 6, 3, sheet, 9), NAHOKIPE_WRONG_KIND, 0);
+    expect("save_sheet_as, as no kind", nahokipe_save_sheet_as(2, 17, tail, 6, 0, sheet, 9), NAHOKIPE_WRONG_KIND, 0);
+    expect("save_sheet_as, tail of 17 parts", nahokipe_save_sheet_as(2, 17, tail, 6, 2, sheet, 9), NAHOKIPE_TAIL_SHEET, 0);
+    expect("save_sheet_as, 17 parts", nahokipe_save_sheet_as(2, 17, tail, 6, 3, sheet, 9), NAHOKIPE_WRONG_PART_COUNT, 0);
+    expect("save_sheet_as, short tail", nahokipe_save_sheet_as(2, 5, tail, 5, 2, sheet, 9), NAHOKIPE_TAIL_SHEET, 0);
+    expect("save_sheet_as, short vector", nahokipe_save_sheet_as(2, 5, tail, 5, 3, sheet, 9), NAHOKIPE_WRONG_VECTOR_LENGTH, 0);
+    expect("save_sheet_as, tail, not whole", nahokipe_save_sheet_as(2, 5, not_whole, 6, 2, sheet, 9), NAHOKIPE_TAIL_SHEET, 0);
+    expect("save_sheet_as, not whole", nahokipe_save_sheet_as(2, 5, not_whole, 6, 3, sheet, 9), NAHOKIPE_WRONG_PATH_COUNT, 3);
+    expect("save_sheet_as, tail, falling", nahokipe_save_sheet_as(1, 3, falling, 4, 2, sheet, 9), NAHOKIPE_TAIL_SHEET, 0);
+    expect("save_sheet_as, falling", nahokipe_save_sheet_as(1, 3, falling, 4, 3, sheet, 9), NAHOKIPE_FALLING_PROPORTION, 1);
+    expect("save_sheet_as, tail, no buffer", nahokipe_save_sheet_as(2, 5, tail, 6, 2, sheet, 0), NAHOKIPE_TAIL_SHEET, 0);
+    expect_bytes("save_sheet_as, refused", sheet, untouched, sizeof sheet);
+}
+
 static void test_sheets(void)
 {
-    static const uint8_t written[9] = {0x02, 0x05, 0x78, 0x78, 0x60, 0x18, 0x00, 0x00, 0xA5};
-    uint8_t sheet[9] = {0xA5, 0xA5, 0xA5, 0xA5, 0xA5, 0xA5, 0xA5, 0xA5, 0xA5};
+    static const int64_t falling[4] = {0, 3, 2, 1};
     int64_t cells[7] = {99, 99, 99, 99, 99, 99, 99};
+    uint8_t sheet[9];
 
-    expect("write_sheet", nahokipe_write_sheet(2, 5, tail, 6, sheet, 9), 0, 8);
-    expect_bytes("write_sheet", sheet, written, sizeof sheet);
-    expect("write_sheet, short buffer", nahokipe_write_sheet(3, 5, signature, 5, sheet, 6), 11, 7);
-    expect_bytes("write_sheet, short buffer", sheet, written, sizeof sheet);
+    test_saved("save_sheet, path counts", NAHOKIPE_PATH_COUNTS, counts, 6, sheet_of_counts, 8);
+    test_saved("save_sheet, tail", NAHOKIPE_TAIL, tail, 6, sheet_of_signature, 7);
+    test_saved("save_sheet, signature", NAHOKIPE_SIGNATURE, signature, 5, sheet_of_signature, 7);
+    test_saved("save_sheet, domination", NAHOKIPE_DOMINATION, domination, 6, sheet_of_domination, 8);
+    test_saved_as("save_sheet_as, path counts", NAHOKIPE_PATH_COUNTS, sheet_of_counts, 8);
+    test_saved_as("save_sheet_as, signature", NAHOKIPE_SIGNATURE, sheet_of_signature, 7);
+    test_saved_as("save_sheet_as, domination", NAHOKIPE_DOMINATION, sheet_of_domination, 8);
+    memcpy(sheet, sheet_of_tail, sizeof sheet);
+    expect("save_sheet, no kind", nahokipe_save_sheet(0, 3, falling, 4, sheet, 9), NAHOKIPE_WRONG_KIND, 0);
+    expect("save_sheet, falling", nahokipe_save_sheet(1, 3, falling, 4, sheet, 9), NAHOKIPE_FALLING_PROPORTION, 1);
+    expect_bytes("save_sheet, refused", sheet, sheet_of_tail, sizeof sheet);
     expect_sheet("read_sheet", nahokipe_read_sheet(sheet, 8, cells, 7), 0, 6, 2, 5);
     expect_bytes("read_sheet", cells, tail, sizeof cells);
     expect_sheet("read_sheet, bytes left", nahokipe_read_sheet(sheet, 9, cells, 7), 25, 8, 1, 0);
     expect_bytes("read_sheet, bytes left", cells, tail, sizeof cells);
+    expect("save_sheet, as it was read", nahokipe_save_sheet(2, 5, cells, 6, sheet, 7), 0, 7);
+    expect_bytes("save_sheet, as it was read", sheet, sheet_of_signature, 7);
 }
 
 /* All of the bridge's record, which stands at an offset, or nothing beside a refusal. */
@@ -654,6 +719,7 @@ int main(void)
     test_joint();
     test_vectors();
     test_sheets();
+    test_tail_sheets();
     test_records();
     test_changes();
     test_groups();

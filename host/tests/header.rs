@@ -4,13 +4,14 @@
 use nahokipe::lent::{self, RecordAnswer};
 use nahokipe::{
     drawing_of_record, first_record, joint_signature, list_verdict, path_counts, record_of_drawing,
-    refused_line, reliability, report, retired, table_of_record, take_out, whole_record,
-    write_sheet, Kind, Refusal,
+    refused_line, reliability, report, retired, save_sheet, save_sheet_as, table_of_record,
+    take_out, whole_record, Kind, Refusal,
 };
 use nahokipe_testing::making::{drawing_line, sets_of_size, six_of_sixteen};
 use nahokipe_testing::making::{largest_edition_2, largest_record};
 use nahokipe_testing::naive::refused;
 use nahokipe_testing::naive_figures::size;
+use nahokipe_testing::stored::tail_sheets;
 use std::collections::BTreeMap;
 use std::fs;
 
@@ -165,7 +166,7 @@ fn rows() -> Vec<(usize, String)> {
 }
 
 /// Every refusal of the specification has its row, in the order of the numbers, and what stands there in front of the place is what Rust
-/// gives as the reason.
+/// gives as the reason. No other number has one.
 #[test]
 fn every_row() {
     let rows = rows();
@@ -182,8 +183,7 @@ fn every_row() {
         assert_eq!(refusal.reason(), reason);
         assert_eq!(refusal.to_string(), format!("refused {number} 3: {reason}"));
     }
-    let last = *specified.last().expect("a refusal") as u8;
-    for number in [0, last + 1, 255] {
+    for number in (0..=255).filter(|&number| !specified.contains(&usize::from(number))) {
         let refusal = Refusal { number, place: 0 };
         assert_eq!(refusal.reason(), "no refusal has this number");
     }
@@ -273,20 +273,20 @@ fn retired_numbers() {
     assert_eq!(numbers.len(), lent::MOST_RETIRED);
 }
 
-/// What is proved of sheets is what the header says.
+/// What is proved of sheets is what the header says, of those that are saved and of those that were stored.
 #[test]
 fn sheets() {
     let longest = bound("crates/sheet/proofs/Lengths.antt", "pub written-longest");
     assert_eq!(lent::LONGEST_SHEET, longest);
-    let table = six_of_sixteen();
-    for (kind, call) in [
-        (Kind::Tail, nahokipe::tail as fn(usize, &[u8]) -> _),
-        (Kind::Domination, nahokipe::domination),
-    ] {
-        let entries: Result<Vec<i64>, Refusal> = call(16, &table);
-        let sheet = write_sheet(kind, 16, &entries.expect("an accepted table"));
+    let tail = nahokipe::tail(16, &six_of_sixteen()).expect("an accepted table");
+    let named = [Kind::PathCounts, Kind::Signature, Kind::Domination];
+    let named = named.map(|target| save_sheet_as(Kind::Tail, 16, &tail, target));
+    for sheet in named.into_iter().chain([save_sheet(Kind::Tail, 16, &tail)]) {
         assert!(sheet.expect("an accepted vector").len() <= longest);
     }
+    assert!(tail_sheets()
+        .iter()
+        .all(|(sheet, _)| sheet.len() <= longest));
 }
 
 /// The longest accepted text has the most lines, with all 16 positions on each; what is written is shorter.

@@ -1,5 +1,5 @@
-//! The naive vectors and sheets against document 01's examples and against figures of machines: what the other tests compare with must
-//! be right.
+//! The naive vectors and sheets against document 01's examples, against figures of machines and against sheets that were stored with a tail:
+//! what the other tests compare with must be right.
 
 use nahokipe_testing::known::REFUSED_VECTORS;
 use nahokipe_testing::making::random_table;
@@ -8,6 +8,7 @@ use nahokipe_testing::naive_bytes::{number_at, number_bytes, Field};
 use nahokipe_testing::naive_figures::figures_of;
 use nahokipe_testing::naive_vectors::*;
 use nahokipe_testing::seeded::Seeded;
+use nahokipe_testing::stored::tail_sheets;
 
 /// The bridge in the four kinds.
 const BRIDGE: [(u8, &[i64]); 4] = [
@@ -65,7 +66,7 @@ fn figures_of_machines_are_accepted() {
                 for (target, expected) in vectors {
                     assert_eq!(convert(kind, n, entries, target).as_ref(), Ok(expected));
                 }
-                let sheet = write_sheet(kind, n, entries).expect("an accepted vector");
+                let sheet = sheet_bytes(kind, n, entries);
                 let (entries, read) = (entries.clone(), read_sheet(&sheet));
                 assert_eq!(read, Ok(Vector { kind, n, entries }));
             }
@@ -96,6 +97,49 @@ fn the_bridges_sheets() {
     let domination = [0x04, 0x05, 0x00, 0x00, 0x04, 0x04, 0x09, 0x04];
     assert_eq!(sheet_bytes(1, 5, BRIDGE[0].1), counts);
     assert_eq!(sheet_bytes(4, 5, BRIDGE[3].1), domination);
+}
+
+/// The bridge's sheets as they are saved: the tail's is the signature's.
+#[test]
+fn the_bridge_is_saved() {
+    for (kind, entries) in BRIDGE {
+        let expected = match kind {
+            TAIL => vec![0x03, 0x05, 0x00, 0x18, 0x48, 0x18, 0x00],
+            _ => sheet_bytes(kind, 5, entries),
+        };
+        assert_eq!(save_sheet(kind, 5, entries), Ok(expected));
+        for (target, named) in BRIDGE {
+            let expected = match target {
+                TAIL => refused(34, 0),
+                _ => Ok(sheet_bytes(target, 5, named)),
+            };
+            assert_eq!(save_sheet_as(kind, 5, entries, target), expected);
+        }
+    }
+}
+
+/// 34 is in front of every other refusal; behind it 26 of either kind, and then those of the vector.
+#[test]
+fn refused_saving() {
+    for (kind, n, entries, number, place) in REFUSED_VECTORS {
+        assert_eq!(save_sheet(kind, n, entries), refused(number, place));
+        assert_eq!(save_sheet_as(kind, n, entries, TAIL), refused(34, 0));
+        let signature = save_sheet_as(kind, n, entries, SIGNATURE);
+        assert_eq!(signature, refused(number, place));
+        for target in NO_KINDS {
+            assert_eq!(save_sheet_as(kind, n, entries, target), refused(26, 0));
+        }
+    }
+}
+
+/// Sheets that were stored with a tail are written and read here as they were then.
+#[test]
+fn stored_tail_sheets() {
+    for (sheet, vector) in tail_sheets() {
+        let Vector { kind, n, entries } = &vector;
+        assert_eq!(sheet_bytes(*kind, *n, entries), sheet);
+        assert_eq!(read_sheet(&sheet), Ok(vector));
+    }
 }
 
 #[test]

@@ -1,15 +1,17 @@
-//! Sheets: the calculator against the naive implementation, answers, places and every cell of the lent buffers.
+//! Sheets that are read, those that were stored with a tail among them: the calculator against the naive implementation, answers, places and
+//! every cell of the lent buffers.
 
-use nahokipe::lent::{read_sheet, sheet_answer, write_sheet, Sheet, SheetAnswer};
+use nahokipe::lent::{read_sheet, sheet_answer, Sheet, SheetAnswer};
 use nahokipe::Refusal;
-use nahokipe_testing::comparing::{buffers, same};
+use nahokipe_testing::comparing::{buffers, same, same_saved};
 use nahokipe_testing::making::random_table;
 use nahokipe_testing::naive::{self, refused, structure_of};
 use nahokipe_testing::naive_bytes::{number_bytes, numbers_bytes};
-use nahokipe_testing::naive_figures::path_counts;
+use nahokipe_testing::naive_figures::{factorial, path_counts};
 use nahokipe_testing::naive_vectors::{self as by_words, sheet_bytes, vector_for};
-use nahokipe_testing::naive_vectors::{Vector, DOMINATION, KINDS, SIGNATURE};
+use nahokipe_testing::naive_vectors::{Vector, DOMINATION, KINDS, TAIL};
 use nahokipe_testing::seeded::Seeded;
+use nahokipe_testing::stored::tail_sheets;
 use std::collections::BTreeSet;
 
 /// What buffers are filled with: a pattern and its opposite.
@@ -19,17 +21,6 @@ const CELLS: [i64; 2] = [0x5A5A_5A5A_5A5A_5A5A, !0x5A5A_5A5A_5A5A_5A5A];
 const MOST_ENTRIES: usize = 17;
 
 // ---- comparing
-
-/// A sheet's writing, into buffers of every length that matters.
-fn compare_written(kind: u8, n: usize, entries: &[i64]) {
-    let about = || format!("kind {kind}, n = {n}, {entries:?}");
-    let expected = by_words::write_sheet(kind, n, entries);
-    for before in buffers(&expected, 20, [0xA5, 0x5A]) {
-        let mut after = before.clone();
-        let answer = write_sheet(kind, n, entries, &mut after);
-        same((answer, after), naive::delivered(&expected, &before), about);
-    }
-}
 
 /// A sheet's reading, into buffers of every length that matters.
 fn compare_read(sheet: &[u8]) {
@@ -93,30 +84,62 @@ fn some_sheets(seed: u64) -> Vec<Vec<u8>> {
 
 // ---- accepted sheets
 
+/// That a sheet is read as this vector.
+fn assert_read(sheet: &[u8], vector: &Vector) {
+    compare_read(sheet);
+    let mut cells = [CELLS[0]; MOST_ENTRIES];
+    let count = vector.entries.len();
+    let expected = Sheet {
+        kind: vector.kind,
+        n: vector.n,
+        entries: count,
+    };
+    assert_eq!(read_sheet(sheet, &mut cells), Ok(expected));
+    assert_eq!(cells[..count], vector.entries);
+}
+
 #[test]
-fn sheets_of_machines_there_and_back() {
+fn sheets_of_machines() {
     let mut seeded = Seeded::new(130);
     for n in 1..=16 {
         for kind in KINDS {
             for _ in 0..20 {
                 let entries = random_vector(&mut seeded, kind, n);
-                compare_written(kind, n, &entries);
-                compare_read(&sheet_bytes(kind, n, &entries));
-                let (mut sheet, mut cells) = ([0xA5; 155], [CELLS[0]; MOST_ENTRIES]);
-                let length =
-                    write_sheet(kind, n, &entries, &mut sheet).expect("an accepted vector");
-                let read = read_sheet(&sheet[..length], &mut cells);
-                let count = entries.len();
-                let entries_read = Sheet {
-                    kind,
-                    n,
-                    entries: count,
-                };
-                assert_eq!(read, Ok(entries_read));
-                assert_eq!(cells[..count], entries);
+                let sheet = sheet_bytes(kind, n, &entries);
+                assert_read(&sheet, &Vector { kind, n, entries });
             }
         }
     }
+}
+
+/// Every sheet that was stored with a tail is read as the tail that it was.
+#[test]
+fn stored_tail_sheets() {
+    for (sheet, vector) in tail_sheets() {
+        assert_read(&sheet, &vector);
+    }
+}
+
+/// The stored sheets have every n, three or more of each from 2 parts on, the longest of each n, and the bridge.
+#[test]
+fn which_tail_sheets_are_stored() {
+    let stored = tail_sheets();
+    assert!(stored.len() > 100);
+    for n in 1..=16 {
+        let of_n = stored.iter().filter(|(_, vector)| vector.n == n);
+        let sheets: BTreeSet<&Vec<u8>> = of_n.map(|(sheet, _)| sheet).collect();
+        assert!(sheets.len() >= if n == 1 { 1 } else { 3 }, "n = {n}");
+        assert!(sheets.contains(&longest_tail_sheet(n)), "n = {n}");
+    }
+    let bridge = vec![0x02, 0x05, 0x78, 0x78, 0x60, 0x18, 0x00, 0x00];
+    assert!(stored.iter().any(|(sheet, _)| *sheet == bridge));
+}
+
+/// The longest tail sheet of n parts: the machine runs in all orders as long as one part does.
+fn longest_tail_sheet(n: usize) -> Vec<u8> {
+    let mut entries = vec![factorial(n) as u128; n];
+    entries.push(0);
+    numbers_bytes([2, n as u128].into_iter().chain(entries))
 }
 
 // ---- refused sheets
@@ -194,7 +217,8 @@ fn sheets_of_refused_vectors() {
                 let sheet = sheet_bytes(kind, n, &entries);
                 seen.insert(compare_lightly(&sheet));
                 compare_read(&sheet);
-                compare_written(kind, n, &entries);
+                let verdict = by_words::verdict(kind, n, &entries);
+                assert_eq!(same_saved(kind, n, &entries).map(drop), verdict);
             }
         }
     }
@@ -215,21 +239,6 @@ fn other_entry(seeded: &mut Seeded, kind: u8, entry: i64) -> i64 {
         entry
     } else {
         entry.max(0)
-    }
-}
-
-/// Vectors that no sheet can carry are refused by writing, before anything is made of them.
-#[test]
-fn writing_refused_vectors() {
-    let far = [i64::MIN, i64::MAX, -(1 << 62), 1 << 62, -(1 << 62) - 1, -1];
-    for n in [0, 1, 2, 5, 16, 17, usize::MAX] {
-        for kind in [0, 1, 2, 3, 4, 5, 255] {
-            for length in 0..=18 {
-                for entry in far {
-                    compare_written(kind, n, &vec![entry; length]);
-                }
-            }
-        }
     }
 }
 
@@ -314,17 +323,15 @@ fn examples() {
 /// The bridge's tail, and a domination with a negative entry.
 #[test]
 fn sheets_byte_for_byte() {
-    let mut sheet = [0xA5; 12];
-    let tail = [120, 120, 96, 24, 0, 0];
-    assert_eq!(write_sheet(2, 5, &tail, &mut sheet), Ok(8));
-    let expected = [2, 5, 0x78, 0x78, 0x60, 0x18, 0, 0, 0xA5, 0xA5, 0xA5, 0xA5];
-    assert_eq!(sheet, expected);
-    assert_eq!(write_sheet(4, 2, &[0, 2, -1], &mut sheet), Ok(5));
-    assert_eq!(sheet[..8], [4, 2, 0, 4, 1, 0x18, 0, 0]);
-    assert_eq!(
-        write_sheet(SIGNATURE, 2, &[1, 1], &mut sheet[..3]),
-        refused(11, 4)
-    );
+    let mut cells = [9; 8];
+    let answer = read_sheet(&[2, 5, 0x78, 0x78, 0x60, 0x18, 0, 0], &mut cells);
+    let expected = Sheet {
+        kind: 2,
+        n: 5,
+        entries: 6,
+    };
+    assert_eq!(answer, Ok(expected));
+    assert_eq!(cells, [120, 120, 96, 24, 0, 0, 9, 9]);
     let mut cells = [9; 4];
     let answer = read_sheet(&[4, 2, 0, 4, 1], &mut cells);
     let expected = Sheet {
@@ -339,14 +346,15 @@ fn sheets_byte_for_byte() {
 #[test]
 fn the_longest_sheet() {
     let factorial: i64 = 20_922_789_888_000;
-    let mut tail = [factorial; 17];
+    let mut tail = vec![factorial; 17];
     tail[16] = 0;
-    let expected = numbers_bytes([2, 16].into_iter().chain(tail.map(|entry| entry as u128)));
-    assert_eq!(
-        expected.len(),
-        3 + 16 * number_bytes(factorial as u128).len()
-    );
-    assert_eq!(by_words::write_sheet(2, 16, &tail), Ok(expected.clone()));
-    compare_written(2, 16, &tail);
-    compare_read(&expected);
+    let sheet = longest_tail_sheet(16);
+    assert_eq!(sheet.len(), 3 + 16 * number_bytes(factorial as u128).len());
+    assert_eq!(sheet_bytes(TAIL, 16, &tail), sheet);
+    let vector = Vector {
+        kind: TAIL,
+        n: 16,
+        entries: tail,
+    };
+    assert_read(&sheet, &vector);
 }

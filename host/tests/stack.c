@@ -48,7 +48,9 @@ static void both_routes(void) { given(nahokipe_shares_by_both_routes(16, table, 
 static void reliability(void) { given(nahokipe_reliability(16, table, sizeof table, 0xFF, cells, 81)); }
 static void joint_signature(void) { given(nahokipe_joint_signature(16, table, sizeof table, other, sizeof other, square, 256)); }
 static void convert(void) { given(nahokipe_convert(1, 16, counts, 17, 4, second, 17)); }
-static void write_sheet(void) { sheet_length = given(nahokipe_write_sheet(1, 16, counts, 17, sheet, sizeof sheet)); }
+static void tail(void) { given(nahokipe_tail(16, table, sizeof table, first, 17)); }
+static void save_sheet(void) { given(nahokipe_save_sheet(2, 16, first, 17, sheet, sizeof sheet)); }
+static void save_sheet_as(void) { sheet_length = given(nahokipe_save_sheet_as(2, 16, first, 17, 4, sheet, sizeof sheet)); }
 static void read_sheet(void) { refusals += nahokipe_read_sheet(sheet, sheet_length, first, 17).number != 0; }
 static void first_record(void) { length = given(nahokipe_first_record(16, sets, SETS, record, BYTES)); }
 static void entered_record(void) { entered_length = given(nahokipe_entered_record(numbers[15], numbers, 16, sets, SETS, written, BYTES)); }
@@ -111,8 +113,8 @@ int main(void) {
         {"table_of_list", table_of_list}, {"table_verdict", table_verdict}, {"minimal_sets", minimal_sets},
         {"table_of_cuts", table_of_cuts}, {"minimal_cuts", minimal_cuts}, {"dual", dual}, {"idle_parts", idle_parts},
         {"table_at_least", table_at_least}, {"table_of_row", table_of_row}, {"table_of_ring", table_of_ring}, {"figures", figures},
-        {"shares_by_both_routes", both_routes}, {"reliability", reliability}, {"convert", convert}, {"write_sheet", write_sheet},
-        {"read_sheet", read_sheet},
+        {"shares_by_both_routes", both_routes}, {"reliability", reliability}, {"convert", convert}, {"tail", tail},
+        {"save_sheet", save_sheet}, {"save_sheet_as", save_sheet_as}, {"read_sheet", read_sheet},
         {"entered_record", entered_record}, {"position_of", position_of}, {"mask_of", mask_of}, {"numbers_of", numbers_of},
         {"take_out_part", take_out_part}, {"take_out_parts", take_out_parts},
         {"add_set_of_parts", add_set_of_parts}, {"first_record", first_record}, {"whole_record", whole_record},

@@ -4,19 +4,16 @@ use nahokipe::lent::{convert, vector_verdict};
 use nahokipe::Refusal;
 use nahokipe_testing::comparing::{buffers, same};
 use nahokipe_testing::known::REFUSED_VECTORS;
-use nahokipe_testing::making::random_table;
-use nahokipe_testing::naive::{self, refused, structure_of};
-use nahokipe_testing::naive_figures::{self as figures, binomial, factorial, pascal};
-use nahokipe_testing::naive_vectors::{self as by_words, entries_of, vector_for, KINDS};
+use nahokipe_testing::making::{counts_of, random_counts};
+use nahokipe_testing::naive::{self, refused};
+use nahokipe_testing::naive_figures::{factorial, pascal};
+use nahokipe_testing::naive_vectors::{self as by_words, entries_of, vector_for, KINDS, NO_KINDS};
 use nahokipe_testing::naive_vectors::{DOMINATION, PATH_COUNTS, SIGNATURE, TAIL};
 use nahokipe_testing::seeded::Seeded;
 use std::collections::BTreeSet;
 
 /// What buffers are filled with: a pattern and its opposite.
 const CELLS: [i64; 2] = [0x5A5A_5A5A_5A5A_5A5A, !0x5A5A_5A5A_5A5A_5A5A];
-
-/// Numbers that are no kind.
-const NO_KINDS: [u8; 5] = [0, 5, 6, 128, 255];
 
 // ---- comparing
 
@@ -79,19 +76,6 @@ impl Seen {
 
 // ---- vectors of few parts
 
-/// All lists of n+1 numbers, the j-th from -1 to C(n,j)+1.
-fn counts_of(n: usize) -> Vec<Vec<i128>> {
-    let mut all = vec![Vec::new()];
-    for j in 0..=n {
-        let longer = |counts: Vec<i128>| {
-            let most = binomial(n, j) + 1;
-            (-1..=most).map(move |count| [counts.as_slice(), &[count]].concat())
-        };
-        all = all.into_iter().flat_map(longer).collect();
-    }
-    all
-}
-
 /// Accepted, 13 at every size and 14 at every size from which a proportion can fall are among them.
 #[test]
 fn every_vector_of_up_to_four_parts() {
@@ -136,24 +120,6 @@ fn every_vector_of_up_to_four_parts_shifted() {
 }
 
 // ---- vectors of up to sixteen parts
-
-/// Path counts that are accepted, of a machine or of none: each at least the proportion of the one before.
-fn random_counts(seeded: &mut Seeded, n: usize) -> Vec<i128> {
-    if seeded.between(0, 1) == 0 {
-        let table = random_table(seeded, n);
-        return figures::path_counts(n, &structure_of(n, &table));
-    }
-    let mut counts = vec![0];
-    for j in 1..n {
-        let least = counts[j - 1] * binomial(n, j);
-        let least = (least + binomial(n, j - 1) - 1) / binomial(n, j - 1);
-        let room = (binomial(n, j) - least) as usize;
-        let more = seeded.between(0, room);
-        counts.push(least + seeded.pick(&[0, 0, more.min(1), more]) as i128);
-    }
-    counts.push(1);
-    counts
-}
 
 #[test]
 fn accepted_vectors_there_and_back() {

@@ -1,7 +1,8 @@
 //! What a good Rust program does for edition 2 of a record: the numbers behind the sets are read one after the other, and path sets are
 //! counted by instruction, 64 to a word.
 
-use super::records::{number_at, LONG, SHORT};
+use super::numbers::number_at;
+use super::records::{LONG, SHORT};
 use super::sizes::path_counts;
 use super::table::{refused, Words};
 use nahokipe::{Record, Refusal};

@@ -1,4 +1,7 @@
-//! Numbers as they are written into a record, in groups of seven bits.
+//! Numbers as they stand in a record and in a sheet, in groups of seven bits.
+
+use super::table::refused;
+use nahokipe::Refusal;
 
 /// The bytes of a number.
 #[inline(always)]
@@ -15,4 +18,24 @@ pub fn write_number(number: u64, buffer: &mut [u8]) -> usize {
         *cell = (number >> (7 * group)) as u8 & 0x7F | more;
     }
     length
+}
+
+/// The number at a position and the position behind it, or 21 and 22.
+#[inline(always)]
+pub fn number_at<const TOP: u64>(bytes: &[u8], at: usize) -> Result<(u64, usize), Refusal> {
+    let mut number = 0_u64;
+    for group in 0..TOP.ilog2() as usize / 7 + 1 {
+        let Some(&byte) = bytes.get(at + group) else {
+            return refused(21, bytes.len());
+        };
+        number |= ((byte & 0x7F) as u64) << (7 * group);
+        if byte < 0x80 {
+            let is_shortest = byte != 0 || group == 0;
+            return match is_shortest && number <= TOP {
+                true => Ok((number, at + group + 1)),
+                false => refused(22, at),
+            };
+        }
+    }
+    refused(22, at)
 }

@@ -3,6 +3,7 @@
 
 use super::closing::{carry, store, trimmed};
 use super::editions::read_tail;
+use super::numbers::number_at;
 use super::table::{refused, table_length, Words};
 use nahokipe::{Record, Refusal};
 
@@ -143,24 +144,4 @@ fn first_holding(bytes: &[u8], n: usize, record: &Record, works: &Words) -> usiz
         at = next;
     }
     at
-}
-
-/// The number at a position and the position behind it, or 21 and 22.
-#[inline(always)]
-pub fn number_at<const TOP: u64>(bytes: &[u8], at: usize) -> Result<(u64, usize), Refusal> {
-    let mut number = 0_u64;
-    for group in 0..TOP.ilog2() as usize / 7 + 1 {
-        let Some(&byte) = bytes.get(at + group) else {
-            return refused(21, bytes.len());
-        };
-        number |= ((byte & 0x7F) as u64) << (7 * group);
-        if byte < 0x80 {
-            let is_shortest = byte != 0 || group == 0;
-            return match is_shortest && number <= TOP {
-                true => Ok((number, at + group + 1)),
-                false => refused(22, at),
-            };
-        }
-    }
-    refused(22, at)
 }

@@ -46,7 +46,8 @@ pub use records::{record_at_answer, step_answer, whole_record_answer};
 pub use report::{refused_line, report};
 pub use shares::{reliability, shares_by_both_routes, shares_by_reliability, shares_by_sets};
 pub use structures::{minimal_sets, table_of_list};
-pub use vectors::{convert, read_sheet, sheet_answer, vector_verdict, write_sheet, Sheet};
+pub use vectors::{convert, vector_verdict};
+pub use vectors::{read_sheet, save_sheet, save_sheet_as, sheet_answer, Sheet};
 
 use crate::declared::{OfBytes, OfTable};
 use crate::Refusal;

@@ -1,8 +1,8 @@
 //! Vectors and their sheets into lent buffers. A kind goes as its number here, since the calculator judges it.
 
 use crate::declared::{
-    nahokipe_convert, nahokipe_read_sheet, nahokipe_vector_verdict, nahokipe_write_sheet, Answer,
-    SheetAnswer,
+    nahokipe_convert, nahokipe_read_sheet, nahokipe_save_sheet, nahokipe_save_sheet_as,
+    nahokipe_vector_verdict, Answer, SheetAnswer,
 };
 use crate::Refusal;
 
@@ -34,19 +34,37 @@ pub fn convert(
     answer.given()
 }
 
-/// The sheet of a vector, into `sheet`: how many bytes were written.
-pub fn write_sheet(
-    kind: u8,
-    n: usize,
-    entries: &[i64],
-    sheet: &mut [u8],
-) -> Result<usize, Refusal> {
+/// The sheet that a vector is saved as, for a tail that of the signature, into `sheet`: how many bytes were written.
+pub fn save_sheet(kind: u8, n: usize, entries: &[i64], sheet: &mut [u8]) -> Result<usize, Refusal> {
     let answer = unsafe {
-        nahokipe_write_sheet(
+        nahokipe_save_sheet(
             kind,
             n,
             entries.as_ptr(),
             entries.len(),
+            sheet.as_mut_ptr(),
+            sheet.len(),
+        )
+    };
+    answer.given()
+}
+
+/// The sheet of the vector of the target kind that stands for the same path counts, into `sheet`: how many bytes were written. A tail sheet is
+/// refused with 34, whatever the rest is.
+pub fn save_sheet_as(
+    kind: u8,
+    n: usize,
+    entries: &[i64],
+    target: u8,
+    sheet: &mut [u8],
+) -> Result<usize, Refusal> {
+    let answer = unsafe {
+        nahokipe_save_sheet_as(
+            kind,
+            n,
+            entries.as_ptr(),
+            entries.len(),
+            target,
             sheet.as_mut_ptr(),
             sheet.len(),
         )

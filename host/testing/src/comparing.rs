@@ -1,9 +1,11 @@
-//! What a call leaves of a lent buffer, compared cell by cell, changes of records among them, and what is handed out of a record.
+//! What a call leaves of a lent buffer, compared cell by cell, changes of records and saved vectors among them, and what is handed out of a
+//! record.
 
 use crate::naive;
 use crate::naive_records::{self as by_words, Change, Reading};
+use crate::naive_vectors::{self, KINDS, NO_KINDS, SAVED_KINDS};
 use nahokipe::lent::{add_part, add_set, add_set_of_parts, joint_signature, RecordAnswer};
-use nahokipe::lent::{retired, whole_record_answer, MOST_RETIRED};
+use nahokipe::lent::{retired, save_sheet, save_sheet_as, whole_record_answer, MOST_RETIRED};
 use nahokipe::lent::{table_of_pattern, take_out, take_out_group, take_out_part, take_out_parts};
 use nahokipe::{edition, record_end, Pattern, Refusal};
 use std::collections::BTreeSet;
@@ -130,6 +132,35 @@ pub fn same_joint_signature(
     same_in_buffers(call, expected, (enough, NUMBERS), || {
         about_two_tables(n, first, second)
     });
+}
+
+/// A vector saved, and saved as each kind and as no kind, into buffers of every length that matters: what saving it gives.
+pub fn same_saved(kind: u8, n: usize, entries: &[i64]) -> Result<Vec<u8>, Refusal> {
+    let about = || format!("kind {kind}, n = {n}, {entries:?}");
+    let expected = naive_vectors::save_sheet(kind, n, entries);
+    let call = |sheet: &mut [u8]| save_sheet(kind, n, entries, sheet);
+    same_sheet(call, &expected, about);
+    for target in KINDS.into_iter().chain(NO_KINDS) {
+        let expected = naive_vectors::save_sheet_as(kind, n, entries, target);
+        let call = |sheet: &mut [u8]| save_sheet_as(kind, n, entries, target, sheet);
+        same_sheet(call, &expected, || format!("{}, as {target}", about()));
+    }
+    expected
+}
+
+/// A sheet that a call writes, which begins with 1, 3 or 4.
+fn same_sheet(
+    call: impl Fn(&mut [u8]) -> Result<usize, Refusal>,
+    expected: &Result<Vec<u8>, Refusal>,
+    about: impl Fn() -> String,
+) {
+    let call = |sheet: &mut [u8]| {
+        let answer = call(sheet);
+        let begins = answer.is_err() || SAVED_KINDS.contains(&sheet[0]);
+        assert!(begins, "{:?}, {}", sheet.first(), about());
+        answer
+    };
+    same_in_buffers(call, expected, (20, [0xA5, 0x5A]), &about);
 }
 
 /// A call that works on bytes and writes into a buffer.

@@ -1,5 +1,5 @@
 //! What the calculator is tested with: the calculator a second time, from the documents' words alone (`naive` and what begins with it), cases
-//! worked out by hand, inputs to try, and comparisons that look at every cell of a lent buffer.
+//! worked out by hand, inputs to try, sheets as people keep them, and comparisons that look at every cell of a lent buffer.
 
 pub mod comparing;
 pub mod known;
@@ -18,3 +18,4 @@ pub mod naive_report;
 pub mod naive_shares;
 pub mod naive_vectors;
 pub mod seeded;
+pub mod stored;

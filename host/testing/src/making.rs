@@ -1,8 +1,9 @@
-//! Lists, tables, records and drawings' texts for the tests to try.
+//! Lists, tables, path counts, records and drawings' texts for the tests to try.
 
 use crate::naive::{self, MOST_SETS};
 use crate::naive_bytes::numbers_bytes;
 use crate::naive_editions::{edition_2_bytes, edition_2_numbers, MOST_RETIRED};
+use crate::naive_figures::{binomial, path_counts};
 use crate::naive_records::{record_bytes, record_numbers, whole_record, Plain, TOP_NUMBER};
 use crate::seeded::Seeded;
 use nahokipe::Refusal;
@@ -110,6 +111,37 @@ pub fn every_and_random_machines(seed: u64) -> Vec<(usize, Vec<u8>)> {
     let random = (1..=16).flat_map(|n| [n; 12]);
     let random = random.map(|n| (n, random_table(&mut seeded, n)));
     every.chain(random).collect()
+}
+
+/// All lists of n+1 numbers in the place of path counts, the j-th from -1 to C(n,j)+1.
+pub fn counts_of(n: usize) -> Vec<Vec<i128>> {
+    let mut all = vec![Vec::new()];
+    for j in 0..=n {
+        let longer = |counts: Vec<i128>| {
+            let most = binomial(n, j) + 1;
+            (-1..=most).map(move |count| [counts.as_slice(), &[count]].concat())
+        };
+        all = all.into_iter().flat_map(longer).collect();
+    }
+    all
+}
+
+/// Path counts that are accepted, of a machine or of none: each at least the proportion of the one before.
+pub fn random_counts(seeded: &mut Seeded, n: usize) -> Vec<i128> {
+    if seeded.between(0, 1) == 0 {
+        let table = random_table(seeded, n);
+        return path_counts(n, &naive::structure_of(n, &table));
+    }
+    let mut counts = vec![0];
+    for j in 1..n {
+        let least = counts[j - 1] * binomial(n, j);
+        let least = (least + binomial(n, j - 1) - 1) / binomial(n, j - 1);
+        let room = (binomial(n, j) - least) as usize;
+        let more = seeded.between(0, room);
+        counts.push(least + seeded.pick(&[0, 0, more.min(1), more]) as i128);
+    }
+    counts.push(1);
+    counts
 }
 
 /// All machines of n parts, n up to 4: numbered 1 to n, and with gaps, numbers of several bytes and a mark above them.

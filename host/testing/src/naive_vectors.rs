@@ -1,4 +1,5 @@
-//! Vectors and sheets a second time, from document 01's words alone. Everything is worked out in 128 bits, where nothing can overflow.
+//! Vectors and sheets a second time, from the words of document 01 and of request §11 alone. Everything is worked out in 128 bits, where
+//! nothing can overflow.
 //!
 //! Nothing here is shared with the calculator; the tests compare the two.
 
@@ -12,6 +13,12 @@ pub const TAIL: u8 = 2;
 pub const SIGNATURE: u8 = 3;
 pub const DOMINATION: u8 = 4;
 pub const KINDS: [u8; 4] = [PATH_COUNTS, TAIL, SIGNATURE, DOMINATION];
+
+/// The kinds that sheets are still written of.
+pub const SAVED_KINDS: [u8; 3] = [PATH_COUNTS, SIGNATURE, DOMINATION];
+
+/// Some numbers that are no kind, one of them with the tail's in its lowest bits.
+pub const NO_KINDS: [u8; 6] = [0, 5, 6, 128, 130, 255];
 
 // ---- judging
 
@@ -148,10 +155,22 @@ fn entry_of(kind: u8, number: u128) -> i64 {
     i64::try_from(entry).expect("a number of 64 bits")
 }
 
-/// The sheet of a vector, or the vector's refusal.
-pub fn write_sheet(kind: u8, n: usize, entries: &[i64]) -> Result<Vec<u8>, Refusal> {
-    verdict(kind, n, entries)?;
-    Ok(sheet_bytes(kind, n, entries))
+/// The sheet that a vector is saved as: its own kind's, but kind 2 is written as kind 3 with the same path counts. Or the vector's refusal.
+pub fn save_sheet(kind: u8, n: usize, entries: &[i64]) -> Result<Vec<u8>, Refusal> {
+    let counts = accepted(kind, n, entries)?;
+    Ok(match kind {
+        TAIL => sheet_bytes(SIGNATURE, n, &vector_for(SIGNATURE, &counts)),
+        _ => sheet_bytes(kind, n, entries),
+    })
+}
+
+/// The sheet of the kind that is named, or the first refusal: 34 for kind 2 whatever the vector is, then those of converting.
+pub fn save_sheet_as(kind: u8, n: usize, entries: &[i64], target: u8) -> Result<Vec<u8>, Refusal> {
+    if target == TAIL {
+        return refused(34, 0);
+    }
+    let entries = convert(kind, n, entries, target)?;
+    Ok(sheet_bytes(target, n, &entries))
 }
 
 /// The vector of a sheet, or the first refusal: each number's 21 and 22, 26 before n is read, 1 before the entries, 25, 13, 14.

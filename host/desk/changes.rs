@@ -1,7 +1,7 @@
 //! The commands that change a record: `add-part`, `add-set` and `take-out`. The library makes each new record, in the edition of the old.
 
 use crate::arguments::Arguments;
-use crate::design::{holds, no_record, Design, Difference};
+use crate::design::{holds, Design, Difference};
 use crate::ending::Ending;
 use crate::entering::{story_stream, told};
 use crate::files::{FileName, RECORD_BOUND};
@@ -64,8 +64,8 @@ pub fn change(
         .map_err(|error| Ending::failed(&name, &error))?;
     let bytes = held
         .as_ref()
-        .map_or_else(|| name.read_record(), |held| Ok(held.bytes.clone()))?;
-    let old = Design::of(bytes).map_err(|refusal| no_record(refusal, &name).on(stream))?;
+        .map_or_else(|| name.read_bytes(), |held| Ok(held.bytes.clone()))?;
+    let old = Design::of_file(bytes, &name).map_err(|ending| ending.on(stream))?;
     let refused = |refusal| Ending::refused(refusal, format!("{name}: {}", about(refusal, &old)));
     let new = call(&old.bytes)
         .and_then(Design::of)

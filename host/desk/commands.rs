@@ -3,7 +3,7 @@
 use crate::arguments::Arguments;
 use crate::ending::Ending;
 use crate::{changes, diff, edition, entering, explain, figures, idle};
-use crate::{joint, nearest, page, shares, showing};
+use crate::{joint, nearest, page, shares, sheets, showing};
 use std::ffi::OsStr;
 
 /// A command of the program.
@@ -43,7 +43,7 @@ const ONE_RECORD: Command = Command {
 };
 
 /// All commands, in the order of the help.
-static COMMANDS: [Command; 17] = [
+static COMMANDS: [Command; 19] = [
     Command {
         name: "enter",
         words: "TEXT RECORD",
@@ -226,6 +226,44 @@ not need is idle there.
         most: Some(2),
         inputs: 2,
         run: joint::joint,
+        ..ONE_RECORD
+    },
+    Command {
+        name: "save",
+        words: "RECORD KIND SHEET",
+        summary: "write a sheet, which keeps one figure of a machine",
+        details: "\
+KIND is the figure: `path-counts`, `signature` or `domination`. Each of them says the same as
+the others. Sheets of the tail are not written any more, so `tail` is refused; the signature
+says the same. What was written is printed back. SHEET is a new file; one that is there is not
+replaced.
+
+    nahokipe save tab6.record signature tab6.sheet
+",
+        fewest: 3,
+        most: Some(3),
+        run: sheets::save,
+        ..ONE_RECORD
+    },
+    Command {
+        name: "sheet",
+        words: "SHEET [KIND] [-o NEW]",
+        summary: "what a sheet holds, as `figures` prints that figure",
+        details: "\
+A sheet keeps one figure of a machine, without its parts and sets. With KIND, which is
+`path-counts`, `tail`, `signature` or `domination`, what it holds is shown as that figure; each
+of them says the same as the others.
+
+With -o it is written to NEW, a new sheet: as KIND, or without one as it is. What was written is
+printed back. Sheets of the tail are read as before, and none is written any more: a tail is
+written as the signature, which says the same, and `tail` with -o is refused.
+
+    nahokipe sheet tail6.sheet
+    nahokipe sheet tail6.sheet -o signature6.sheet
+",
+        most: Some(2),
+        takes_output: true,
+        run: sheets::sheet,
         ..ONE_RECORD
     },
     Command {

@@ -43,8 +43,12 @@ impl Design {
 
     /// The machine of a record's file.
     pub fn read(name: &FileName) -> Result<Design, Ending> {
-        let bytes = name.read_record()?;
-        Design::of(bytes).map_err(|refusal| no_record(refusal, name))
+        Design::of_file(name.read_bytes()?, name)
+    }
+
+    /// The machine of the bytes that a file has.
+    pub fn of_file(bytes: Vec<u8>, name: &FileName) -> Result<Design, Ending> {
+        Design::of(bytes.clone()).map_err(|refusal| no_record(refusal, name, &bytes))
     }
 
     /// The minimal path sets or the minimal cut sets, in the library's order.
@@ -121,8 +125,12 @@ impl Design {
 }
 
 /// A file that should be a record and is none.
-pub fn no_record(refusal: Refusal, name: &FileName) -> Ending {
-    Ending::refused(refusal, format!("{name}: this is no whole record"))
+fn no_record(refusal: Refusal, name: &FileName, bytes: &[u8]) -> Ending {
+    let hint = match nahokipe::read_sheet(bytes) {
+        Ok(_) => "\n  this file is a sheet, which `nahokipe sheet` takes",
+        Err(_) => "",
+    };
+    Ending::refused(refusal, format!("{name}: this is no whole record{hint}"))
 }
 
 /// What differs between two machines, by part numbers.

@@ -23,12 +23,12 @@ const BYTE_LINE_OR_NONE: &str = "in a record the byte where the number stands, c
 /// What the place is of a refusal that a record and a list of sets can have.
 const BYTE_OR_INDEX: &str = "in a record the byte where the set stands, counted from 0; in a program's list the set, counted from 0; 0 for a set that is added";
 
-/// The explanations, that of refusal 1 first.
-const EXPLANATIONS: [Explanation; 32] = [
+/// The explanations of refusals 1 to 32, and behind them that of 34; there is no refusal 33.
+const EXPLANATIONS: [Explanation; 33] = [
     Explanation {
         meaning: "the number of parts is not 1 to 16",
         place: BYTE_LINE_OR_NONE,
-        cause: "a text was given where a record belongs (1 at place 0), or the machine has more than 16 parts",
+        cause: "a text was given where a record belongs (1 at place 0), a sheet is damaged, or the machine has more than 16 parts",
         remedy: "give the record itself; `nahokipe enter` makes one from a text by part numbers, `nahokipe new` from a drawing's text or a pattern of up to 16 parts",
     },
     Explanation {
@@ -100,14 +100,14 @@ const EXPLANATIONS: [Explanation; 32] = [
     Explanation {
         meaning: "figures stand for a path count that is not whole or out of its range",
         place: "the smallest size of sets whose count is wrong",
-        cause: "a figure was mistyped",
-        remedy: "compare the figures with the machine's report",
+        cause: "a figure was mistyped, or a sheet is damaged",
+        remedy: "compare the figures with the machine's report, or go back to a copy of the sheet that is whole",
     },
     Explanation {
         meaning: "in figures the proportion of sets that run the machine falls from one size to the next",
         place: "the smaller of the two sizes",
-        cause: "figures of two machines were mixed",
-        remedy: "compare the figures with the machine's report",
+        cause: "figures of two machines were mixed, or a sheet is damaged",
+        remedy: "compare the figures with the machine's report, or go back to a copy of the sheet that is whole",
     },
     Explanation {
         meaning: "a group of parts is empty",
@@ -154,7 +154,7 @@ const EXPLANATIONS: [Explanation; 32] = [
     Explanation {
         meaning: "a number is not written in its shortest form, takes too many bytes or is too large",
         place: "the byte where the number begins, counted from 0",
-        cause: "the file is no record, or is damaged at that byte",
+        cause: "the file is neither a record nor a sheet, or is damaged at that byte",
         remedy: "go back to a copy that is whole",
     },
     Explanation {
@@ -170,16 +170,16 @@ const EXPLANATIONS: [Explanation; 32] = [
         remedy: "let `nahokipe enter` write the record from part numbers",
     },
     Explanation {
-        meaning: "bytes are left behind the record",
+        meaning: "bytes are left behind the record or the sheet",
         place: "the first of these bytes, counted from 0",
-        cause: "an editor put a line feed at the end of the file, or two files were joined",
+        cause: "an editor put a line feed at the end of the file, two files were joined, or it is a file of another sort",
         remedy: "go back to a copy that is whole",
     },
     Explanation {
         meaning: "there is no such kind of vector",
         place: "",
-        cause: "the first byte of a sheet is not 1 to 4: the file is no sheet",
-        remedy: "give a sheet that the calculator wrote",
+        cause: "the first byte of a sheet is not 1 to 4: the file is a record, a text or of another sort",
+        remedy: "give a sheet that the calculator wrote; `nahokipe save` writes one from a record",
     },
     Explanation {
         meaning: "a line of a text is of another form",
@@ -217,6 +217,12 @@ const EXPLANATIONS: [Explanation; 32] = [
         cause: "parts were taken out of the record in edition 2, which files their numbers",
         remedy: "keep it in edition 2, which every command takes; or make another record without them, by `nahokipe show` and `nahokipe enter`",
     },
+    Explanation {
+        meaning: "a tail sheet was to be written by name, and none is written any more",
+        place: "",
+        cause: "`tail` was named as the kind of a new sheet; nobody reads tail sheets any more, and only those that are stored are still taken",
+        remedy: "save the signature, which says the same; `nahokipe sheet` without -o still shows the tail",
+    },
 ];
 
 /// The command `explain`: a refusal in words.
@@ -228,7 +234,8 @@ pub fn explain(arguments: &Arguments) -> Result<(), Ending> {
         .collect();
     let known = |word: &str| number(word.as_bytes()).and_then(explanation);
     let Some(explanation) = known(&words[0]) else {
-        return Err(wrong(&words[0], "refusal's number; they are 1 to 32"));
+        let what = "refusal's number; they are 1 to 32, and 34";
+        return Err(wrong(&words[0], what));
     };
     let place = words
         .get(1)
@@ -259,8 +266,10 @@ pub fn in_short(refusal: Refusal, about: &str) -> String {
     format!("nahokipe: {about}\n{}", told.unwrap_or_default())
 }
 
+/// The explanation of the refusal that has this number.
 fn explanation(number: u64) -> Option<&'static Explanation> {
-    let index = usize::try_from(number).ok()?.checked_sub(1)?;
+    let mut numbers = (1..=32).chain([34]);
+    let index = numbers.position(|known| known == number)?;
     EXPLANATIONS.get(index)
 }
 

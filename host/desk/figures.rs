@@ -8,7 +8,7 @@ use crate::names::Names;
 use crate::numbers::{counted, listed};
 use crate::output::{self, Stream};
 use crate::share::Share;
-use nahokipe::Refusal;
+use nahokipe::{Kind, Refusal};
 
 /// The figures of a machine, counts of failure orders out of `total`, which is n!.
 pub struct Worked {
@@ -32,29 +32,35 @@ impl Worked {
         let table = nahokipe::table_of_record(&design.bytes)?;
         let figures = nahokipe::figures(n, &table)?;
         let total = orders(n);
-        let of_all = |count: &u64| Share {
-            count: *count,
-            total,
-        };
-        let of_signed = |count: &i64| of_all(&count.unsigned_abs());
-        let of_size = |(size, count): (usize, &i64)| Share {
-            count: count.unsigned_abs(),
-            total: total / (orders(size) * orders(n - size)),
-        };
+        let of_all = |&count: &u64| Share { count, total };
         Ok(Worked {
             total,
-            signature: figures.signature.iter().map(of_signed).collect(),
-            tail: nahokipe::tail(n, &table)?.iter().map(of_signed).collect(),
-            path_counts: figures
-                .path_counts
-                .iter()
-                .enumerate()
-                .map(of_size)
-                .collect(),
+            signature: of_orders(n, &figures.signature),
+            tail: of_orders(n, &nahokipe::tail(n, &table)?),
+            path_counts: of_sets(n, &figures.path_counts),
             domination: figures.domination,
             importance: figures.importance.iter().map(of_all).collect(),
         })
     }
+}
+
+/// Counts of failure orders of n parts, out of all of them.
+fn of_orders(n: usize, counts: &[i64]) -> Vec<Share> {
+    let total = orders(n);
+    let share = |count: &i64| Share {
+        count: count.unsigned_abs(),
+        total,
+    };
+    counts.iter().map(share).collect()
+}
+
+/// Counts of sets of 0, 1, 2, ... of n parts, each out of all sets of that size.
+fn of_sets(n: usize, counts: &[i64]) -> Vec<Share> {
+    let share = |(size, count): (usize, &i64)| Share {
+        count: count.unsigned_abs(),
+        total: orders(n) / (orders(size) * orders(n - size)),
+    };
+    counts.iter().enumerate().map(share).collect()
 }
 
 /// In how many orders so many parts can fail: n!, which 64 bits hold for 16 parts.
@@ -72,10 +78,10 @@ pub fn figures(arguments: &Arguments) -> Result<(), Ending> {
     let idle = design.idle().map_err(refused)?;
     let blocks = [
         head(&design, &worked),
-        signature(&worked),
-        tail(&worked),
-        path_counts(&worked),
-        domination(&worked),
+        signature(&worked.signature),
+        tail(&worked.tail),
+        path_counts(&worked.path_counts),
+        domination(&worked.domination),
         importance(&design, &worked, &names) + &idle_parts(&idle),
     ];
     let text = blocks.join("\n") + &retired(&design, &names);
@@ -93,18 +99,28 @@ pub fn all_orders(n: usize, total: u64) -> String {
     format!("{n}! = {orders} in which the parts can fail, all counted alike\n")
 }
 
-fn signature(worked: &Worked) -> String {
+/// One figure of n parts by itself, in the same words and columns. Its entries are those of a vector that the library accepts.
+pub fn one_figure(kind: Kind, n: usize, entries: &[i64]) -> String {
+    match kind {
+        Kind::PathCounts => path_counts(&of_sets(n, entries)),
+        Kind::Tail => tail(&of_orders(n, entries)),
+        Kind::Signature => signature(&of_orders(n, entries)),
+        Kind::Domination => domination(entries),
+    }
+}
+
+fn signature(shares: &[Share]) -> String {
     let mut rows = vec![row([&"failure", &"orders", &"fraction", &"per cent"])];
-    rows.extend((1..).zip(&worked.signature).map(share_row));
+    rows.extend((1..).zip(shares).map(share_row));
     format!(
         "Signature: in how many orders it is the 1st, 2nd, ... failure that stops the machine\n{}",
         columns(&rows, false)
     )
 }
 
-fn tail(worked: &Worked) -> String {
+fn tail(shares: &[Share]) -> String {
     let mut rows = vec![row([&"failures", &"orders", &"fraction", &"per cent"])];
-    rows.extend((0..).zip(&worked.tail).map(share_row));
+    rows.extend((0..).zip(shares).map(share_row));
     format!(
         "Tail: in how many orders the machine still runs after so many failures\n{}",
         columns(&rows, false)
@@ -116,23 +132,23 @@ fn share_row((number, share): (u64, &Share)) -> Vec<String> {
     row([&number, &share.count, &share.fraction(), &share.per_cent()])
 }
 
-fn path_counts(worked: &Worked) -> String {
+fn path_counts(shares: &[Share]) -> String {
     let mut rows = vec![row([&"parts", &"path sets", &"of", &"per cent"])];
     let one = |(size, share): (usize, &Share)| {
         row([&size, &share.count, &share.total, &share.per_cent()])
     };
-    rows.extend(worked.path_counts.iter().enumerate().map(one));
+    rows.extend(shares.iter().enumerate().map(one));
     format!(
         "Path counts: how many of the sets of so many parts run the machine\n{}",
         columns(&rows, false)
     )
 }
 
-fn domination(worked: &Worked) -> String {
+fn domination(numbers: &[i64]) -> String {
     let mut rows = vec![row([&"power", &"coefficient"])];
     let one = |(power, number): (usize, &i64)| row([&power, number]);
-    rows.extend(worked.domination.iter().enumerate().skip(1).map(one));
-    let polynomial = polynomial(&worked.domination, |power| format!("x^{power}"));
+    rows.extend(numbers.iter().enumerate().skip(1).map(one));
+    let polynomial = polynomial(numbers, |power| format!("x^{power}"));
     format!(
         "\
 Domination: if each part works with the same probability x, the machine works with

@@ -9,7 +9,8 @@ use std::fs::File;
 use std::io::{self, ErrorKind, Read};
 use std::path::PathBuf;
 
-/// How much of a record's file is read. The longest record has under 40,000 bytes, so what is longer is refused by its first bytes.
+/// How much of a record's or a sheet's file is read. The longest record has under 40,000 bytes, and the longest sheet 155, so what is
+/// longer is refused by its first bytes.
 pub const RECORD_BOUND: u64 = 1 << 20;
 /// The longest text that is taken. No text of a machine comes near it.
 const TEXT_BOUND: u64 = 64 << 20;
@@ -35,8 +36,8 @@ impl FileName {
         *self == FileName::Standard
     }
 
-    /// The bytes of a file that should be a record, cut where no record goes on.
-    pub fn read_record(&self) -> Result<Vec<u8>, Ending> {
+    /// The bytes of a file that should be a record or a sheet, cut where neither goes on.
+    pub fn read_bytes(&self) -> Result<Vec<u8>, Ending> {
         self.read(RECORD_BOUND)
     }
 

@@ -27,6 +27,7 @@ mod page;
 mod patterns;
 mod share;
 mod shares;
+mod sheets;
 mod showing;
 mod writing;
 

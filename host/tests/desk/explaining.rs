@@ -4,12 +4,17 @@ use crate::folder::{assert_has, Folder};
 use nahokipe::Refusal;
 use std::collections::BTreeSet;
 
+/// The numbers of all refusals; there is no 33.
+fn numbers() -> impl Iterator<Item = u8> {
+    (1..=32).chain([34])
+}
+
 /// Every refusal has a meaning, a usual cause and a remedy of its own, with and without a place.
 #[test]
 fn every_refusal() {
     let folder = Folder::new();
     let mut meanings = BTreeSet::new();
-    for number in 1..=32 {
+    for number in numbers() {
         let word = number.to_string();
         let text = folder.run(&["explain", &word]).done();
         assert!(text.starts_with(&format!("refused {number}: ")), "{text}");
@@ -35,15 +40,15 @@ fn every_refusal() {
             .reason()
         );
     }
-    assert_eq!(meanings.len(), 32);
+    assert_eq!(meanings.len(), numbers().count());
 }
 
 /// The places are explained exactly where there are any.
 #[test]
 fn places() {
     let folder = Folder::new();
-    let without = [6, 7, 8, 9, 12, 15, 16, 18, 19, 20, 26, 29, 32];
-    for number in 1..=32 {
+    let without = [6, 7, 8, 9, 12, 15, 16, 18, 19, 20, 26, 29, 32, 34];
+    for number in numbers() {
         let text = folder.run(&["explain", &number.to_string(), "3"]).done();
         assert_eq!(
             text.contains("\nplace 3: "),
@@ -56,12 +61,21 @@ fn places() {
 #[test]
 fn what_is_no_refusal() {
     let folder = Folder::new();
-    for word in ["0", "33", "256", "18446744073709551616", "x", "", "01"] {
+    for word in [
+        "0",
+        "33",
+        "35",
+        "256",
+        "18446744073709551616",
+        "x",
+        "",
+        "01",
+    ] {
         let error = folder.run(&["explain", word]).failed();
         assert_has(
             &error,
             &[&format!(
-                "`{word}` is no refusal's number; they are 1 to 32"
+                "`{word}` is no refusal's number; they are 1 to 32, and 34\n"
             )],
         );
     }

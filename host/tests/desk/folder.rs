@@ -17,6 +17,8 @@ pub const PROGRAM: &str = env!("CARGO_BIN_EXE_nahokipe");
 pub const BRIDGE: [u8; 12] = [5, 5, 1, 2, 3, 4, 5, 4, 0x09, 0x0E, 0x12, 0x15];
 /// A controller, number 3, with two pumps, 7 and 12; number 15 was issued once.
 pub const PUMPS: [u8; 8] = [3, 15, 3, 7, 12, 2, 3, 5];
+/// The tail sheet of the bridge, stored when such sheets were still written.
+pub const SHEET: [u8; 8] = [2, 5, 120, 120, 96, 24, 0, 0];
 
 /// How many folders this process has made.
 static FOLDERS: AtomicUsize = AtomicUsize::new(0);

@@ -1,6 +1,6 @@
 //! What is kept whatever happens: the old record of an interrupted run, files that are there, modes, links, and numbers issued at once.
 
-use crate::folder::{assert_has, start, Folder, Ran, BRIDGE, PUMPS};
+use crate::folder::{assert_has, start, Folder, Ran, BRIDGE, PUMPS, SHEET};
 use crate::writing::{create, create_by, Held};
 use nahokipe_testing::making::largest_record;
 use nahokipe_testing::naive_records::whole_record;
@@ -89,6 +89,7 @@ fn killed_while_a_record_is_made() {
 fn a_limit_on_the_length_of_files() {
     let folder = Folder::with("record", BRIDGE);
     folder.write("text", "mark 5\nparts 1 2\nset 1\n");
+    folder.write("sheet", SHEET);
     for words in [
         "add-part record",
         "enter text new",
@@ -96,41 +97,58 @@ fn a_limit_on_the_length_of_files() {
         "add-part record -o new",
         "edition record 2",
         "edition record 2 -o new",
+        "save record signature new",
+        "sheet sheet -o new",
         "page record -o new",
     ] {
         let ran = folder.shell(&format!("ulimit -f 0; exec nahokipe {words}"));
         assert_has(&ran.failed(), &[": File too large\n"]);
     }
     assert_eq!(folder.read("record"), BRIDGE);
-    assert_eq!(folder.names(), ["record", "text"]);
+    assert_eq!(folder.names(), ["record", "sheet", "text"]);
     folder.write("record", largest_record());
     let ran = folder.shell("ulimit -f 8; exec nahokipe add-set record 281474976710655");
     assert_has(&ran.failed(), &["nahokipe: record: File too large\n"]);
     assert!(folder.read("record") == largest_record());
 }
 
-/// Files that are there are not replaced: by `new`, `enter` or -o, not even the record itself or a link that leads nowhere.
+/// The commands that make a file, whose name is their last word.
+const MAKING: [&[&str]; 11] = [
+    &["enter", "text"],
+    &["new", "drawing"],
+    &["new", "row", "1", "2"],
+    &["add-part", "record", "-o"],
+    &["add-set", "record", "1", "-o"],
+    &["take-out", "record", "1", "-o"],
+    &["edition", "record", "2", "-o"],
+    &["save", "record", "signature"],
+    &["sheet", "sheet", "-o"],
+    &["sheet", "sheet", "domination", "-o"],
+    &["page", "record", "-o"],
+];
+
+/// Files that are there are not replaced: by `new`, `enter`, `save` or -o, not even the record or the sheet itself or a link that leads
+/// nowhere.
 #[test]
 fn files_that_are_there() {
     let folder = Folder::with("record", BRIDGE);
     folder.write("text", "mark 5\nparts 1 2\nset 1\n");
     folder.write("drawing", "parts 2\nset 1\n");
+    folder.write("sheet", SHEET);
     folder.write("there", "what is there");
     symlink("nowhere", folder.file("link")).expect("a link");
     fs::create_dir(folder.file("folder")).expect("a folder");
-    for target in ["there", "record", "text", "link", "folder", "/dev/null"] {
-        let words: [&[&str]; 8] = [
-            &["enter", "text", target],
-            &["new", "drawing", target],
-            &["new", "row", "1", "2", target],
-            &["add-part", "record", "-o", target],
-            &["add-set", "record", "1", "-o", target],
-            &["take-out", "record", "1", "-o", target],
-            &["edition", "record", "2", "-o", target],
-            &["page", "record", "-o", target],
-        ];
-        for words in words {
-            let error = folder.run(words).failed();
+    for target in [
+        "there",
+        "record",
+        "sheet",
+        "text",
+        "link",
+        "folder",
+        "/dev/null",
+    ] {
+        for words in MAKING.map(|words| [words, &[target]].concat()) {
+            let error = folder.run(&words).failed();
             let said =
                 format!("nahokipe: {target}: there is such a file, and it is not replaced\n");
             assert_eq!(error, said, "{words:?}");
@@ -138,9 +156,10 @@ fn files_that_are_there() {
     }
     assert_eq!(folder.read("there"), b"what is there");
     assert_eq!(folder.read("record"), BRIDGE);
+    assert_eq!(folder.read("sheet"), SHEET);
     assert_eq!(
         folder.names(),
-        ["drawing", "folder", "link", "record", "text", "there"]
+        ["drawing", "folder", "link", "record", "sheet", "text", "there"]
     );
 }
 

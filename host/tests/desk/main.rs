@@ -21,6 +21,7 @@ mod retired;
 mod script;
 #[path = "../../desk/share.rs"]
 mod share;
+mod sheets;
 mod showing;
 mod streams;
 mod users;

@@ -43,7 +43,8 @@ pub fn with_examples() -> Folder {
     for entry in fs::read_dir(of_repository("examples")).expect("the examples") {
         let path = entry.expect("an entry").path();
         let name = path.file_name().expect("a name").to_string_lossy();
-        if name.ends_with(".txt") || name.ends_with(".record") {
+        let mut ends = [".txt", ".record", ".sheet"].iter();
+        if ends.any(|end| name.ends_with(end)) {
             folder.write(&name, fs::read(&path).expect("an example"));
         }
     }

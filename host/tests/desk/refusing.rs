@@ -1,10 +1,10 @@
 //! Wrong files of every sort: missing, empty, of another sort, folders, endless.
 
-use crate::folder::{assert_has, Folder, BRIDGE, PUMPS};
+use crate::folder::{assert_has, Folder, BRIDGE, PUMPS, SHEET};
 use std::fs;
 
 /// The commands that read one record, with what else they want.
-pub const READING: [&[&str]; 15] = [
+pub const READING: [&[&str]; 16] = [
     &["show"],
     &["cuts"],
     &["idle"],
@@ -13,6 +13,7 @@ pub const READING: [&[&str]; 15] = [
     &["figures"],
     &["page"],
     &["shares", "1"],
+    &["save", "signature", "new"],
     &["add-part"],
     &["add-set", "1"],
     &["take-out", "1"],
@@ -121,12 +122,15 @@ fn files_that_are_pipes() {
 fn folders_that_are_none() {
     let folder = Folder::with("record", BRIDGE);
     folder.write("text", "mark 5\nparts 1 2\nset 1\n");
+    folder.write("sheet", SHEET);
     for target in ["text/new", "missing/new", "/proc/nahokipe-new"] {
         for words in [
             ["enter", "text", target].as_slice(),
             &["new", "row", "1", "2", target],
             &["add-part", "record", "-o", target],
             &["edition", "record", "2", "-o", target],
+            &["save", "record", "signature", target],
+            &["sheet", "sheet", "-o", target],
         ] {
             let error = folder.run(words).failed();
             assert!(
@@ -136,5 +140,5 @@ fn folders_that_are_none() {
         }
     }
     assert_eq!(folder.read("record"), BRIDGE);
-    assert_eq!(folder.names(), ["record", "text"]);
+    assert_eq!(folder.names(), ["record", "sheet", "text"]);
 }

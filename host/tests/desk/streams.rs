@@ -1,6 +1,6 @@
 //! Which stream has what, full disks behind standard output, and pipes that nobody reads.
 
-use crate::folder::{assert_has, between_starts, Folder, Ran, BRIDGE, PUMPS};
+use crate::folder::{assert_has, between_starts, Folder, Ran, BRIDGE, PUMPS, SHEET};
 use nahokipe_testing::making::largest_record;
 use std::fs::File;
 use std::io::{self, PipeWriter};
@@ -33,6 +33,7 @@ fn closed(folder: &Folder, words: &[&str], input: Option<&str>) -> Ran {
 fn a_closed_pipe_ends_quietly() {
     let folder = Folder::with("record", largest_record());
     folder.write("pumps", PUMPS);
+    folder.write("sheet", SHEET);
     for command in [
         "show", "cuts", "idle", "report", "figures", "drawing", "edition", "page",
     ] {
@@ -46,6 +47,8 @@ fn a_closed_pipe_ends_quietly() {
         &["diff", "pumps", "record"],
         &["shares", "pumps", "3"],
         &["joint", "pumps", "pumps"],
+        &["sheet", "sheet"],
+        &["sheet", "sheet", "domination"],
     ] {
         let ran = closed(&folder, words, None);
         assert_eq!((ran.status, ran.error.as_str()), (Some(0), ""), "{words:?}");
@@ -63,6 +66,30 @@ fn the_status_behind_a_closed_pipe() {
     assert_has(&folder.run(&["show", "pumps"]).done(), &["parts 3 12\n"]);
     let ran = closed(&folder, &["add-part", "-"], Some("pumps"));
     assert_eq!((ran.status, ran.error.as_str()), (Some(2), ""));
+}
+
+/// The same of sheets: one that is written stays written, one that nobody took is lost, and a refusal stays one.
+#[test]
+fn sheets_behind_a_closed_pipe() {
+    let folder = Folder::with("pumps", PUMPS);
+    folder.write("sheet", SHEET);
+    let cases: [(&[&str], i32); 7] = [
+        (&["save", "pumps", "signature", "new"], 0),
+        (&["sheet", "sheet", "-o", "another"], 0),
+        (&["save", "pumps", "signature", "-"], 2),
+        (&["sheet", "sheet", "-o", "-"], 2),
+        (&["save", "pumps", "tail", "third"], 1),
+        (&["sheet", "sheet", "tail", "-o", "third"], 1),
+        (&["sheet", "pumps"], 1),
+    ];
+    for (words, status) in cases {
+        let ran = closed(&folder, words, None);
+        assert_eq!((ran.status, ran.error.as_str()), (Some(status), ""));
+    }
+    assert_eq!(folder.names(), ["another", "new", "pumps", "sheet"]);
+    for sheet in ["another", "new"] {
+        folder.run(&["sheet", sheet]).done();
+    }
 }
 
 #[test]
@@ -90,7 +117,8 @@ fn the_head_of_a_page() {
 fn a_full_disk_behind_standard_output() {
     let folder = Folder::with("pumps", PUMPS);
     folder.write("text", "mark 5\nparts 1 2\nset 1\n");
-    let printing: [&[&str]; 13] = [
+    folder.write("sheet", SHEET);
+    let printing: [&[&str]; 17] = [
         &["show", "pumps"],
         &["cuts", "pumps"],
         &["idle", "pumps"],
@@ -104,6 +132,10 @@ fn a_full_disk_behind_standard_output() {
         &["edition", "pumps", "2", "-o", "-"],
         &["diff", "pumps", "pumps"],
         &["joint", "pumps", "pumps"],
+        &["sheet", "sheet"],
+        &["sheet", "sheet", "-o", "-"],
+        &["sheet", "sheet", "domination", "-o", "-"],
+        &["save", "pumps", "signature", "-"],
     ];
     for words in printing {
         let mut command = folder.command(words);
@@ -140,6 +172,27 @@ fn a_change_whose_story_finds_no_room() {
         &folder.run(&["show", "pumps"]).done(),
         &["parts 3 7 12 16\n"],
     );
+}
+
+/// So is a sheet that was written, by either command.
+#[test]
+fn a_sheet_whose_story_finds_no_room() {
+    let folder = Folder::with("pumps", PUMPS);
+    folder.write("sheet", SHEET);
+    for words in [
+        ["save", "pumps", "signature", "new"].as_slice(),
+        &["sheet", "sheet", "-o", "another"],
+    ] {
+        let target = words[words.len() - 1];
+        let mut command = folder.command(words);
+        command.stdout(full());
+        let ran = Ran::of(command);
+        let said = format!(
+            "nahokipe: standard output: No space left on device; {target} is written all the same\n"
+        );
+        assert_eq!((ran.status, ran.error), (Some(2), said));
+        folder.run(&["sheet", target]).done();
+    }
 }
 
 /// What each sort of run writes where.

@@ -1,6 +1,6 @@
 //! Files of other users: what may not be read or written, and the group that a record keeps.
 
-use crate::folder::{command, start, Folder, Ran, BRIDGE, PROGRAM, PUMPS};
+use crate::folder::{command, start, Folder, Ran, BRIDGE, PROGRAM, PUMPS, SHEET};
 use std::fs;
 use std::io::ErrorKind;
 use std::os::unix::fs::{chown, MetadataExt};
@@ -85,7 +85,7 @@ fn files_that_may_not_be_read() {
         return;
     };
     unprivileged.folder.set_mode("secret", 0o000);
-    for command in ["show", "report", "add-part", "edition"] {
+    for command in ["show", "report", "add-part", "edition", "sheet"] {
         let error = unprivileged.run(&[command, "secret"]).failed();
         assert_eq!(error, "nahokipe: secret: Permission denied\n");
     }
@@ -95,7 +95,8 @@ fn files_that_may_not_be_read() {
 #[test]
 fn read_only_folders_and_records() {
     let text = b"mark 5\nparts 1 2\nset 1\n";
-    let Some(unprivileged) = Unprivileged::new(&[("record", &BRIDGE), ("text", text)]) else {
+    let files: [(&str, &[u8]); 3] = [("record", &BRIDGE), ("sheet", &SHEET), ("text", text)];
+    let Some(unprivileged) = Unprivileged::new(&files) else {
         return;
     };
     let folder = &unprivileged.folder;
@@ -111,13 +112,15 @@ fn read_only_folders_and_records() {
         &["new", "row", "1", "2", "new"],
         &["add-part", "record", "-o", "new"],
         &["edition", "record", "2", "-o", "new"],
+        &["save", "record", "signature", "new"],
+        &["sheet", "sheet", "-o", "new"],
         &["page", "record", "-o", "new"],
     ] {
         let error = unprivileged.run(words).failed();
         assert_eq!(error, "nahokipe: new: Permission denied\n");
     }
     assert_eq!(folder.read("record"), BRIDGE);
-    assert_eq!(folder.names(), ["nahokipe", "record", "text"]);
+    assert_eq!(folder.names(), ["nahokipe", "record", "sheet", "text"]);
     folder.set_mode(".", 0o755);
 }
 

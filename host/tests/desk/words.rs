@@ -3,9 +3,9 @@
 use crate::folder::{assert_has, Folder, PUMPS};
 
 /// All commands.
-pub const COMMANDS: [&str; 17] = [
+pub const COMMANDS: [&str; 19] = [
     "enter", "new", "show", "cuts", "idle", "drawing", "report", "figures", "shares", "joint",
-    "add-part", "add-set", "take-out", "edition", "diff", "page", "explain",
+    "save", "sheet", "add-part", "add-set", "take-out", "edition", "diff", "page", "explain",
 ];
 
 #[test]
@@ -73,6 +73,10 @@ fn no_command_and_unknown_commands() {
         ("Joint", "joint"),
         ("news", "new"),
         ("editions", "edition"),
+        ("sheets", "sheet"),
+        ("shet", "sheet"),
+        ("Save", "save"),
+        ("saved", "save"),
     ];
     for (word, nearest) in cases {
         let error = folder.run(&[word, "record"]).failed();
@@ -88,7 +92,7 @@ fn no_command_and_unknown_commands() {
 }
 
 /// Words that are wrong, and what is said of them.
-const WRONG_USES: [(&[&str], &str); 64] = [
+const WRONG_USES: [(&[&str], &str); 81] = [
     (&["enter", "text"], "a word is missing"),
     (
         &["enter", "text", "record", "more"],
@@ -233,6 +237,56 @@ const WRONG_USES: [(&[&str], &str); 64] = [
         &["joint", "pumps", "pumps", "-o", "new"],
         "there is no option `-o`",
     ),
+    (&["save", "pumps"], "a word is missing"),
+    (&["save", "pumps", "signature"], "a word is missing"),
+    (
+        &["save", "pumps", "signature", "new", "more"],
+        "`more` is a word too many",
+    ),
+    (
+        &["save", "pumps", "new", "signature"],
+        "there is no kind `new`\nthe kinds are `path-counts`, `tail`, `signature` and `domination`\n",
+    ),
+    (
+        &["save", "pumps", "signatures", "new"],
+        "there is no kind `signatures`; the nearest is `signature`\nthe kinds are",
+    ),
+    (
+        &["save", "pumps", "signature", "-o", "new"],
+        "there is no option `-o`",
+    ),
+    (
+        &["save", "pumps", "signature", "new", "--names", "names"],
+        "there is no option `--names`",
+    ),
+    (&["sheet"], "a word is missing"),
+    (
+        &["sheet", "stored", "tail", "more"],
+        "`more` is a word too many",
+    ),
+    (
+        &["sheet", "stored", "new"],
+        "there is no kind `new`\nthe kinds are `path-counts`, `tail`, `signature` and `domination`\n",
+    ),
+    (
+        &["sheet", "stored", "tale"],
+        "there is no kind `tale`; the nearest is `tail`\nthe kinds are",
+    ),
+    (
+        &["sheet", "stored", "2", "-o", "new"],
+        "there is no kind `2`\nthe kinds are",
+    ),
+    (&["sheet", "stored", "-o"], "a file belongs behind `-o`"),
+    (
+        &["sheet", "stored", "-o", "a", "-o", "b"],
+        "`-o` stands twice",
+    ),
+    (&["sheet", "stored", "-tail"], "there is no option `-tail`"),
+    (
+        &["sheet", "stored", "--names", "names"],
+        "there is no option `--names`",
+    ),
+    (&["sheet", "-o", "new"], "a word is missing"),
     (&["diff", "pumps"], "a word is missing"),
     (&["diff", "-", "-"], "standard input cannot be read twice"),
     (

@@ -1,4 +1,4 @@
--- 01's sheets and those at the edges of its refusals, computed. Assumes nothing.
+-- 01's sheets, those at the edges of its refusals, and tails as they are read and saved (02, §11), computed. Assumes nothing.
 use mathlib.Core.Path.{_≡_, refl}
 use mathlib.Core.List.{List, [], _∷_, _++_}
 use lib.IntN.{ℤ, pos, negsuc}

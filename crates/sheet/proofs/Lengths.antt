@@ -1,4 +1,4 @@
--- No sheet that is written is longer than 155 bytes: one for the kind, one for n and nine for each of 17 entries. Assumes nothing.
+-- The byte form of no accepted vector is longer than 155 bytes: one for the kind, one for n and nine for each of 17 entries. Assumes nothing.
 use mathlib.Core.Path.{_≡_}
 use mathlib.Core.List.{List, _++_, map}
 use Prim.Native.Nat.{ℕ, _≤_}

@@ -39,7 +39,7 @@ refused-tail target later h accepted =
 
 -- ---- the kind that is saved
 
-pub saved-kind-own : (kind : Kind) → (kind ≡ Tail → ⊥) → savedKind kind ≡ kind
+saved-kind-own : (kind : Kind) → (kind ≡ Tail → ⊥) → savedKind kind ≡ kind
 saved-kind-own PathCounts other = refl
 saved-kind-own Tail other = absurd (other refl)
 saved-kind-own Signature other = refl

@@ -38,7 +38,7 @@ pub fn save_vector(vector: Vector, buffer: &mut [u8]) -> Written
     write_vector_as(vector, saved_kind(kind), buffer)
 }
 
-// Saves a vector as the sheet of the kind that is named, which may not be the tail, into a lent buffer.
+// Saves a vector as the sheet of the kind that is named, into a lent buffer; 34 for the tail.
 pub fn save_sheet_as(
     kind: Kind,
     n: usize,
@@ -54,7 +54,7 @@ pub fn save_sheet_as(
     write_as(kind, n, entries, target, buffer)
 }
 
-// Saves a vector by the kind that is named, where both kinds come as numbers.
+// Saves a vector as the sheet of the kind that is named, where both kinds come as numbers.
 pub fn save_sheet_as_numbered(
     kind: u8,
     n: usize,
@@ -82,7 +82,7 @@ pub fn save_sheet_as_numbered(
     answer::unwritten(answer::WRONG_KIND, 0)
 }
 
-// Saves a vector in a struct by the kind that is named.
+// Saves a vector in a struct as the sheet of the kind that is named.
 pub fn save_vector_as(vector: Vector, target: Kind, buffer: &mut [u8]) -> Written
     ensures { λ r. ⌜ outcome r (now (buffer .exit)) ≡ delivered (tailSheetRefusal (kindNumber target) (structRefusal vector)) (sheetAs target (vector .kind) (vector .n) (entriesOf vector)) (now (buffer .entry)) ⌝ }
 {

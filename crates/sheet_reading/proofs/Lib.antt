@@ -1,6 +1,6 @@
 pub mod Walk
 pub mod Reading
 pub mod ReadSheet
-pub mod WriteSheet
+pub mod SheetForm
 pub mod RoundTrip
 pub mod Lengths

@@ -1,4 +1,4 @@
--- Read after write: the sheet of an accepted vector is read as that vector. Assumes nothing.
+-- The byte form of an accepted vector, of each of the four kinds, is read as that vector. Assumes nothing.
 use mathlib.Core.Path.{_≡_, refl, sym, ap, ap₂, _∙_}
 use mathlib.Core.Bool.{not}
 use mathlib.Core.List.{List, [], _∷_, _++_, append-nil, map}
@@ -59,7 +59,7 @@ pub sheet-steps : (bytes : List ℕ) → sheetOf bytes ≡ then (fieldAt bytes 0
 unfolding sheetOf
 sheet-steps bytes = refl
 
--- ---- the sheet of an accepted vector
+-- ---- the byte form of an accepted vector
 
 counts-accepted : (kind : Kind) (n : ℕ) (entries : List ℤ) → vectorRefusal kind n entries ≡ Accepted → countsRefusal kind n entries ≡ Accepted
 unfolding vectorRefusal
@@ -103,7 +103,7 @@ fitting-read kind n entries accepted fits =
     all : length bytes ≡ second + length (entryBytes kind entries)
     all = omega (arith, length-append (bytesOf (kindNumber kind)) rest, length-append (bytesOf n) (entryBytes kind entries))
 
--- the sheet of an accepted vector is read as that vector
+-- the byte form of an accepted vector is read as that vector
 pub sheet-read : (kind : Kind) (n : ℕ) (entries : List ℤ) → vectorRefusal kind n entries ≡ Accepted
     → sheetOf (sheetBytes kind n entries) ≡ found (sheet kind n entries) (length (sheetBytes kind n entries))
 sheet-read kind n entries accepted = fitting-read kind n entries accepted (accepted-fitting kind n entries accepted)

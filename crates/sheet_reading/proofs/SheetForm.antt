@@ -1,5 +1,5 @@
--- Write after read: the bytes that are read as a vector are that vector's sheet, and the vector is accepted. So each accepted vector has exactly
--- one sheet. Assumes nothing.
+-- The bytes that are read as a vector are that vector's byte form, and the vector is accepted. So each accepted vector has exactly one byte form.
+-- Assumes nothing.
 use mathlib.Core.Path.{_≡_, refl, sym, ap, ap₂, _∙_, subst}
 use mathlib.Core.Bool.{not, false}
 use mathlib.Core.List.{List, [], _∷_, _++_, append-nil, map}

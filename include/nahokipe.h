@@ -319,8 +319,8 @@ nahokipe_answer nahokipe_convert(uint8_t kind, size_t n, const int64_t *entries,
 nahokipe_answer nahokipe_save_sheet(uint8_t kind, size_t n, const int64_t *entries, size_t entries_len, uint8_t *sheet, size_t sheet_len);
 
 /*
- * Saves a vector as one of the target kind, which nahokipe_convert gives: writes the sheet of that one. NAHOKIPE_LONGEST_SHEET bytes are
- * enough for every vector. Refused: 34 where the target is 2, whatever the rest is; 26 for either kind, 1, 12, 13, 14, 11.
+ * Saves a vector as the target kind: writes the sheet of the vector that nahokipe_convert gives. NAHOKIPE_LONGEST_SHEET bytes are enough
+ * for every vector. Refused: 34 where the target is 2, whatever the rest is; 26 for either kind, 1, 12, 13, 14, 11.
  */
 nahokipe_answer nahokipe_save_sheet_as(uint8_t kind, size_t n, const int64_t *entries, size_t entries_len, uint8_t target, uint8_t *sheet,
                                        size_t sheet_len);

@@ -29,7 +29,7 @@ const EXPLANATIONS: [Explanation; 33] = [
         meaning: "the number of parts is not 1 to 16",
         place: BYTE_LINE_OR_NONE,
         cause: "a text was given where a record belongs (1 at place 0), a sheet is damaged, or the machine has more than 16 parts",
-        remedy: "give the record itself; `nahokipe enter` makes one from a text by part numbers, `nahokipe new` from a drawing's text or a pattern of up to 16 parts",
+        remedy: "give the record itself, or a copy of the sheet that is whole; `nahokipe enter` makes a record from a text by part numbers, `nahokipe new` from a drawing's text or a pattern of up to 16 parts",
     },
     Explanation {
         meaning: "there is no set: nothing says what the machine needs to run",
@@ -220,7 +220,7 @@ const EXPLANATIONS: [Explanation; 33] = [
     Explanation {
         meaning: "a tail sheet was to be written by name, and none is written any more",
         place: "",
-        cause: "`tail` was named as the kind of a new sheet; nobody reads tail sheets any more, and only those that are stored are still taken",
+        cause: "`tail` was named as the kind of a new sheet; nobody reads tail sheets on paper any more, and those that are stored are still taken",
         remedy: "save the signature, which says the same; `nahokipe sheet` without -o still shows the tail",
     },
 ];

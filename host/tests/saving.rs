@@ -270,7 +270,7 @@ fn refused_vectors() {
     }
 }
 
-/// Vectors that no sheet can carry are refused, before anything is made of them.
+/// Vectors far outside what is accepted are refused, before anything is made of them.
 #[test]
 fn vectors_far_outside() {
     let far = [i64::MIN, i64::MAX, -(1 << 62), 1 << 62, -(1 << 62) - 1, -1];

@@ -146,7 +146,7 @@ fn whole(n: usize, j: usize, entry: i64) -> Option<i64> {
     (entry % orders == 0).then_some(entry / orders)
 }
 
-/// The tail of a signature. A sum that is too large stays out of range, and is the first that does.
+/// The tail of a signature. A sum beyond 64 bits stands at their end, which is no count's, as the sum is not.
 fn tail(n: usize, signature: &[i64]) -> Entries {
     let mut tail = [0_i64; 17];
     for k in (0..n).rev() {

@@ -7,7 +7,7 @@ pub type Stored = (Vec<u8>, Vector);
 
 /// The tail sheets that were written while tails were still saved as such.
 pub fn tail_sheets() -> Vec<Stored> {
-    let lines = include_str!("../../tests/tail_sheets.txt").lines();
+    let lines = include_str!("../tail_sheets.txt").lines();
     lines
         .filter(|line| !line.starts_with('#'))
         .map(stored_tail)

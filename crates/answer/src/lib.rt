@@ -1,31 +1,33 @@
 // What every entry point answers: given, or refused by one of 01's numbers at a place.
+#![tactic(auto)]
+
 ghost use Rattle.std.specs.Prelude.{◌≡◌};
 ghost use Rattle.answer.specs.Refusals.{short_buffer};
 ghost use Rattle.answer.specs.Outcome.{at, room as room_for, outcome, delivered};
 
 // A refusal of 01: its number and the place that it reports.
-#[derive(Drop)]
+#[derive(Clone, Copy)]
 pub struct Refusal {
     pub number: u8,
     pub place: usize,
 }
 
 // The answer of a call that only judges.
-#[derive(Drop)]
+#[derive(Clone, Copy)]
 pub enum Verdict {
     Accepted,
     Refused(Refusal),
 }
 
 // The answer of a call that writes into a lent buffer: how many cells it wrote, or why it wrote none.
-#[derive(Drop)]
+#[derive(Clone, Copy)]
 pub enum Written {
     Length(usize),
     Refused(Refusal),
 }
 
 // The answer of a call that gives a number and writes nothing: the number, or why there is none.
-#[derive(Drop)]
+#[derive(Clone, Copy)]
 pub enum Value {
     Given(usize),
     Refused(Refusal),

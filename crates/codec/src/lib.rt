@@ -1,4 +1,6 @@
 // One number of a record or a sheet, in groups of seven bits, lowest first (01, "Records on disk"): read at a position, and written.
+#![tactic(auto)]
+
 ghost use Rattle.std.specs.Prelude.{◌≡◌, ◌+◌, ◌≤◌, length};
 ghost use Rattle.std.proofs.lemmas.List.Edits.{sets};
 ghost use Rattle.codec.specs.Fields.{groups, top};
@@ -11,7 +13,7 @@ ghost use Rattle.codec.specs.Reading.{number_at, ended};
 use answer::Refusal;
 
 // What a number is read for: its field says how large it may be, and how many groups it may take.
-#[derive(Drop)]
+#[derive(Clone, Copy)]
 pub enum Field {
     // n, and the count of minimal sets.
     Count,
@@ -24,7 +26,7 @@ pub enum Field {
 }
 
 // What reading a number finds: its value and the position after it, or why there is none.
-#[derive(Drop)]
+#[derive(Clone, Copy)]
 pub enum Reading {
     Number { value: u64, next: usize },
     Refused(Refusal),

@@ -1,5 +1,6 @@
 // Runs examples of machines made of blocks (02, §10), document 003's among them, and prints the path counts that the calculator gives and the orders
 // that they stand for; the file stdout beside this one's folder holds what it must print.
+#![tactic(auto)]
 use answer::Written;
 use libc::STDOUT_FILENO;
 use vector_kind::Kind;

@@ -1,5 +1,6 @@
 // Runs worked examples of 01 and 02 on machines and vectors and prints what the calculator answers; the file stdout beside this one's folder holds what
 // it must print.
+#![tactic(auto)]
 use answer::{Value, Verdict, Written};
 use libc::STDOUT_FILENO;
 use structure_patterns::Pattern;

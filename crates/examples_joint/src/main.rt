@@ -1,5 +1,6 @@
 // Runs examples of two machines on one cart (02, §5), document 004's among them, and prints the squares that the calculator gives; the file
 // stdout beside this one's folder holds what it must print.
+#![tactic(auto)]
 use answer::Written;
 use libc::STDOUT_FILENO;
 

@@ -1,5 +1,6 @@
 // Runs worked examples of 01 and 02 on numbers, records and changes and prints what the calculator answers; the file stdout beside this one's
 // folder holds what it must print.
+#![tactic(auto)]
 use answer::Written;
 use codec::{Field, Reading};
 use libc::STDOUT_FILENO;

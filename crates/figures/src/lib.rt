@@ -1,4 +1,5 @@
 // The figures of a machine: path counts, tail, signature, domination and the importances of its parts (01, "Figures").
+#![tactic(auto)]
 ghost use Rattle.std.specs.Prelude.{◌≡◌, ◌+◌, ◌≤◌, ◌<◌, length, replicate};
 ghost use Rattle.numbers.specs.Tables.{tabulate, NoneOver};
 ghost use Rattle.theory_sets.specs.Tables.{in_table};

@@ -1,4 +1,6 @@
 // Signed numbers and counts: the magnitude of a signed number, and the difference of two counts as a signed one.
+#![tactic(auto)]
+
 ghost use Rattle.std.specs.Prelude.{◌≡◌, nat_abs};
 ghost use Rattle.integers.specs.Differences.{difference as difference_of};
 

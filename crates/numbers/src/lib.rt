@@ -1,5 +1,7 @@
 // Factorials up to 16, as fixed numbers, binomials by their formula, powers of 2, a number cut at 16, whether a number is in its range, and
 // the numbers of a list. Callers use what the functions mean, not how they find it.
+#![tactic(auto)]
+
 ghost use Rattle.std.specs.Prelude.{◌≡◌, ◌&&◌, ◌^◌, min, leb, get_or};
 ghost use Rattle.numbers.specs.Counts.{factorial as «n!», choose, up_to_16};
 

@@ -1,4 +1,5 @@
 // Design records of edition 1 (01, "Records on disk"): read from a position, and walked set by set.
+#![tactic(auto)]
 ghost use Rattle.std.specs.Prelude.{◌≡◌, [], ◌+◌, ◌≤◌, ◌<◌};
 ghost use Rattle.answer.specs.Outcome.{at, outcome, delivered};
 ghost use Rattle.structure_words.specs.Words.{in_words};
@@ -14,7 +15,7 @@ use record_parts::PartList;
 
 // What reading a record finds: its part list, the number of its sets, where their bytes begin and end, and the position after the record.
 // Of a refused record: a list of no parts and an empty stretch at 0.
-#[derive(Drop)]
+#[derive(Clone, Copy)]
 pub struct Contents {
     pub list: PartList,
     pub sets: usize,
@@ -33,14 +34,14 @@ pub struct WithWords {
 }
 
 // Where a walk along the sets of a record is: the position of the next set, and how many are left.
-#[derive(Drop)]
+#[derive(Clone, Copy)]
 pub struct Cursor {
     pub next: usize,
     pub left: usize,
 }
 
 // One step of such a walk: a set and the cursor behind it, or the end.
-#[derive(Drop)]
+#[derive(Clone, Copy)]
 pub enum Step {
     Set { set: u64, cursor: Cursor },
     End,

@@ -1,5 +1,6 @@
 // Design records of either edition (01, "Records on disk"; 02, §8): read from a position, and checked whole. In edition 2 the numbers 0 and 2
 // stand in front of the fields of edition 1, and the retired numbers and the path counts behind them.
+#![tactic(auto)]
 ghost use Rattle.std.specs.Prelude.{◌≡◌, ◌+◌, ◌≤◌, length};
 ghost use Rattle.answer.specs.Outcome.{outcome, delivered};
 ghost use Rattle.theory_sets.specs.Structures.{listed};
@@ -15,7 +16,7 @@ use record::{Contents, Cursor, WithWords};
 use record_retired::Retired;
 
 // The edition of a record.
-#[derive(Drop)]
+#[derive(Clone, Copy)]
 pub enum Edition {
     First,
     Second,
@@ -59,8 +60,7 @@ pub fn whole_stored(bytes: &[u8]) -> StoredRead
     ensures { result ≡ whole_stored_read bytes.now }
 {
     let read = read_stored(bytes, 0);
-    let body = read.body;
-    let contents = body.contents;
+    let contents = read.body.contents;
     let verdict = contents.verdict;
     match verdict {
         Verdict::Refused(_) => read,

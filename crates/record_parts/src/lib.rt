@@ -1,5 +1,6 @@
 // The part list of a design record, with its mark (01, "Records on disk"; 02, §2): made from numbers, a part added, a part or a group of parts
 // taken out.
+#![tactic(auto)]
 ghost use Rattle.std.specs.Prelude.{◌≡◌, ◌+◌, ◌^◌, ◌≤◌, ◌<◌};
 ghost use Rattle.answer.specs.Outcome.{at, and_then};
 ghost use Rattle.record_numbers.specs.Numbering.{most_parts, top_number, highest};
@@ -9,7 +10,7 @@ ghost use Rattle.record_parts.specs.Changes.{changed, broken_refusal, part_added
 use answer::{Refusal, Verdict};
 
 // The part numbers in use, by position, and the mark: the highest part number ever issued. The cells behind the last number hold 0.
-#[derive(Drop)]
+#[derive(Clone, Copy)]
 pub struct PartList {
     pub count: usize,
     pub mark: u64,
@@ -17,21 +18,21 @@ pub struct PartList {
 }
 
 // A part list with the verdict on it. Refused: the list as it was where one was to be changed, and a list of no parts where one was to be made.
-#[derive(Drop)]
+#[derive(Clone, Copy)]
 pub struct Listed {
     pub list: PartList,
     pub verdict: Verdict,
 }
 
 // The answer of a change: the part number that it issued or took out, or why nothing was changed.
-#[derive(Drop)]
+#[derive(Clone, Copy)]
 pub enum Numbered {
     Number(u64),
     Refused(Refusal),
 }
 
 // What a change hands back: the list after it, and its answer.
-#[derive(Drop)]
+#[derive(Clone, Copy)]
 pub struct Changed {
     pub list: PartList,
     pub answer: Numbered,

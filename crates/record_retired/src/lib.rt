@@ -1,4 +1,5 @@
 // The retired part numbers of a record (02, §8): the numbers of parts that left are filed, rising, and the highest 64 are kept.
+#![tactic(auto)]
 ghost use Rattle.std.specs.Prelude.{◌≡◌, ◌+◌, ◌≤◌, length, take, get_or};
 ghost use Rattle.record_numbers.specs.Numbering.{named};
 ghost use Rattle.record_retired.specs.Retired.{most_retired, inserted, kept, filed, filed_all, retired_of};
@@ -8,7 +9,7 @@ ghost use Rattle.record_retired.specs.Steps.{in_front};
 pub const MOST_RETIRED: usize = 64;
 
 // The retired numbers, rising. The cells behind the last number hold 0.
-#[derive(Drop)]
+#[derive(Clone, Copy)]
 pub struct Retired {
     pub count: usize,
     pub numbers: [u64; MOST_RETIRED],

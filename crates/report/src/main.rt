@@ -1,5 +1,6 @@
 // Reads a design record of either edition from standard input and prints its report, or the one line of its refusal (01, "The report program").
 // The files stdin and stdout of this crate hold the bridge's record and what must be printed for it.
+#![tactic(auto)]
 ghost use Rattle.std.specs.Prelude.{◌≡◌, ◌≤◌, length, take};
 ghost use Rattle.report_text.specs.Reports.{printed};
 

@@ -1,4 +1,5 @@
 // The report of a design record of either edition (01, "The report program"; 02, §8).
+#![tactic(auto)]
 ghost use Rattle.std.specs.Prelude.{◌≡◌, ◌≤◌, length};
 ghost use Rattle.answer.specs.Outcome.{outcome};
 ghost use Rattle.answer.specs.Placed.{placed};
@@ -20,11 +21,11 @@ pub fn report(bytes: &[u8], table: &mut [u8], text: &mut [u8]) -> Written
     let mut own_table = [0u8; 8192];
     let mut own_text = [0u8; 4096];
     let read = record_editions::whole_with_words(bytes);
+    let contents = read.contents;
     let built = record::store_table(read, &mut own_table);
     match built {
         Written::Refused(refusal) => Written::Refused(refusal),
         Written::Length(size) => {
-            let contents = read.contents;
             let list = contents.list;
             let end = put_table(&mut own_text, list, contents.sets, &own_table[..size]);
             hand_out_both(&own_table[..size], &own_text[..end], table, text)

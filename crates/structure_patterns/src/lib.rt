@@ -1,4 +1,5 @@
 // Stock patterns (02, §6): the table of a machine that designers draw again and again, from its pattern, its number of parts and its threshold k.
+#![tactic(auto)]
 ghost use Rattle.std.specs.Prelude.{◌≡◌, ◌&&◌, ◌^◌, ◌≤◌, ◌<◌, ltb};
 ghost use Rattle.answer.specs.Outcome.{outcome, delivered};
 ghost use Rattle.theory_sets.specs.Tables.{table_of};
@@ -12,7 +13,7 @@ use answer::{Verdict, Written};
 
 // The shapes: at least k of n parts work; or the machine is stopped exactly by k failed neighbours in a row; or in a ring, in which the last
 // part and the first are neighbours.
-#[derive(Drop)]
+#[derive(Clone, Copy)]
 pub enum Pattern {
     AtLeast,
     Row,

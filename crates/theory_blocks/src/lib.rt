@@ -1,1 +1,2 @@
 // Machines made of blocks: definitions in specs/ and their laws in proofs/, no function.
+#![tactic(auto)]

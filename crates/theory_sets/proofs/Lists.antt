@@ -19,6 +19,7 @@ use Rattle.theory_sets.proofs.Structures.{minimal_works, minimal_least, minimal_
 -- a set is a path set of a list exactly if it holds a listed one
 pub listed_intro : (xs : List ℕ) (a b : ℕ) → Memᴰ b xs → holds a b ≡ true → listed xs a ≡ true
 unfolding listed
+listed_intro [] a b m h = elim m [ ]
 listed_intro (x ∷ xs) a b m h = cases (Memᴰ.cases_cons m) (λ later. listed_intro xs a b later h)
   where
     cases : (b ≡ x) ⊎ Memᴰ b xs → (Memᴰ b xs → listed xs a ≡ true) → holds a x || listed xs a ≡ true
@@ -69,6 +70,7 @@ member_at (x ∷ xs) zero h = Memᴰ.head refl
 member_at (x ∷ xs) (suc i) h = Memᴰ.tail (member_at xs i (le_of_suc-le-suc h))
 
 pub index_of : (xs : List ℕ) (a : ℕ) → Memᴰ a xs → (i : ℕ) × (i < length xs) × (get_or xs i 0 ≡ a)
+index_of [] a m = elim m [ ]
 index_of (x ∷ xs) a m = cases (Memᴰ.cases_cons m) (index_of xs a)
   where
     cases : (a ≡ x) ⊎ Memᴰ a xs → (Memᴰ a xs → (i : ℕ) × (i < length xs) × (get_or xs i 0 ≡ a))

@@ -1,9 +1,11 @@
 // The four kinds of vectors (01, "Vector sheets"): each has its own number, and its own number of entries.
+#![tactic(auto)]
+
 ghost use Rattle.std.specs.Prelude.{◌≡◌};
 ghost use Rattle.vector_kind.specs.Kinds.{kind_number, entry_count, is_kind, kind_of};
 
 // What a vector's entries are, each kind with its own number.
-#[derive(Drop)]
+#[derive(Clone, Copy)]
 pub enum Kind {
     PathCounts = 1,
     Tail = 2,

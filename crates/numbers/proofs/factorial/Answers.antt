@@ -7,25 +7,15 @@ use Rattle.numbers.specs.Counts.{factorial}
 use Rattle.numbers.specs.Tables.{tabulate}
 use Rattle.numbers.proofs.Counts.{up_to_16_given, up_to_16_above}
 use Rattle.numbers.proofs.Tables.{tabulate_at}
-use Rattle.numbers.proofs.factorial.Statement.{statement}
-use Rattle.numbers.proofs.factorial.Tie as tie
+use Rattle.numbers.proofs.factorial.Goals as goal
 
-mul-result : tie.Need-overflow-mul-result
-mul-result c = search rules
-
-array-read-result : tie.Need-array-read-result
-array-read-result c = search rules
-
-returns : tie.Need-returns
+pub returns-then-n-le16 : goal.returns-then-n-le16
 unfolding factorial tabulate
-returns c =
-    let n = c.before.args.n in
+returns-then-n-le16 c =
+    let n = c.args.n in
     tabulate_at 17 factorial n 0 (omega arith) ∙ sym (up_to_16_given n (factorial n) (omega arith))
 
-returns-2 : tie.Need-returns-2
-returns-2 c =
-    let n = c.before.args.n in
+pub returns-else-n-le16 : goal.returns-else-n-le16
+returns-else-n-le16 c =
+    let n = c.args.n in
     sym (up_to_16_above n (factorial n) (omega arith))
-
-pub factorial-spec : {M : Type 1} → statement M
-factorial-spec = tie.close (tie.spec mul-result array-read-result returns returns-2)

@@ -9,9 +9,10 @@ use mir.Syntax.{w64}
 use mir.Val.{SFits, to_z}
 use borrow.Author.Rules.{rules}
 use Rattle.integers.proofs.Differences.{difference_small, difference_added, difference_taken, mag_difference}
-use Rattle.integers.proofs.difference.Statement.{statement}
-use Rattle.integers.proofs.difference.Tie as tie
+use Rattle.integers.proofs.difference.Goals as goal
 
+-- `integers::difference` meets its contract: counts below 2^62 keep their value as signed numbers, and so does their difference.
+-- Assumes nothing.
 both : (a b : ℕ) → a < 2 ^ 62 → b < 2 ^ 62 → to_z w64 a -ℤ to_z w64 b ≡ pos a -ℤ pos b
 both a b h l = ap₂ (λ (x y : ℤ). x -ℤ y) (to_z_pos w64 {n = a} (omega arith)) (to_z_pos w64 {n = b} (omega arith))
 
@@ -19,27 +20,18 @@ fits : (a b : ℕ) → a < 2 ^ 62 → b < 2 ^ 62 → SFits w64 (to_z w64 a -ℤ 
 fits a b h l =
     subst (λ (z : ℤ). SFits w64 z) (sym (both a b h l)) (record { sfits = mag_difference a b (2 ^ 63) (omega arith) (omega arith) })
 
-cast-result : tie.Need-overflow-cast-result
-cast-result c = search rules
+pub overflow_sub-result : goal.overflow_sub-result
+overflow_sub-result c = fits c.args.added c.args.taken c.if-added-lt4611686018427387904.true c.if-taken-lt4611686018427387904.true
 
-cast-result-2 : tie.Need-overflow-cast-result-2
-cast-result-2 c = search rules
-
-sub-result : tie.Need-overflow-sub-result
-sub-result c = fits c.before.before.args.added c.before.before.args.taken c.before.if1.true c.if2.true
-
-returns : tie.Need-returns
-returns c =
-    let a = c.before.before.args in
-    let h = c.before.if1.true in
-    let l = c.if2.true in
+pub returns-then-taken-lt4611686018427387904 : goal.returns-then-taken-lt4611686018427387904
+returns-then-taken-lt4611686018427387904 c =
+    let a = c.args in
+    let h = c.if-added-lt4611686018427387904.true in
+    let l = c.if-taken-lt4611686018427387904.true in
     to_z-of_z (fits a.added a.taken h l) ∙ both a.added a.taken h l ∙ sym (difference_small a.added a.taken h l)
 
-returns-2 : tie.Need-returns-2
-returns-2 c = difference_taken c.before.before.args.added c.before.before.args.taken c.if2.false
+pub returns-else-taken-lt4611686018427387904 : goal.returns-else-taken-lt4611686018427387904
+returns-else-taken-lt4611686018427387904 c = difference_taken c.args.added c.args.taken c.if-taken-lt4611686018427387904.false
 
-returns-3 : tie.Need-returns-3
-returns-3 c = difference_added c.before.args.added c.before.args.taken c.if1.false
-
-pub difference-spec : {M : Type 1} → statement M
-difference-spec = tie.close (tie.spec cast-result cast-result-2 sub-result returns returns-2 returns-3)
+pub returns-else-added-lt4611686018427387904 : goal.returns-else-added-lt4611686018427387904
+returns-else-added-lt4611686018427387904 c = difference_added c.args.added c.args.taken c.if-added-lt4611686018427387904.false

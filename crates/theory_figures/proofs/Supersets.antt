@@ -1,7 +1,7 @@
 -- Alternating sums over the sets that hold a set b. For a function of the parts that a set has among some and among the others, such a sum is a
 -- product of differences: one part after the other, a part that b has is in each of them, and one that it lacks is left out or put in, with
 -- opposite signs. Assumes nothing.
-use mathlib.Core.Path.{◌≡◌, refl, sym, ap, ap₂, ◌∙◌}
+use mathlib.Core.Path.{◌≡◌, refl, sym, ap, ap₂, ◌∙◌, subst}
 use mathlib.Core.Bool.{Bool, true, false, cond, not, ◌&&◌}
 use mathlib.Core.Logic.{◌⊎◌, inl, inr}
 use Prim.Native.Nat.{ℕ, zero, suc, ◌+◌, ◌-◌, ◌^◌, ◌≤◌, ◌<◌}
@@ -194,8 +194,11 @@ sum_above (suc n) test F G b h = cases (below_or_above b (2 ^ n)) (sum_above n t
     cases (inr high) ih =
         let c : ℕ = b - 2 ^ n in
         let low : c < 2 ^ n = omega (arith, two-pow-succ n) in
-        let whole : b ≡ c + 2 ^ n = sym (sub-add_cancel high) in
-        rw whole
+        subst
+        (λ (x : ℕ). sum_belowℤ (above weight x) (2 ^ suc n)
+        ≡ difference (lacking test (suc n) x) F (having test (suc n) x)
+        *ℤ difference (lacking (opposite test) (suc n) x) G (having (opposite test) (suc n) x))
+        (sub-add_cancel high)
         (above_with n weight c low ∙ put_in ih c low
         ∙ ap₂ (λ (x y : ℕ). difference x F (having test n c + indicator (test n))
         *ℤ difference y G (having (opposite test) n c + indicator (not (test n))))

@@ -1,6 +1,5 @@
 -- `codec::ended` meets its contract: at each `return` the tests that led there say which check of `ended` refuses, if any.
 -- Assumes nothing.
-use borrow.Author.Rules.{rules}
 use borrow.Author.Tests.{lt-ltb, le-ltb}
 use Rattle.codec.proofs.ended.Goals as goal
 

@@ -3,10 +3,8 @@
 -- Assumes nothing.
 use mathlib.Core.Path.{◌≡◌}
 use Prim.Native.Nat.{◌+◌}
-use native.Mathlib.Omega.{arith}
 use lib.ListN.{length}
 use Rattle.codec.specs.ByteForm.{bytes_of}
-use Rattle.codec.proofs.ByteForms.{bytes_at_most, bytes_some, length_small, length_large}
 use Rattle.codec.proofs.number_length.Given as goal
 
 -- `codec::number_length` meets its contract. The loop's invariant: the groups counted and those of what is left are together one more

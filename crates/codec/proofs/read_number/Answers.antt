@@ -1,13 +1,14 @@
 -- `codec::read_number` meets its contract. The loop's invariant: it walks along the number's bytes (`Walked`), all with bit 7 set so far; the
 -- three ways out are the three ways in which a walk ends. The measure is the groups left. Nine groups are 63 bits, so no sum wraps.
 -- Assumes nothing.
-use mathlib.Core.Path.{sym, ap, ◌∙◌}
-use Prim.Native.Nat.{◌+◌, ◌-◌, ◌*◌, ◌^◌, ◌<◌, ◌≤◌}
+use mathlib.Core.Path.{◌≡◌, sym, ap, ◌∙◌}
+use Prim.Native.Nat.{ℕ, ◌+◌, ◌-◌, ◌*◌, ◌^◌, ◌<◌, ◌≤◌}
 use native.Mathlib.Omega.{arith}
-use borrow.Author.Rules.{rules}
 use Rattle.codec.specs.Reads.{reading_of}
+use Rattle.codec.specs.declared.Field.{Field}
+use Rattle.codec.specs.Fields.{groups}
 use Rattle.codec.proofs.Fields.{allowed}
-use Rattle.codec.proofs.Walk.{Walked, walked_none, walked_more, walked_over, walked_short, walked_last, walked_fits, walked_weight}
+use Rattle.codec.proofs.Walk.{walked_none, walked_more, walked_over, walked_short, walked_last, walked_fits, walked_weight}
 use Rattle.codec.proofs.read_number.Goals as goal
 
 pub loop-left-init : goal.loop-left-init
@@ -18,13 +19,13 @@ returns-then-bytes-next c =
     let l = c.before.before.before in
     c.refused.ensures ∙ sym (ap reading_of (walked_short l.loop-left.invariant _ l.groups-left.ensures (omega arith) (omega arith)))
 
-few : (c : goal.At-loop-left) → c.groups-left.result ≤ 9
-few c = omega (arith, (allowed c.before.before.before.before.args.field).few, c.groups-left.ensures)
+few : (field : Field) (most : ℕ) → most ≡ groups field → most ≤ 9
+few field most is = omega (arith, (allowed field).few, is)
 
 last_fits : (c : goal.Then-byte-lt128) → c.loop-left.value + c.wide-byte.result * c.loop-left.weight < 2 ^ 63
 last_fits c =
     let l = c.before.before.before.before.before in
-    walked_fits l.loop-left.invariant (few l) (omega arith) c.wide-byte.result (omega arith)
+    walked_fits l.loop-left.invariant (few c.args.field l.groups-left.result l.groups-left.ensures) (omega arith) c.wide-byte.result (omega arith)
 
 pub overflow_mul-byte : goal.overflow_mul-byte
 overflow_mul-byte c = record { fits = omega (arith, last_fits c) }
@@ -45,7 +46,7 @@ group_fits : (c : goal.Else-byte-lt128) → c.loop-left.value + (c.wide-byte.res
 group_fits c =
     let l = c.before.before.before.before.before in
     let byte = c.shared_slice_known-in-loop-left-1.given l.loop-left.next in
-    walked_fits l.loop-left.invariant (few l) (omega arith) (c.wide-byte.result - 128) (omega (arith, byte))
+    walked_fits l.loop-left.invariant (few c.args.field l.groups-left.result l.groups-left.ensures) (omega arith) (c.wide-byte.result - 128) (omega (arith, byte))
 
 pub overflow_mul-value : goal.overflow_mul-value
 overflow_mul-value c = record { fits = omega (arith, group_fits c) }
@@ -56,7 +57,7 @@ overflow_add-value-in-loop-left c = record { fits = omega (arith, group_fits c) 
 pub overflow_mul-weight : goal.overflow_mul-weight
 overflow_mul-weight c =
     let l = c.before.before.before.before.before in
-    record { fits = omega (arith, walked_weight l.loop-left.invariant (few l) (omega arith)) }
+    record { fits = omega (arith, walked_weight l.loop-left.invariant (few c.args.field l.groups-left.result l.groups-left.ensures) (omega arith)) }
 
 pub loop-left-preserved : goal.loop-left-preserved
 loop-left-preserved c =

@@ -1,13 +1,7 @@
 -- `codec::read_number` meets its contract. The loop's invariant: it walks along the number's bytes (`Walked`), all with bit 7 set so far; the
 -- three ways out are the three ways in which a walk ends. The measure is the groups left. Nine groups are 63 bits, so no sum wraps.
 -- Assumes nothing.
-use mathlib.Core.Path.{sym, ap, ◌∙◌}
-use Prim.Native.Nat.{◌+◌, ◌-◌, ◌*◌, ◌^◌, ◌<◌, ◌≤◌}
-use native.Mathlib.Omega.{arith}
-use borrow.Author.Rules.{rules}
-use Rattle.codec.specs.Reads.{reading_of}
-use Rattle.codec.proofs.Fields.{allowed}
-use Rattle.codec.proofs.Walk.{Walked, walked_none, walked_more, walked_over, walked_short, walked_last, walked_fits, walked_weight}
+use Rattle.codec.proofs.Walk.{Walked}
 use Rattle.codec.proofs.read_number.Given as goal
 
 -- `codec::read_number` meets its contract. The loop's invariant: it walks along the number's bytes (`Walked`), all with bit 7 set so far; the

@@ -1,12 +1,9 @@
 -- `codec::write_groups` meets its contract. The loop's invariant: storing the form of what is left, from the next position on, gives what
 -- storing the whole form gives, and ends where that ends. The measure is what is left of the number.
 -- Assumes nothing.
-use mathlib.Core.Path.{◌≡◌, refl, sym, ◌∙◌}
-use Prim.Native.Nat.{◌+◌}
+use mathlib.Core.Path.{refl, sym, ◌∙◌}
 use native.Mathlib.Omega.{arith}
-use lib.ListN.{length, length-set}
-use lib.Seq.{sets}
-use Rattle.codec.specs.ByteForm.{bytes_of}
+use lib.ListN.{length-set}
 use Rattle.codec.proofs.ByteForms.{bytes_some, length_small, length_large, stores_small, stores_large}
 use Rattle.codec.proofs.write_groups.Goals as goal
 
@@ -38,7 +35,7 @@ shape_of-buffer c = simp length-set c.loop-rest.invariant.2
 
 pub returns : goal.returns
 returns c =
-    let l = c.loop-rest in (
-      omega (arith, length_small l.rest c.loop-rest-test.false),
-      sym (stores_small l.buffer l.next l.rest c.loop-rest-test.false) ∙ l.invariant.0,
-    )
+    let l = c.loop-rest in record {
+      value = omega (arith, length_small l.rest c.loop-rest-test.false);
+      buffer_after = sym (stores_small l.buffer l.next l.rest c.loop-rest-test.false) ∙ l.invariant.0;
+    }

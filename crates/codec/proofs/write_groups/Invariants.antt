@@ -1,13 +1,11 @@
 -- `codec::write_groups` meets its contract. The loop's invariant: storing the form of what is left, from the next position on, gives what
 -- storing the whole form gives, and ends where that ends. The measure is what is left of the number.
 -- Assumes nothing.
-use mathlib.Core.Path.{◌≡◌, refl, sym, ◌∙◌}
+use mathlib.Core.Path.{◌≡◌}
 use Prim.Native.Nat.{◌+◌}
-use native.Mathlib.Omega.{arith}
-use lib.ListN.{length, length-set}
+use lib.ListN.{length}
 use lib.Seq.{sets}
 use Rattle.codec.specs.ByteForm.{bytes_of}
-use Rattle.codec.proofs.ByteForms.{bytes_some, length_small, length_large, stores_small, stores_large}
 use Rattle.codec.proofs.write_groups.Given as goal
 
 -- `codec::write_groups` meets its contract. The loop's invariant: storing the form of what is left, from the next position on, gives what

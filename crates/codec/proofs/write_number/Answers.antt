@@ -1,6 +1,5 @@
 -- `codec::write_number` meets its contract: the two tests say whether the number's bytes fit, and storing them one by one places them.
 -- Assumes nothing.
-use borrow.Author.Rules.{rules}
 use native.Mathlib.Omega.{arith}
 use mathlib.Core.Path.{sym, ap₂, ◌∙◌}
 use Rattle.answer.specs.Outcome.{outcome}
@@ -24,5 +23,5 @@ pub returns : goal.returns
 returns c =
     let a = c.args in
     let e = c.write_groups.ensures in
-    ap₂ outcome e.0 e.1
+    ap₂ outcome e.value e.buffer_after
     ∙ stored_placed a.buffer.now a.at (bytes_of a.value) (omega arith)

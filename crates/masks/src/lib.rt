@@ -1,5 +1,6 @@
 // One set of parts as a mask: its size, whether it has a part of a group, what is left of it without a group, and the checks of a group.
 #![tactic(auto)]
+
 ghost use Rattle.std.specs.Prelude.{◌≡◌};
 ghost use Rattle.answer.specs.Checks.{group_refusal};
 ghost use Rattle.theory_sets.specs.Masks.{size as size_of};

@@ -1,5 +1,6 @@
 // The part numbers and the mark of a part list (01, "Records on disk"): what refuses them, the highest of them, and the cells that hold them.
 #![tactic(auto)]
+
 ghost use Rattle.std.specs.Prelude.{◌≡◌, length, take};
 ghost use Rattle.record_numbers.specs.Numbering.{most_parts, cells_of, misnumbered, part_list_refusal, highest, names, others};
 

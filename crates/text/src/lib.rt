@@ -1,6 +1,7 @@
 // Text in a lent buffer: bytes, numbers in decimal digits and signed numbers, each put at a position. Where something does not fit, the
 // buffer stays as it was and the answer is the position itself.
 #![tactic(auto)]
+
 ghost use Rattle.std.specs.Prelude.{◌≡◌, ◌+◌, ◌≤◌, length};
 ghost use Rattle.std.proofs.Math.Seq.{paste};
 ghost use Rattle.answer.specs.Outcome.{outcome};

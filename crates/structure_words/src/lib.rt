@@ -1,6 +1,7 @@
 // Set functions of up to 16 parts, held in 1,024 words of 64 bits and worked on a word at a time: bit a mod 64 of word a/64 says of the
 // set with mask a whether it works. A word that a slice lacks is 0.
 #![tactic(auto)]
+
 ghost use Rattle.std.specs.Prelude.{◌≡◌, ◌+◌, ◌*◌, ◌<◌, length, get_or};
 ghost use Rattle.answer.specs.Outcome.{outcome, delivered};
 ghost use Rattle.theory_sets.specs.Masks.{has, those, least};

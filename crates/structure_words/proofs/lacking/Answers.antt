@@ -9,43 +9,37 @@ use Rattle.theory_sets.specs.Tables.{packed}
 use Rattle.theory_sets.proofs.Masks.{has_above, has_full}
 use Rattle.theory_sets.proofs.Tables.{packed_unique}
 use Rattle.structure_words.specs.Words.{lacks}
-use Rattle.structure_words.proofs.lacking.Statement.{statement}
-use Rattle.structure_words.proofs.lacking.Tie as tie
+use Rattle.structure_words.proofs.lacking.Goals as goal
 
-returns : tie.Need-returns
+pub returns-in-0 : goal.returns-in-0
 unfolding packed has
-returns c = ap lacks (sym c.match.keys1)
+returns-in-0 c = ap lacks (sym c.in-0.is)
 
-returns-2 : tie.Need-returns-2
+pub returns-in-1 : goal.returns-in-1
 unfolding packed has
-returns-2 c = ap lacks (sym c.match.keys2)
+returns-in-1 c = ap lacks (sym c.in-1.is)
 
-returns-3 : tie.Need-returns-3
+pub returns-in-2 : goal.returns-in-2
 unfolding packed has
-returns-3 c = ap lacks (sym c.match.keys3)
+returns-in-2 c = ap lacks (sym c.in-2.is)
 
-returns-4 : tie.Need-returns-4
+pub returns-in-3 : goal.returns-in-3
 unfolding packed has
-returns-4 c = ap lacks (sym c.match.keys4)
+returns-in-3 c = ap lacks (sym c.in-3.is)
 
-returns-5 : tie.Need-returns-5
+pub returns-in-4 : goal.returns-in-4
 unfolding packed has
-returns-5 c = ap lacks (sym c.match.keys5)
+returns-in-4 c = ap lacks (sym c.in-4.is)
 
-returns-6 : tie.Need-returns-6
+pub returns-in-5 : goal.returns-in-5
 unfolding packed has
-returns-6 c = ap lacks (sym c.match.keys6)
+returns-in-5 c = ap lacks (sym c.in-5.is)
 
 -- no index below 64 has a part from the seventh on
 beyond : (part : ℕ) → 6 ≤ part → 2 ^ 64 - 1 ≡ lacks part
 beyond part h =
     packed_unique 64 (λ k. not (has k part)) (2 ^ 64 - 1) (omega arith) (λ k l. has_full 64 k l ∙ sym (ap not (has_above k 6 part l h)))
 
-returns-7 : tie.Need-returns-7
-returns-7 c =
-    let rest = c.match.rest in
-    beyond c.before.args.part
-    (omega (arith, rest.1, rest.0.1, rest.0.0.1, rest.0.0.0.1, rest.0.0.0.0.1, rest.0.0.0.0.0.1))
-
-pub lacking-spec : {M : Type 1} → statement M
-lacking-spec = tie.close (tie.spec returns returns-2 returns-3 returns-4 returns-5 returns-6 returns-7)
+pub returns-in_default : goal.returns-in_default
+returns-in_default c =
+    beyond c.args.part (omega arith)

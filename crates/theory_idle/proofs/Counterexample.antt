@@ -36,6 +36,7 @@ pairs_sets : (b : ℕ) → Memᴰ b pairs → (b < 2 ^ 4) × (0 < b)
 pairs_sets b (Memᴰ.head e) = omega arith
 pairs_sets b (Memᴰ.tail (Memᴰ.head e)) = omega arith
 pairs_sets b (Memᴰ.tail (Memᴰ.tail (Memᴰ.head e))) = omega arith
+pairs_sets b (Memᴰ.tail (Memᴰ.tail (Memᴰ.tail none))) = elim none [ ]
 
 -- so the reverse of `full_domination` is false
 pub reverse_false : ((n : ℕ) (works : ℕ → Bool) → Semicoherent n works → idle_parts n works ≡ 0 → domination n (path_count n works) n ≡ pos 0 → ⊥) → ⊥

@@ -1,6 +1,7 @@
 // What follows upwards from a set function, and what of it is minimal, a word of 64 sets at a time: the sets that hold a given one, the
 // path sets that are none without any single part, the first set that breaks the rule, and the parts that change nothing.
 #![tactic(auto)]
+
 ghost use Rattle.std.specs.Prelude.{◌≡◌, ◌||◌, ◌<◌, min};
 ghost use Rattle.theory_sets.specs.Masks.{least};
 ghost use Rattle.theory_sets.specs.Structures.{broken};

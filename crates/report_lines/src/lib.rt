@@ -1,5 +1,6 @@
 // The lines of a report (01, "The report program"), each built in an array that has room for it and then put whole.
 #![tactic(auto)]
+
 ghost use Rattle.std.specs.Prelude.{◌≡◌, ◌++◌, ◌+◌, ◌≤◌, length};
 ghost use Rattle.answer.specs.Outcome.{at, outcome, delivered};
 ghost use Rattle.answer.specs.Placed.{placed};

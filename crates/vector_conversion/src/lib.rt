@@ -1,5 +1,6 @@
 // Vectors of the four kinds (01, "Vector sheets") in lent entries: judged, and converted into each other.
 #![tactic(auto)]
+
 ghost use Rattle.std.specs.Prelude.{◌≡◌, not, ◌&&◌, ◌++◌, ◌+◌, ◌-◌, ◌*◌, ◌^◌, ◌≤◌, ◌<◌, eqb, pos, ◌+ℤ◌, ◌-ℤ◌, length, drop};
 ghost use Rattle.numbers.specs.Tables.{NoneOver};
 ghost use Rattle.numbers.specs.Counts.{factorial};

@@ -3,11 +3,8 @@
 use mathlib.Core.Bool.{true, false}
 use mathlib.Core.Path.{sym, ◌∙◌}
 use Rattle.vector_conversion.proofs.CountIn.{count_below, count_broken, count_decided}
-use borrow.Author.Rules.{rules}
 use Rattle.vector_conversion.proofs.counted.Goals as goal
 
--- `vector_conversion::counted` meets its contract: each test that leads to a return decides the count.
--- Assumes nothing.
 pub returns-then-sum-taken : goal.returns-then-sum-taken
 returns-then-sum-taken c =
     let a = c.args in

@@ -2,6 +2,7 @@
 -- Assumes nothing.
 use mathlib.Core.Path.{ap, ◌∙◌}
 use Prim.Native.Nat.{ℕ}
+use native.Mathlib.Omega.{arith}
 use lib.IntN.{ℤ, pos, ◌+ℤ◌, ◌-ℤ◌}
 use Rattle.vector_conversion.specs.Inside.{count_in}
 use Rattle.vector_conversion.proofs.CountAt.{entry_read, count_domination}
@@ -13,6 +14,6 @@ returns c =
     let taken : ℕ = c.signed_terms-terms.result.taken in
     let added : ℕ = c.signed_terms-terms.result.added in
     c.count_of.ensures
-    ∙ ap (λ (z : ℤ). count_in a.n a.j 1 (pos taken +ℤ z -ℤ pos added)) (entry_read a.entries.now a.j c.count_of-arg-1.given)
+    ∙ ap (λ (z : ℤ). count_in a.n a.j 1 (pos taken +ℤ z -ℤ pos added)) (entry_read a.entries.now a.j (omega arith))
     ∙ count_domination a.n a.entries.now a.counts.now a.j added taken c.requires.j_le_n c.requires.found
     c.signed_terms-terms.ensures.sums

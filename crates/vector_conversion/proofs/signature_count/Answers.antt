@@ -7,7 +7,6 @@ use native.Mathlib.Omega.{arith}
 use lib.IntN.{ℤ, pos, ◌+ℤ◌, ◌-ℤ◌}
 use lib.ListN.{get_or}
 use Rattle.numbers.specs.Counts.{factorial}
-use Rattle.numbers.specs.Tables.{NoneOver}
 use Rattle.numbers.proofs.Counts.{factorial_pos}
 use Rattle.vector_conversion.specs.Vectors.{entry_at}
 use Rattle.vector_conversion.specs.Inside.{count_in, count_at, Found}
@@ -56,7 +55,7 @@ returns c =
     let last : ℕ = get_or a.counts.now i 0 in
     c.count_of-2.ensures
     ∙ ap (λ (z : ℤ). count_in a.n a.j c.tail_unit-unit.result (pos (last * c.tail_unit.result) +ℤ z -ℤ pos 0))
-    (entry_read a.entries.now (a.n - a.j) c.count_of-arg-1.given)
+    (entry_read a.entries.now (a.n - a.j) (omega arith))
     ∙ ap₂ (λ (u v : ℕ). count_in a.n a.j u (pos (last * v) +ℤ entry_at a.entries.now (a.n - a.j) -ℤ pos 0)) c.tail_unit-unit.ensures
     c.tail_unit.ensures
     ∙ ap (λ (x : ℕ). count_in a.n x (factorial x * factorial (a.n - x)) (pos (last * (factorial i * factorial (a.n - i))) +ℤ entry_at a.entries.now (a.n - x) -ℤ pos 0))

@@ -1,11 +1,9 @@
 -- `vector_conversion::signed_terms` meets its contract: each term goes to the sum of its sign, and each sum stays far below 2^60.
 -- Assumes nothing.
-use mathlib.Core.Path.{◌≡◌, ap, ap₂, ◌∙◌}
+use mathlib.Core.Path.{◌≡◌, ap, ◌∙◌}
 use Prim.Native.Nat.{ℕ, ◌+◌, ◌-◌, ◌*◌, ◌%◌, ◌^◌, ◌≤◌, ◌<◌}
 use native.Mathlib.Nat.{mul-le-mul}
 use native.Mathlib.Omega.{arith}
-use lib.IntN.{pos, ◌-ℤ◌}
-use lib.ListN.{get_or}
 use Rattle.numbers.specs.Counts.{choose}
 use Rattle.numbers.proofs.Counts.{up_to_16_given}
 use Rattle.theory_figures.proofs.Signs.{terms_below, terms_none, terms_added, terms_taken}
@@ -33,7 +31,7 @@ odd : (x : ℕ) → (x % 2 ≡ 0 → ⊥) → x % 2 ≡ 1
 odd x h = omega (arith, h)
 
 module _ (n : ℕ) (φ : ℕ → ℕ) (k added taken j term : ℕ) (carried : Carried n φ k added taken j) (more : j < k)
-  (small : term ≤ 2 ^ 46) (is : term ≡ choose (n - j) (k - j) * φ j) where
+    (small : term ≤ 2 ^ 46) (is : term ≡ choose (n - j) (k - j) * φ j) where
   carried_added : (k - j) % 2 ≡ 0 → Carried n φ k (added + term) taken (j + 1)
   carried_added even =
       record {
@@ -64,10 +62,10 @@ loop-j-preserved c =
     = ap (λ (x : ℕ). x * φ l.j)
     (c.binomial.ensures ∙ up_to_16_given (a.n - l.j) (choose (a.n - l.j) (a.k - l.j)) (omega (arith, c.requires.n_bound))) in
     elim c.if-k-j-eq0.branch [
-      then-k-j-eq0 w ↦ rw (w.added-is, w.taken-is)
-      (carried_added a.n φ a.k l.added l.taken l.j term l.invariant more small is w.if-k-j-eq0.true)
+      | then-k-j-eq0 w ↦ rw (w.added-is, w.taken-is)
+          (carried_added a.n φ a.k l.added l.taken l.j term l.invariant more small is w.if-k-j-eq0.true)
       | else-k-j-eq0 w ↦ rw (w.added-is, w.taken-is)
-      (carried_taken a.n φ a.k l.added l.taken l.j term l.invariant more small is w.if-k-j-eq0.false)
+          (carried_taken a.n φ a.k l.added l.taken l.j term l.invariant more small is w.if-k-j-eq0.false)
     ]
 
 pub returns : goal.returns

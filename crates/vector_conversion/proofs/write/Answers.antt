@@ -1,14 +1,13 @@
 -- `vector_conversion::write` meets its contract: the cells are filled from the front, and the rest is as it was.
 -- Assumes nothing.
-use mathlib.Core.Path.{◌≡◌, ap, ◌∙◌}
-use Prim.Native.Nat.{ℕ, ◌≤◌, ◌<◌}
+use mathlib.Core.Path.{◌∙◌}
+use Prim.Native.Nat.{◌<◌}
 use native.Mathlib.Nat.{le_trans, le_of_eq, lt_of_lt_of_le}
 use native.Mathlib.Omega.{arith}
 use lib.ListN.{length}
 use mir.Facts.{to_z-of_z}
 use mir.Syntax.{w64}
-use Rattle.numbers.proofs.Tables.{filled, filled_none, filled_again, filled_length}
-use Rattle.vector_kind.specs.Kinds.{length_of}
+use Rattle.numbers.proofs.Tables.{filled_none, filled_again}
 use Rattle.vector_kind.proofs.KindNumbers.{entries_few}
 use Rattle.vector_conversion.specs.Vectors.{figure}
 use Rattle.vector_conversion.specs.Inside.{cells_of}

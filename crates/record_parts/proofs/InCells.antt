@@ -1,10 +1,10 @@
 -- Laws of the cells of a part list: it has all of them, so the numbers in use are as many as it counts; and 16 numbers or fewer have their cells.
 -- Assumes nothing.
-use mathlib.Core.Path.{◌≡◌, sym, ap, ◌∙◌}
+use mathlib.Core.Path.{◌≡◌, ap}
 use mathlib.Core.List.{List}
 use Prim.Native.Nat.{ℕ, ◌≤◌}
 use native.Mathlib.Omega.{arith}
-use lib.ListN.{length, take, length-map}
+use lib.ListN.{length, take}
 use lib.Seq.{take_all, length-take-le}
 use denote.Laws.{Is}
 use mir.Val.{Val}
@@ -15,7 +15,7 @@ use Rattle.record_parts.specs.contracts.PartList.{the_row}
 
 -- every list has all its cells, whatever they hold
 pub cells_all : (list : PartList) (values : List Val) → Is the_row list values → length list.numbers ≡ most_parts
-cells_all list values held = sym (length-map list.numbers (λ (n : ℕ). n)) ∙ held.1.1.1.1.0.1.0.1
+cells_all list values held = held.1.1.1.1.0.1.0.1
 
 -- so the numbers in use are as many as the list counts
 pub numbers_counted : (list : PartList) → length list.numbers ≡ most_parts → list.count ≤ most_parts → length (numbers_of list) ≡ list.count

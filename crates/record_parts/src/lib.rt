@@ -1,6 +1,7 @@
 // The part list of a design record, with its mark (01, "Records on disk"; 02, §2): made from numbers, a part added, a part or a group of parts
 // taken out.
 #![tactic(auto)]
+
 ghost use Rattle.std.specs.Prelude.{◌≡◌, ◌+◌, ◌^◌, ◌≤◌, ◌<◌};
 ghost use Rattle.answer.specs.Outcome.{at, and_then};
 ghost use Rattle.record_numbers.specs.Numbering.{most_parts, top_number, highest};

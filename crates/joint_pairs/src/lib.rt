@@ -1,6 +1,7 @@
 // Pairs of nested path sets of two machines, counted by their sizes: not pair by pair, which are 3^n, but by sums over the sets above each set.
 // A cell of 64 bits has room for the counts of three sizes of outer sets, 21 bits each, so six sweeps over 2^n cells count all of them.
 #![tactic(auto)]
+
 ghost use Rattle.std.specs.Prelude.{◌≡◌, cond, ◌+◌, ◌*◌, ◌/◌, ◌%◌, ◌^◌, ◌≤◌, ◌<◌, min, ltb, length, get_or, replicate};
 ghost use Rattle.numbers.specs.Tables.{tabulate, NoneOver};
 ghost use Rattle.theory_sums.specs.Sums.{indicator};

@@ -1,5 +1,6 @@
 // Structures: the verdict on a list of sets and on a table, a table's length, and a table handed out (01, "Structures").
 #![tactic(auto)]
+
 ghost use Rattle.std.specs.Prelude.{◌≡◌, false, ◌&&◌, ℕ, ◌^◌, ◌≤◌, leb};
 ghost use Rattle.answer.specs.Outcome.{outcome, delivered};
 ghost use Rattle.numbers.specs.Counts.{up_to_16};

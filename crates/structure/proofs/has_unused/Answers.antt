@@ -13,31 +13,27 @@ use Rattle.numbers.proofs.Tables.{tabulate_agree}
 use Rattle.theory_sets.specs.Masks.{has, any}
 use Rattle.numbers.proofs.Bools.{and_left, clash}
 use Rattle.theory_sets.proofs.Ranges.{any_false}
-use Rattle.structure.proofs.has_unused.Statement.{statement}
-use Rattle.structure.proofs.has_unused.Tie as tie
+use Rattle.structure.proofs.has_unused.Goals as goal
 
 abbrev unused_in : ℕ → ℕ → Bool
 unused_in n byte = any (λ a. leb (2 ^ n) a && has byte a) 8
 
-returns : tie.Need-returns
+pub returns-then-n-eq1 : goal.returns-then-n-eq1
 unfolding tabulate any has
+returns-then-n-eq1 c =
+    let a = c.args in
+    tabulate_agree 256 (leb 4) (unused_in 1) refl a.byte (omega arith) ∙ ap (λ (n : ℕ). unused_in n a.byte) (sym c.if-n-eq1.true)
+
+pub returns-then-n-eq2 : goal.returns-then-n-eq2
+unfolding tabulate any has
+returns-then-n-eq2 c =
+    let a = c.args in
+    tabulate_agree 256 (leb 16) (unused_in 2) refl a.byte (omega arith) ∙ ap (λ (n : ℕ). unused_in n a.byte) (sym c.if-n-eq2.true)
+
+pub returns : goal.returns
 returns c =
-    let a = c.before.args in
-    tabulate_agree 256 (leb 4) (unused_in 1) refl a.byte (omega arith) ∙ ap (λ (n : ℕ). unused_in n a.byte) (sym c.if1.true)
-
-returns-2 : tie.Need-returns-2
-unfolding tabulate any has
-returns-2 c =
-    let a = c.before.before.args in
-    tabulate_agree 256 (leb 16) (unused_in 2) refl a.byte (omega arith) ∙ ap (λ (n : ℕ). unused_in n a.byte) (sym c.if2.true)
-
-returns-3 : tie.Need-returns-3
-returns-3 c =
-    let a = c.before.before.args in
-    let three : 3 ≤ a.n = omega (arith, c.before.if1.false, c.if2.false, c.before.before.requires) in
+    let a = c.args in
+    let three : 3 ≤ a.n = omega (arith, c.if-n-eq1.false, c.if-n-eq2.false, c.requires) in
     let eight : 8 ≤ 2 ^ a.n = pow_mono three in
     sym (any_false (λ m. leb (2 ^ a.n) m && has a.byte m) 8 (λ m h t.
     clash (and_left (leb (2 ^ a.n) m) (has a.byte m) t) (lt-leb (2 ^ a.n) m (omega arith))))
-
-pub has-unused-spec : {M : Type 1} → statement M
-has-unused-spec = tie.close (tie.spec returns returns-2 returns-3)

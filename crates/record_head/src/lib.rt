@@ -1,6 +1,7 @@
 // What stands before the sets of a design record (01, "Records on disk"): n, the mark, n part numbers and the count of sets, read from a
 // position on.
 #![tactic(auto)]
+
 ghost use Rattle.std.specs.Prelude.{◌≡◌, [], ◌≤◌};
 ghost use Rattle.answer.specs.Outcome.{at};
 ghost use Rattle.record_numbers.specs.Numbering.{most_parts};

@@ -1,0 +1,41 @@
+-- `record_head::read_parts` meets its contract: n, the mark and the part numbers, each read after the one before it.
+-- Assumes nothing.
+use mathlib.Core.Path.{◌≡◌, refl, sym, ap, ◌∙◌}
+use Rattle.codec.specs.declared.Field.TheVariants.{Count, PartNumber}
+use Rattle.codec.specs.Reads.{found}
+use Rattle.codec.specs.FieldReads.{field_at}
+use Rattle.codec.proofs.Found.{answer_number, answer_refused, field_ended, field_passed}
+use Rattle.record_head.specs.Headings.{parts_refusal, mark_refusal}
+use Rattle.record_head.specs.Inside.{parts_of}
+use Rattle.record_head.proofs.PartNumbers.{count_few, parts_no_count, parts_no_mark, parts_numbers}
+use Rattle.record_head.proofs.read_parts.Goals as goal
+use Rattle.record_head.proofs.read_parts.Goals.{In-Number}
+
+-- n, which was read
+counted : (c : In-Number) → field_at c.args.bytes.now c.args.start Count (parts_refusal c.args.start) ≡ found c.in-Number.value c.in-Number.next
+counted c = answer_number _ _ _ (sym c.in-Number.is ∙ c.read_part_count-count.ensures)
+
+pub read_part_numbers-requires : goal.read_part_numbers-requires
+read_part_numbers-requires c =
+    let a = c.args in
+    count_few a.bytes.now a.start _ _ (counted (goal.at.read_part_numbers-requires c).In-Number)
+
+pub returns-in-Refused : goal.returns-in-Refused
+returns-in-Refused c =
+    let a = c.args in
+    c.refused_parts.ensures
+    ∙ sym (ap parts_of (parts_no_count a.bytes.now a.start _ (answer_refused _ _ (sym c.in-Refused.is ∙ c.read_part_count-count.ensures))))
+
+pub returns-in-Refused-mark : goal.returns-in-Refused-mark
+returns-in-Refused-mark c =
+    let a = c.args in
+    c.refused_parts-in-Refused-mark.ensures
+    ∙ sym (ap parts_of (parts_no_mark a.bytes.now a.start _ _ _ (counted (goal.at.returns-in-Refused-mark c).In-Number)
+    (sym (field_ended a.bytes.now _ PartNumber mark_refusal c.read_number-mark.ensures _ c.in-Refused-mark.is))))
+
+pub returns-in-Number-mark : goal.returns-in-Number-mark
+returns-in-Number-mark c =
+    let a = c.args in
+    c.read_part_numbers.ensures
+    ∙ sym (ap parts_of (parts_numbers a.bytes.now a.start _ _ _ _ (counted (goal.at.returns-in-Number-mark c).In-Number)
+    (sym (field_passed a.bytes.now _ PartNumber mark_refusal c.read_number-mark.ensures _ _ c.in-Number-mark.is refl))))

@@ -7,12 +7,10 @@ use mathlib.Core.Logic.{◌⊎◌, inl, inr}
 use Prim.Native.Nat.{ℕ, zero, suc, ◌-◌, ◌≤◌, ◌<◌}
 use native.Mathlib.Nat.{sub-zero}
 use native.Mathlib.Omega.{arith}
-use denote.Laws.{Is}
 use lib.Dec.{leb, ltb, eqb}
 use lib.IntN.{ℤ, pos}
-use lib.ListN.{length, take, drop, replicate, length-map}
+use lib.ListN.{length, take, drop, replicate}
 use lib.Seq.{length-take-le}
-use mir.Val.{Val}
 use borrow.Author.Tests.{ltb-true, ltb-false, le-ltb, leb-true, eqb-true, ne_eqb, not-false}
 use Rattle.answer.specs.Outcome.{refuse}
 use Rattle.answer.specs.Refusals.{wrong_part_count, wrong_vector_length}
@@ -29,7 +27,6 @@ use Rattle.vector_kind.specs.declared.Kind.{Kind}
 use Rattle.vector_kind.specs.declared.Kind.TheVariants.{PathCounts, Tail, Signature, Domination}
 use Rattle.vector.specs.declared.Vector.{Vector}
 use Rattle.vector_conversion.proofs.Acceptance.{accepted_vector}
-use Rattle.vector.specs.contracts.Vector.{the_row}
 
 -- a length that no vector of 1 to 16 parts has
 lengths : (kind : Kind) (n : ℕ) → 1 ≤ n → n ≤ 16 → (1 ≤ length_of kind n) × (length_of kind n ≤ most_entries)
@@ -72,11 +69,7 @@ lent_judged vector all = cases (true_or_false (ltb most_entries vector.length))
         (refuse (not (eqb k (length_of vector.kind vector.n))) wrong_vector_length 0 (counts_refusal vector.kind vector.n (entries_of vector))))
         (length-take-le vector.length vector.entries (omega (arith, ltb-false most_entries vector.length e)))
 
--- every vector has all its cells, whatever they hold
-pub cells_all : (vector : Vector) (values : List Val) → Is the_row vector values → length vector.entries ≡ most_entries
-cells_all vector values held = sym (length-map vector.entries _) ∙ held.1.1.1.1.1.0.1.0.1
-
--- they are no more than there are
+-- the cells that are looked at are no more than there are
 pub lent_few : (count : ℕ) → lent_cells count ≤ most_entries
 lent_few count = cases (true_or_false (ltb most_entries count))
   where

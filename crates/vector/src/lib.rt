@@ -1,5 +1,6 @@
 // Vectors of the four kinds (01, "Vector sheets"): in a struct, and with their kinds as numbers.
 #![tactic(auto)]
+
 ghost use Rattle.std.specs.Prelude.{◌≡◌};
 ghost use Rattle.answer.specs.Outcome.{outcome, delivered};
 ghost use Rattle.vector_kind.specs.Kinds.{kind_of, kind_refusal};

@@ -1,0 +1,48 @@
+-- `vector::convert_numbered` meets its contract: 26 comes first, for the vector's kind and then for the target's, and else the vector decides.
+-- Assumes nothing.
+use mathlib.Core.Path.{sym, ap, ap₂, ◌∙◌}
+use Rattle.answer.specs.Outcome.{outcome, delivered}
+use Rattle.answer.specs.declared.Verdict.{Verdict}
+use Rattle.answer.specs.declared.Written.{Written}
+use Rattle.vector_kind.specs.Kinds.{kind_of, kind_refusal}
+use Rattle.vector_conversion.specs.Vectors.{vector_refusal, converted}
+use Rattle.vector_kind.specs.declared.Kind.{Kind}
+use Rattle.vector_kind.proofs.KindNumbers.{kind_passed, kind_refused}
+use Rattle.vector.proofs.convert_numbered.Goals as goal
+
+pub returns-then-is_kind-2 : goal.returns-then-is_kind-2
+returns-then-is_kind-2 c =
+    let kinds = c.before.before.before in
+    let second = kinds.before.before in
+    let first = second.before.before in
+    let a = first.args in
+    let entries = a.entries.now in
+    let later = vector_refusal (kind_of a.kind) a.n entries in
+    c.convert.ensures
+    ∙ ap₂ (λ (kind target : Kind). delivered (vector_refusal kind a.n entries) (converted target kind a.n entries) a.cells.now)
+    kinds.kind_of.ensures kinds.kind_of-then-is_kind-2.ensures
+    ∙ ap (λ (v : Verdict). delivered v (converted (kind_of a.target) (kind_of a.kind) a.n entries) a.cells.now)
+    (sym (kind_passed a.kind (kind_refusal a.target later) (sym first.is_kind.ensures ∙ first.if-is_kind.true)
+    ∙ kind_passed a.target later (sym second.is_kind-then-is_kind.ensures ∙ second.if-is_kind-2.true)))
+
+pub returns-then-is_kind : goal.returns-then-is_kind
+returns-then-is_kind c =
+    let second = c.before.before in
+    let first = second.before in
+    let a = first.args in
+    let entries = a.entries.now in
+    let later = vector_refusal (kind_of a.kind) a.n entries in
+    ap (λ (answer : Written). outcome answer a.cells.now) c.unwritten.ensures
+    ∙ ap (λ (v : Verdict). delivered v (converted (kind_of a.target) (kind_of a.kind) a.n entries) a.cells.now)
+    (sym (kind_passed a.kind (kind_refusal a.target later) (sym first.is_kind.ensures ∙ first.if-is_kind.true)
+    ∙ kind_refused a.target later (sym second.is_kind-then-is_kind.ensures ∙ c.if-is_kind-2.false)))
+
+pub returns : goal.returns
+returns c =
+    let first = c.before.before in
+    let a = first.args in
+    let entries = a.entries.now in
+    let later = vector_refusal (kind_of a.kind) a.n entries in
+    ap (λ (answer : Written). outcome answer a.cells.now) c.unwritten-2.ensures
+    ∙ ap (λ (v : Verdict). delivered v (converted (kind_of a.target) (kind_of a.kind) a.n entries) a.cells.now)
+    (sym (kind_refused a.kind (kind_refusal a.target later) (sym first.is_kind.ensures ∙ c.if-is_kind.false)))

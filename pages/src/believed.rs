@@ -30,12 +30,12 @@ impl Shelf {
 
     /// What a name of a module stands for.
     fn in_module(&mut self, module: &str, name: &str) -> Option<Thing> {
-        let Some(rest) = module.strip_prefix("Rattle·") else {
+        let mut parts = module.split('.');
+        let own = parts.next() == Some("Rattle");
+        let krate = parts.next().unwrap_or("").to_string();
+        if !own || !tree::crates().contains(&krate) {
             return Some(Thing::Library(module.to_string(), name.to_string()));
-        };
-        let (krate, path) = rest.split_once('.')?;
-        let krate = krate.split('·').next()?.to_string();
-        let mut parts = path.split('.');
+        }
         let folder = parts.next()?;
         let file = parts.next()?;
         if file == "declared" {
@@ -59,7 +59,11 @@ impl Shelf {
         if let Some((module, name)) = brought.or(aliased) {
             return self.in_module(&module, &name);
         }
-        self.declared_in(path, word)
+        // a field is written tight, behind what has it
+        match word.split_once('.') {
+            Some((owner, _)) => self.meant(path, owner),
+            None => self.declared_in(path, word),
+        }
     }
 
     /// What a word of a contract stands for.
@@ -126,9 +130,9 @@ impl Shelf {
     }
 }
 
-/// An infix operator is brought in with `_` where its arguments go.
+/// An infix operator is brought in with `◌` where its arguments go.
 fn operator(brought: &HashMap<String, (String, String)>, word: &str) -> Option<(String, String)> {
-    brought.get(&format!("_{word}_")).cloned()
+    brought.get(&format!("◌{word}◌")).cloned()
 }
 
 /// A promise: its title, and the statements that make it, each a file and a name.

@@ -220,7 +220,7 @@ struct Known {
 
 impl Known {
     fn gather(shelf: &mut Shelf) -> Known {
-        let mut words: HashSet<String> = tree::crates().into_iter().collect();
+        let mut words: HashSet<String> = tree::crates().iter().cloned().collect();
         let mut functions = HashSet::new();
         let folders = [("crates", &[".antt", ".rt", ".edit"][..]), ("host", &[".rs", ".c", ".toml"]), ("include", &[".h"]), ("pages", &[".rs", ".toml"])];
         for (folder, endings) in folders {

@@ -99,7 +99,7 @@ mod tests {
     use super::*;
 
     const TEXT: &str = "use answer::Written;\nghost use M.{f};\npub struct List {\n    pub count: usize,\n}\nimpl List {\n    pub const MOST: usize = 16;\n    \
-        pub fn first(n: usize) -> List\n        ensures { λ r. ⌜ r ≡ f n ⌝ }\n    {\n        g(n)\n    }\n}\nfn inner(n: usize) -> Written {\n    n\n}\n";
+        pub fn first(n: usize) -> List\n        ensures { result ≡ f n }\n    {\n        g(n)\n    }\n}\nfn inner(n: usize) -> Written {\n    n\n}\n";
 
     #[test]
     fn functions_with_their_contracts() {

@@ -24,8 +24,8 @@ pub fn page(log: &str) -> String {
     );
     let mut sum = (0, 0, 0);
     for name in tree::crates() {
-        let once = proved.get(&name).copied().unwrap_or(0);
-        let (edits, seconds) = tried.get(&name).copied().unwrap_or((0, 0));
+        let once = proved.get(name).copied().unwrap_or(0);
+        let (edits, seconds) = tried.get(name).copied().unwrap_or((0, 0));
         page += &format!("| `{name}` | {once} | {edits} | {seconds} |\n");
         sum = (sum.0 + once, sum.1 + edits, sum.2 + seconds);
     }

@@ -2,6 +2,7 @@
 
 use std::fs;
 use std::path::Path;
+use std::sync::OnceLock;
 
 /// The files below a folder that have one of these endings, in the order of their paths.
 pub fn files(folder: &str, endings: &[&str]) -> Vec<String> {
@@ -16,7 +17,7 @@ fn gather(folder: &Path, endings: &[&str], found: &mut Vec<String>) {
     for entry in entries.flatten() {
         let path = entry.path();
         let name = path.to_string_lossy().replace('\\', "/");
-        if path.is_dir() {
+        if path.is_dir() && !name.ends_with("/out") {
             gather(&path, endings, found);
         } else if endings.iter().any(|ending| name.ends_with(ending)) {
             found.push(name);
@@ -29,13 +30,16 @@ pub fn text(path: &str) -> String {
     fs::read_to_string(path).unwrap_or_default()
 }
 
-/// The crates, in the order of crates.txt.
-pub fn crates() -> Vec<String> {
-    text("crates.txt")
-        .lines()
-        .filter(|line| !line.starts_with('#'))
-        .filter_map(|line| line.split_once(':').map(|(name, _)| name.trim().to_string()))
-        .collect()
+/// The crates, in the order of crates.txt; a name may have `staticlib` behind it.
+pub fn crates() -> &'static [String] {
+    static ALL: OnceLock<Vec<String>> = OnceLock::new();
+    ALL.get_or_init(|| {
+        text("crates.txt")
+            .lines()
+            .filter(|line| !line.starts_with('#'))
+            .filter_map(|line| line.split_once(':').and_then(|(name, _)| name.split_whitespace().next().map(String::from)))
+            .collect()
+    })
 }
 
 /// The crate that a file belongs to.

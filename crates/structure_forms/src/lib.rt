@@ -1,5 +1,6 @@
 // Between the two forms of a structure: a list of sets to a table, and a table to its minimal path sets (01, "Structures").
 #![tactic(auto)]
+
 ghost use Rattle.std.specs.Prelude.{◌≡◌};
 ghost use Rattle.answer.specs.Outcome.{outcome, delivered};
 ghost use Rattle.theory_sets.specs.Structures.{listed, minimal_sets};

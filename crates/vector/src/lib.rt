@@ -13,7 +13,7 @@ use vector_kind::Kind;
 
 // A vector of a machine of n parts: its entries are the first `length` cells. In every vector that the library makes the spare cells behind
 // them hold 0; in one that is built by hand they may hold anything, and nothing looks at them.
-#[derive(Drop)]
+#[derive(Clone, Copy)]
 pub struct Vector {
     pub kind: Kind,
     pub n: usize,
@@ -22,7 +22,7 @@ pub struct Vector {
 }
 
 // What converting a vector answers: the vector, or why there is none, and then a vector of no entries.
-#[derive(Drop)]
+#[derive(Clone, Copy)]
 pub struct Converted {
     pub vector: Vector,
     pub verdict: Verdict,

@@ -1,19 +1,38 @@
 // Reads a design record of either edition from standard input and prints its report, or the one line of its refusal (01, "The report program").
 // The files stdin and stdout of this crate hold the bridge's record and what must be printed for it.
 #![tactic(auto)]
-ghost use Rattle.std.specs.Prelude.{◌≡◌, ◌≤◌, length, take};
+
+ghost use Rattle.std.specs.Prelude.{◌≡◌, ◌≤◌, ◌<◌, length, take, IfOk, OnOk};
+ghost use Rattle.std.specs.Io.{ReadsAtMost};
 ghost use Rattle.report_text.specs.Reports.{printed};
 
 use answer::Written;
-use libc::{STDIN_FILENO, STDOUT_FILENO};
+use std::io;
+use std::io::Read;
 
-// The input is read until the array is full, which decides every input, or until it ends, also where it comes in pieces.
-fn main() {
+// A read or a write that fails ends the program with its error, and nothing is printed of an input that was read in part.
+fn main(rt: HostRuntime) -> io::Result<()> {
     let mut input = [0u8; 40000];
     let mut text = [0u8; 4096];
-    let count = io::read_full(STDIN_FILENO, &mut input);
+    let count = read_full(&mut rt.stdin(), &mut input)?;
     let end = make_text(&input[..count], &mut text);
-    io::write_all(STDOUT_FILENO, &text[..end]);
+    rt.stdout().write_all(&text[..end])
+}
+
+// Reads until the buffer is full, which decides every input, or until the input ends, also where it comes in pieces, and says how many bytes
+// stand in front of the buffer.
+fn read_full(input: &mut impl Read, buffer: &mut [u8]) -> io::Result<usize>
+    ensures { ReadsAtMost result buffer.new }
+{
+    let mut count = 0;
+    while count < buffer.len() {
+        let read = input.read(&mut buffer[count..])?;
+        if read == 0 {
+            break;
+        }
+        count += read;
+    }
+    Ok(count)
 }
 
 // The text that is printed for what was read, in front of a buffer: the report of a record, or the line of its refusal.

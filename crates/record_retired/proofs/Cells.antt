@@ -7,7 +7,7 @@ use native.Mathlib.Numerals.{add-one}
 use native.Mathlib.Omega.{arith}
 use denote.Laws.{Is}
 use mir.Val.{Val}
-use lib.ListN.{length, take, get_or, set, replicate, length-map}
+use lib.ListN.{length, take, get_or, set, replicate}
 use lib.Seq.{take-suc, take-append_seam, length-take-le}
 use Rattle.answer.proofs.FixedCells.{cells_more}
 use Rattle.record_retired.specs.declared.Retired.{Retired}
@@ -16,7 +16,7 @@ use Rattle.record_retired.specs.contracts.Retired.{the_row}
 
 -- there are 64, whatever they hold
 pub cells_all : (filing : Retired) (values : List Val) → Is the_row filing values → length filing.numbers ≡ most_retired
-cells_all filing values held = sym (length-map filing.numbers (λ (n : ℕ). n)) ∙ held.1.1.1.0.1.0.1
+cells_all filing values held = held.1.1.1.0.1.0.1
 
 -- the numbers in front come back
 pub numbers_back : (list : List ℕ) → take (retired_of list).count (retired_of list).numbers ≡ list

@@ -1,5 +1,6 @@
 // The retired part numbers of a record (02, §8): the numbers of parts that left are filed, rising, and the highest 64 are kept.
 #![tactic(auto)]
+
 ghost use Rattle.std.specs.Prelude.{◌≡◌, ◌+◌, ◌≤◌, length, take, get_or};
 ghost use Rattle.record_numbers.specs.Numbering.{named};
 ghost use Rattle.record_retired.specs.Retired.{most_retired, inserted, kept, filed, filed_all, retired_of};

@@ -3,11 +3,9 @@
 -- Assumes nothing.
 use mathlib.Core.Path.{◌≡◌, refl, sym, ap, ◌∙◌}
 use mathlib.Core.List.{List, ◌∷◌}
-use mathlib.Core.Logic.{⊎_elim}
-use Prim.Native.Nat.{ℕ, ◌+◌, ◌-◌, ◌/◌, ◌%◌, ◌≤◌, ◌<◌}
+use Prim.Native.Nat.{ℕ, ◌+◌, ◌/◌, ◌%◌, ◌≤◌, ◌<◌}
 use native.Mathlib.Numerals.{add-one}
 use native.Mathlib.Omega.{arith}
-use borrow.Author.Rules.{rules}
 use lib.ListN.{length, take, drop, get_or, drop_of_length-le}
 use lib.Seq.{drop-cons}
 use Rattle.theory_sets.proofs.Masks.{has_odd, has_even}
@@ -17,22 +15,9 @@ use Rattle.record_retired.specs.Retired.{most_retired, kept, filed, filed_all, r
 use Rattle.record_retired.proofs.Kept.{kept_most}
 use Rattle.record_retired.proofs.Cells.{numbers_back}
 use Rattle.record_retired.proofs.Filing.{filed_most}
-use Rattle.record_retired.proofs.filed_group.Statement.{statement}
-use Rattle.record_retired.proofs.filed_group.Tie as tie
-
--- what is filed, and what it comes to
-record Filing (numbers : List ℕ) (filing : Retired) (left i : ℕ) (result : List ℕ) : Type 0 where
-  list : List ℕ
-  few : length list ≤ most_retired
-  stands : filing ≡ retired_of list
-  comes : filed_all (named (drop i numbers) left) list ≡ result
-
-abbrev invariant-loop : tie.invariant-loop
-invariant-loop retired numbers group filing₀ left₀ i₀ i-end filing left i =
-    (i ≤ length numbers) × Filing numbers filing left i (filed_all (named numbers group) (kept retired))
-
-abbrev decreases-loop : tie.decreases-loop
-decreases-loop retired numbers group filing₀ left₀ i₀ i-end filing left i = length numbers - i
+use Rattle.record_retired.proofs.filed_group.Invariants.{Filing}
+use Rattle.record_retired.proofs.filed_group.Goals as goal
+use Rattle.record_retired.proofs.filed_group.Goals.{then-left-eq1, else-left-eq1}
 
 -- the numbers of the group among those left: the next one is of them, or not
 module _ (numbers : List ℕ) (left i : ℕ) (inside : i < length numbers) where
@@ -79,54 +64,23 @@ module _ (numbers : List ℕ) (filing : Retired) (left i : ℕ) (result : List �
   end over =
       f.stands ∙ ap retired_of (sym (ap (λ (l : List ℕ). filed_all (named l left) f.list) (drop_of_length-le numbers over)) ∙ f.comes)
 
-latest-requires : tie.Need-latest-requires invariant-loop decreases-loop
-latest-requires c κs = search rules
+pub loop-i-init : goal.loop-i-init
+loop-i-init c =
+    let a = c.args in
+    (omega arith, record { list = kept a.retired.now; few = kept_most a.retired.now; stands = c.latest-filing.ensures; comes = refl })
 
-loop-holds : tie.Need-loop-init invariant-loop decreases-loop
-loop-holds c =
-    let a = c.before.before.before.args in
-    (omega arith, record { list = kept a.retired.now; few = kept_most a.retired.now; stands = c.latest.ensures; comes = refl })
+pub file-filing-requires : goal.file-filing-requires
+file-filing-requires c = room _ _ _ _ _ c.loop-i.invariant.1
 
-mul-file : tie.Need-overflow-mul-file invariant-loop decreases-loop
-mul-file c = search rules
-
-shared-slice-read-file : tie.Need-shared-slice-read-file invariant-loop decreases-loop
-shared-slice-read-file c = search rules
-
-file-requires : tie.Need-file-requires invariant-loop decreases-loop
-file-requires c κs = room _ _ _ _ _ c.before.before.before.loop.invariant.1
-
-add-i : tie.Need-overflow-add-i invariant-loop decreases-loop
-add-i c = search rules
-
-loop-less : tie.Need-loop-smaller invariant-loop decreases-loop
-loop-less c = omega arith
-
-loop-again : tie.Need-loop-preserved invariant-loop decreases-loop
-loop-again c =
-    let f = c.before.before.loop.invariant.1 in (
+pub loop-i-preserved : goal.loop-i-preserved
+loop-i-preserved c =
+    let f = c.loop-i.invariant.1 in (
       omega arith,
-      ⊎_elim
-          (λ w. more _ _ _ _ _ f (omega arith) w.0.taken c.if1.filing (w.3 ∙ w.2.ensures))
-          (λ w. past _ _ _ _ _ f (omega arith) w.0.left c.if1.filing w.1)
-          c.if1.branch,
+      elim c.if-left-eq1.branch [
+        | then-left-eq1 w ↦ more _ _ _ _ _ f (omega arith) w.if-left-eq1.true c.if-left-eq1.filing (w.filing-is ∙ w.file-filing.ensures)
+        | else-left-eq1 w ↦ past _ _ _ _ _ f (omega arith) w.if-left-eq1.false c.if-left-eq1.filing w.filing-is
+      ],
     )
 
-returns : tie.Need-returns invariant-loop decreases-loop
-returns c = end _ _ _ _ _ c.before.loop.invariant.1 (omega arith)
-
-pub filed-group-spec : {M : Type 1} → statement M
-filed-group-spec =
-    tie.close
-    (tie.spec
-    invariant-loop
-    decreases-loop
-    latest-requires
-    loop-holds
-    mul-file
-    shared-slice-read-file
-    file-requires
-    add-i
-    loop-less
-    loop-again
-    returns)
+pub returns : goal.returns
+returns c = end _ _ _ _ _ c.loop-i.invariant.1 (omega arith)

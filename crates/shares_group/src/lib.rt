@@ -1,5 +1,6 @@
 // A group of parts: the checks of a call with a table and a group, and sums that path sets are added to.
 #![tactic(auto)]
+
 ghost use Rattle.std.specs.Prelude.{◌≡◌, ◌+◌, ◌%◌, ◌^◌, slice_index, slice_set};
 ghost use Rattle.answer.specs.Outcome.{and_then, room};
 ghost use Rattle.shares_claim.specs.Refusals.{shares_refusal};

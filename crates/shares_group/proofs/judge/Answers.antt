@@ -1,0 +1,16 @@
+-- `shares_group::judge` meets its contract: the table and the group are judged first, and then the room.
+-- Assumes nothing.
+use Rattle.std.proofs.Common.{sym, ◌∙◌}
+use Rattle.answer.specs.Outcome.{room}
+use Rattle.answer.proofs.Outcomes.{then_passed, then_refused}
+use Rattle.shares_group.proofs.judge.Goals as goal
+
+pub returns-in-Refused : goal.returns-in-Refused
+returns-in-Refused c =
+    let a = c.args in
+    sym (then_refused (room a.needed a.lent) (sym c.group_verdict-checked.ensures ∙ c.in-Refused.is))
+
+pub returns-in-Accepted : goal.returns-in-Accepted
+returns-in-Accepted c =
+    let a = c.args in
+    c.room.ensures ∙ sym (then_passed (room a.needed a.lent) (sym c.group_verdict-checked.ensures ∙ c.in-Accepted.is))

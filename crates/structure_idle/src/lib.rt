@@ -1,5 +1,6 @@
 // Idle parts of a structure (02, §9): a table to the mask of the parts that change nothing.
 #![tactic(auto)]
+
 ghost use Rattle.std.specs.Prelude.{◌≡◌};
 ghost use Rattle.answer.specs.Outcome.{valued};
 ghost use Rattle.theory_sets.specs.Tables.{in_table};

@@ -1,5 +1,6 @@
 // What stands behind the sets of a record of edition 2 (02, §8): the retired numbers and the path counts, read from a position on.
 #![tactic(auto)]
+
 ghost use Rattle.std.specs.Prelude.{◌≡◌, [], ◌≤◌};
 ghost use Rattle.answer.specs.Outcome.{at};
 ghost use Rattle.codec.specs.Reads.{reading_of};

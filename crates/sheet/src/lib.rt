@@ -1,5 +1,6 @@
 // Vector sheets (01, "Records on disk"), written from a vector. Tails are read and no longer written (02, §11).
 #![tactic(auto)]
+
 ghost use Rattle.std.specs.Prelude.{◌≡◌, ◌≤◌, length};
 ghost use Rattle.answer.specs.Outcome.{outcome, delivered};
 ghost use Rattle.vector.specs.InStruct.{entries_of, struct_refusal};

@@ -55,7 +55,7 @@ fn number(digits: &str) -> usize {
     digits.parse().expect("a decimal number")
 }
 
-/// A name as the header has it: `wrongPartCount` and `PathCounts` become NAHOKIPE_WRONG_PART_COUNT and NAHOKIPE_PATH_COUNTS, and
+/// A name as the header has it: `wrong_part_count` and `PathCounts` become NAHOKIPE_WRONG_PART_COUNT and NAHOKIPE_PATH_COUNTS, and
 /// LONGEST_RECORD becomes NAHOKIPE_LONGEST_RECORD.
 fn constant_name(name: &str) -> String {
     let mut words = String::new();
@@ -88,7 +88,7 @@ fn refusals() -> Constants {
 
 /// The kinds of the specification.
 fn kinds() -> Constants {
-    equations("crates/vector_kind/specs/Kinds.antt", "kindNumber ")
+    equations("crates/vector_kind/specs/Kinds.antt", "kind_number ")
 }
 
 /// The lengths that the Rust calls lend.
@@ -307,7 +307,7 @@ fn drawings() {
 /// What is proved of reports is what the header says; a line has at most three digits of a number and twenty of a place.
 #[test]
 fn reports_and_lines() {
-    let enough = bound("crates/report_text/src/lib.rt", "length (reportOf");
+    let enough = bound("crates/report_text/src/lib.rt", "length (report_of");
     assert_eq!(lent::ENOUGH_FOR_REPORT, enough);
     let text = report(&largest_record()).expect("an accepted record");
     assert!(text.len() <= enough);

@@ -1,14 +1,11 @@
 -- `answer::hand_out_counts` meets its contract: the counts are copied from the front on, where there is room for all of them.
 -- Assumes nothing.
 use mathlib.Core.Path.{refl, ap, ◌∙◌}
-use Prim.Native.Nat.{◌-◌}
 use native.Mathlib.Omega.{arith}
-use lib.ListN.{length}
-use borrow.Author.Rules.{rules}
 use Rattle.answer.specs.Outcome.{outcome}
 use Rattle.answer.specs.declared.Written.{Written}
 use Rattle.answer.proofs.Outcomes.{short_delivered}
-use Rattle.answer.proofs.Handing.{Handed, handed_none, handed_length, handed_one, handed_all}
+use Rattle.answer.proofs.Handing.{handed_none, handed_length, handed_one, handed_all}
 use Rattle.answer.proofs.hand_out_counts.Goals as goal
 
 pub returns-then-buffer-counts : goal.returns-then-buffer-counts

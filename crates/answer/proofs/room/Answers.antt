@@ -1,7 +1,6 @@
 -- `answer::room` meets its contract: 11 where fewer cells are lent than needed.
 -- Assumes nothing.
 use mathlib.Core.Path.{sym, ◌∙◌}
-use borrow.Author.Rules.{rules}
 use Rattle.answer.proofs.Outcomes.{room_enough, room_short}
 use Rattle.answer.proofs.room.Goals as goal
 

@@ -7,7 +7,6 @@ use lib.IntN.{ℤ, pos, ◌-ℤ◌}
 use mir.Facts.{to_z_pos, to_z-of_z}
 use mir.Syntax.{w64}
 use mir.Val.{SFits, to_z}
-use borrow.Author.Rules.{rules}
 use Rattle.integers.proofs.Differences.{difference_small, difference_added, difference_taken, mag_difference}
 use Rattle.integers.proofs.difference.Goals as goal
 

@@ -3,7 +3,6 @@
 use mathlib.Core.Path.{ap}
 use native.Mathlib.Omega.{arith}
 use lib.IntN.{nat_abs}
-use borrow.Author.Rules.{rules}
 use Rattle.integers.proofs.Signs.{less_found, less_small, less_fits, less_same, less_cast, whole_cast}
 use Rattle.integers.proofs.magnitude.Goals as goal
 

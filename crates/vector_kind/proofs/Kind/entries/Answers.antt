@@ -3,7 +3,6 @@
 use mathlib.Core.Path.{sym, ap, ◌∙◌}
 use mathlib.Core.Bool.{Bool, cond}
 use borrow.Author.Tests.{lt-ltb}
-use borrow.Author.Rules.{rules}
 use Rattle.vector_kind.specs.Kinds.{length_of}
 use Rattle.vector_kind.specs.declared.Kind.{Kind}
 use Rattle.vector_kind.proofs.KindNumbers.{entries_few}

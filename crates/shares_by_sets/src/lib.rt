@@ -1,5 +1,6 @@
 // A group's shares, set by set (01, "Figures").
 #![tactic(auto)]
+
 ghost use Rattle.std.specs.Prelude.{◌≡◌, ◌++◌, ℕ, ◌+◌, ◌-◌, ◌^◌, ◌≤◌, ◌<◌, pos, ◌-ℤ◌, length, get_or, drop};
 ghost use Rattle.numbers.specs.Tables.{tabulate};
 ghost use Rattle.theory_sets.specs.Masks.{size as size_of, inside};

@@ -3,7 +3,7 @@
 use mathlib.Core.Path.{◌≡◌, sym, ap, ◌∙◌}
 use mathlib.Core.Bool.{Bool, ◌&&◌}
 use mathlib.Core.List.{List}
-use Prim.Native.Nat.{ℕ, ◌-◌, ◌^◌, ◌≤◌, min}
+use Prim.Native.Nat.{ℕ, ◌^◌, ◌≤◌, min}
 use native.Mathlib.Nat.{lt_of_lt_of_le}
 use lib.Dec.{ltb}
 use lib.Pow.{pow_mono}

@@ -1,5 +1,6 @@
 // Cut sets of a structure (02, §3): a list of cut sets to a table, a table to its minimal cut sets, and a table to its dual.
 #![tactic(auto)]
+
 ghost use Rattle.std.specs.Prelude.{◌≡◌, ◌-◌, ◌≤◌, ◌<◌};
 ghost use Rattle.answer.specs.Outcome.{outcome, delivered};
 ghost use Rattle.theory_sets.specs.Masks.{has};

@@ -1,0 +1,50 @@
+-- `structure_cuts::table_of_cuts` meets its contract: a refused list leaves the buffer alone, and an accepted one's machine runs where the parts that
+-- remain hold no listed set.
+-- Assumes nothing.
+use mathlib.Core.Path.{◌≡◌, sym, ap, ap₂, ◌∙◌}
+use mathlib.Core.List.{List}
+use Prim.Native.Nat.{ℕ, min}
+use Rattle.answer.specs.Outcome.{delivered}
+use Rattle.answer.specs.declared.Verdict.{Verdict}
+use Rattle.answer.specs.declared.Verdict.TheVariants.{Accepted}
+use Rattle.answer.proofs.Deliveries.{refused_kept}
+use Rattle.numbers.proofs.Counts.{up_to_16_given}
+use Rattle.theory_sets.specs.Tables.{table_of, table_length}
+use Rattle.theory_cuts.specs.Cuts.{by_cuts}
+use Rattle.structure_words.specs.Words.{in_words, words_of, bytes_in, among}
+use Rattle.structure_closure.specs.Closure.{spread}
+use Rattle.structure.specs.Checks.{list_refusal}
+use Rattle.structure.proofs.Acceptance.{AcceptedList, accepted_list}
+use Rattle.structure_cuts.specs.Inside.{cuts_within}
+use Rattle.structure_cuts.proofs.Walks.{cut_list_words}
+use Rattle.structure_cuts.proofs.table_of_cuts.Goals as goal
+use Rattle.structure_cuts.proofs.table_of_cuts.Goals.{In-Accepted}
+
+verdict : (c : In-Accepted) → list_refusal c.args.n c.args.cuts.now ≡ Accepted
+verdict c = sym c.list_verdict-checked.ensures ∙ c.in-Accepted.is
+
+accepted : (c : In-Accepted) → AcceptedList c.args.n c.args.cuts.now
+accepted c = accepted_list c.args.n c.args.cuts.now (verdict c)
+
+pub cut_sets-running-requires : goal.cut_sets-running-requires
+cut_sets-running-requires c = (accepted (goal.at.cut_sets-running-requires c).In-Accepted).few
+
+pub returns-in-Refused : goal.returns-in-Refused
+returns-in-Refused c =
+    let a = c.args in
+    refused_kept (list_refusal a.n a.cuts.now) (table_of a.n (by_cuts a.n a.cuts.now)) a.table.now _
+    (sym c.list_verdict-checked.ensures ∙ c.in-Refused.is)
+
+pub returns-in-Accepted : goal.returns-in-Accepted
+returns-in-Accepted c =
+    let a = c.args in
+    let n = a.n in
+    let cuts = a.cuts.now in
+    let words : c.cut_sets-running.result ≡ words_of (cuts_within n (in_words (words_of (spread (min n 16) (in_words (words_of (among cuts))))))) =
+    c.cut_sets-running.ensures
+    ∙ ap (λ (ws : List ℕ). words_of (cuts_within n (in_words ws)))
+    (c.spread-stopping.ensures ∙ ap (λ (ws : List ℕ). words_of (spread (min n 16) (in_words ws))) c.marked-listed.ensures) in
+    c.hand_out_table.ensures
+    ∙ ap (λ (xs : List ℕ). delivered Accepted xs a.table.now)
+    (ap₂ bytes_in (up_to_16_given n (table_length n) (accepted (goal.at.returns-in-Accepted c).In-Accepted).few) words ∙ cut_list_words n cuts (accepted (goal.at.returns-in-Accepted c).In-Accepted))
+    ∙ ap (λ (v : Verdict). delivered v (table_of n (by_cuts n cuts)) a.table.now) (sym (verdict (goal.at.returns-in-Accepted c).In-Accepted))

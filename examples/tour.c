@@ -1,8 +1,8 @@
 /*
  * A tour of the library from C: a machine of a controller, number 3, and two pumps, 7 and 12, is entered, read, counted and changed. Once
- * `rt staticlib nahokipe` has written the archive, this line builds it and runs it, in the repository's root:
+ * `rt lib` in crates/nahokipe has written the archive, this line builds it and runs it, in the repository's root:
  *
- *     cc -std=c99 -I include -o tour examples/tour.c target/staticlib/libnahokipe.a && ./tour
+ *     cc -std=c99 -I include -o tour examples/tour.c crates/nahokipe/out/libnahokipe.a && ./tour
  *
  * It prints what stands in examples/tour.txt.
  */

@@ -1,8 +1,8 @@
 """A tour of the library from Python: a machine of a controller, number 3, and two pumps, 7 and 12, is entered, read, counted and changed.
 
-Once `rt staticlib nahokipe` has written the archive, these lines make a shared object of it and run the tour, in the repository's root:
+Once `rt lib` in crates/nahokipe has written the archive, these lines make a shared object of it and run the tour, in the repository's root:
 
-    cc -shared -o libnahokipe.so -Wl,--whole-archive target/staticlib/libnahokipe.a -Wl,--no-whole-archive
+    cc -shared -o libnahokipe.so -Wl,--whole-archive crates/nahokipe/out/libnahokipe.a -Wl,--no-whole-archive
     python3 examples/tour.py ./libnahokipe.so
 
 It prints what stands in examples/tour.txt.

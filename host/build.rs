@@ -1,4 +1,4 @@
-//! Names the static library and the folder that has it: NAHOKIPE_LIB_DIR, or else where `rt staticlib nahokipe` writes it.
+//! Names the static library and the folder that has it: NAHOKIPE_LIB_DIR, or else where `rt lib` in crates/nahokipe writes it.
 
 use std::env;
 use std::path::{Path, PathBuf};
@@ -11,13 +11,13 @@ fn main() {
     println!("cargo:rustc-link-search=native={}", folder.display());
     println!("cargo:rustc-link-lib=static=nahokipe");
     if !archive.exists() {
-        println!("cargo:warning=no libnahokipe.a yet: `rt staticlib nahokipe` writes it");
+        println!("cargo:warning=no libnahokipe.a yet: `rt lib` in crates/nahokipe writes it");
     }
 }
 
 fn library_folder() -> PathBuf {
     match env::var_os("NAHOKIPE_LIB_DIR") {
         Some(folder) => PathBuf::from(folder),
-        None => Path::new(env!("CARGO_MANIFEST_DIR")).join("../target/staticlib"),
+        None => Path::new(env!("CARGO_MANIFEST_DIR")).join("../crates/nahokipe/out"),
     }
 }

@@ -49,7 +49,7 @@
 //!
 //! # Building
 //!
-//! The package links libnahokipe.a, which `rt staticlib nahokipe` writes to target/staticlib of the repository; the variable NAHOKIPE_LIB_DIR
+//! The package links libnahokipe.a, which `rt lib` in crates/nahokipe writes to out/ there; the variable NAHOKIPE_LIB_DIR
 //! names another folder that has it. Calls keep nothing between them and may run in any number of threads at once; 256 KiB of stack are
 //! enough for every call but [`joint_signature`], which needs 640 KiB.
 //!

@@ -11,14 +11,12 @@ use std::process::{Command, Stdio};
 const TOOLCHAIN: &str = r#"#!/bin/sh
 case $1 in
 version) echo "kit ${KIT:-1}" ;;
-check)
-    shift
-    echo "$*" >>"$RUNS"
-    for crate; do echo "rt: $crate proved (1 s)"; done
-    [ -z "${FAULT:-}" ] || { echo "rt: top NOT PROVED (exit 1, 1 s)"; exit 1; } ;;
-staticlib)
-    echo "rt: base proved (unchanged since it was last proved)" >&2
-    echo "rt: target/staticlib/libnahokipe.a has the functions" ;;
+lib)
+    echo "${PWD##*/}" >>"$RUNS"
+    for crate in base middle; do echo "crate $crate: modules loaded=1 checked=1"; done
+    [ -z "${FAULT:-}" ] || { echo "logic=not-proved"; exit 1; }
+    echo "crate base: modules loaded=2 checked=0" >&2
+    echo "crate nahokipe: modules loaded=1 checked=1" ;;
 esac
 "#;
 
@@ -51,7 +49,7 @@ impl Repository {
         }
         folder.write(
             "a tree/crates.txt",
-            "# crates\nbase:\nmiddle: base io\nother: base\nnahokipe: base middle # the library\n",
+            "# crates\nbase:\nmiddle: base io\nother: base\nnahokipe staticlib: base middle # the library\n",
         );
         for file in [
             "crates/base/src/lib.rt",
@@ -116,12 +114,12 @@ fn the_first_run_builds() {
             &log.display().to_string(),
         ],
     );
-    assert_eq!(repository.folder.read("runs"), b"base middle\n");
+    assert_eq!(repository.folder.read("runs"), b"nahokipe\n");
     let mut command = repository.command("a tree/nahokipe", &["show", "-"]);
     let input = fs::File::open(repository.folder.file("runs")).expect("a file");
     command.stdin(input);
     let text = Ran::of(command).done();
-    assert!(text.ends_with(": show -\nbase middle\n"), "{text}");
+    assert!(text.ends_with(": show -\nnahokipe\n"), "{text}");
     assert_eq!(repository.proved(), 1);
 }
 
@@ -190,7 +188,7 @@ fn builds_that_fail() {
     assert_eq!((ran.status, ran.text()), (Some(2), ""));
     assert_has(
         &ran.error,
-        &["the library is not proved", "built/log", "top NOT PROVED"],
+        &["the library is not proved", "built/log", "logic=not-proved"],
     );
     let cargo = repository.folder.read("tools/cargo");
     repository.folder.write_program(

@@ -14,7 +14,7 @@ use Rattle.codec.proofs.Found.{then_found, Stands, stands_both, behind}
 use Rattle.codec.proofs.FieldReads.{Follow, fields_found, fields_read}
 use Rattle.theory_orders.specs.Antichains.{most_sets}
 use Rattle.record_head.specs.Headings.{Head, head_at}
-use Rattle.record.specs.Records.{set_refusal, sets_at, Design, design, DesignAt, design_at, record_at}
+use Rattle.record.specs.Records.{set_refusal, sets_at, Design, DesignAt, design_at, record_at}
 use Rattle.record_head.specs.HeadingBytes.{head_bytes}
 use Rattle.record.specs.RecordBytes.{record_bytes, DesignRules}
 use Rattle.record_head.proofs.RoundTrip.{head_found, head_read}

@@ -15,7 +15,7 @@ use Rattle.record.specs.declared.Cursor.{Cursor}
 use Rattle.record.specs.declared.Step.{Step}
 use Rattle.record.specs.declared.Step.TheVariants.{Set, End}
 use Rattle.record.specs.declared.WithWords.{WithWords}
-use Rattle.record.specs.Records.{design, DesignAt}
+use Rattle.record.specs.Records.{DesignAt}
 
 -- of a refused record: the refusal, a list of no parts and an empty stretch
 abbrev pub nothing : Refusal → Contents

@@ -1,5 +1,6 @@
 // Design records of edition 1 (01, "Records on disk"): read from a position, and walked set by set.
 #![tactic(auto)]
+
 ghost use Rattle.std.specs.Prelude.{◌≡◌, [], ◌+◌, ◌≤◌, ◌<◌};
 ghost use Rattle.answer.specs.Outcome.{at, outcome, delivered};
 ghost use Rattle.structure_words.specs.Words.{in_words};

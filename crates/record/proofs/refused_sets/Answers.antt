@@ -6,11 +6,9 @@ use Prim.Native.Nat.{ℕ}
 use Rattle.answer.specs.Outcome.{at}
 use Rattle.answer.specs.declared.Verdict.TheVariants.{Refused}
 use Rattle.record.proofs.Answers.{no_words}
-use Rattle.record.proofs.refused_sets.Statement.{statement}
-use Rattle.record.proofs.refused_sets.Tie as tie
+use Rattle.record.proofs.refused_sets.Goals as goal
 
-returns : tie.Need-returns
+-- `record::refused_sets` meets its contract: zeros are the words of no set.
+-- Assumes nothing.
+pub returns : goal.returns
 returns c = ap (λ (words : List ℕ). record { words = words; end = 0; verdict = Refused (at c.args.number c.args.place) }) no_words
-
-pub refused-sets-spec : {M : Type 1} → statement M
-refused-sets-spec = tie.close (tie.spec returns)

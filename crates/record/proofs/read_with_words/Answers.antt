@@ -1,0 +1,40 @@
+-- `record::read_with_words` meets its contract: what stands before the sets, and then the sets.
+-- Assumes nothing.
+use mathlib.Core.Path.{◌≡◌, sym, ap, ◌∙◌}
+use Rattle.codec.specs.Reads.{found}
+use Rattle.record_head.specs.Headings.{head_at}
+use Rattle.record_head.proofs.Answers.{head_few, heading_given, heading_refused}
+use Rattle.record.proofs.Answers.{sets_given, sets_refused, record_no_head, record_no_sets, record_given}
+use Rattle.record.specs.Contents.{with_words_of}
+use Rattle.record.proofs.read_with_words.Goals as goal
+use Rattle.record.proofs.read_with_words.Goals.{In-Accepted}
+
+-- what stands before the sets, which was read
+head : (c : In-Accepted) → head_at c.args.bytes.now c.args.start
+    ≡ found (record { parts = c.read_heading-heading.result.list; count = c.read_heading-heading.result.sets }) c.read_heading-heading.result.begin
+head c =
+    heading_given _ c.read_heading-heading.result c.read_heading-heading.ensures c.in-Accepted.is
+
+pub read_sets-read-requires : goal.read_sets-read-requires
+read_sets-read-requires c =
+    let a = c.args in
+    head_few a.bytes.now a.start _ _ (head (goal.at.read_sets-read-requires c).In-Accepted)
+
+pub returns-in-Refused : goal.returns-in-Refused
+returns-in-Refused c =
+    let a = c.args in
+    c.refused_with_words.ensures
+    ∙ sym (ap with_words_of (record_no_head a.bytes.now a.start _ (heading_refused _ c.read_heading-heading.result _ c.read_heading-heading.ensures c.in-Refused.is)))
+
+pub returns-in-Refused-judged : goal.returns-in-Refused-judged
+returns-in-Refused-judged c =
+    let a = c.args in
+    c.refused_with_words-in-Refused-judged.ensures
+    ∙ sym (ap with_words_of (record_no_sets a.bytes.now a.start _ _ _ (head (goal.at.returns-in-Refused-judged c).In-Accepted) (sets_refused _ _ c.read_sets-read.result _ c.read_sets-read.ensures c.in-Refused-judged.is)))
+
+pub returns-in-Accepted-judged : goal.returns-in-Accepted-judged
+returns-in-Accepted-judged c =
+    let a = c.args in
+    let heading = c.read_heading-heading.result in
+    let sets = sets_given _ _ c.read_sets-read.result c.read_sets-read.ensures c.in-Accepted-judged.is in
+    record_given a.bytes.now a.start (record { parts = heading.list; count = heading.sets }) heading.begin sets.sets _ _ (head (goal.at.returns-in-Accepted-judged c).In-Accepted) sets.given sets.words

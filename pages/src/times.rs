@@ -18,7 +18,8 @@ pub fn page(log: &str) -> String {
     let mut page = String::from(
         "# How long the check takes\n\n\
          The seconds of each crate in the last whole run, two checks at a time: to prove it once, how many edits it has, and these together. An edit checks \
-         its whole crate once more. The seconds differ from machine to machine and are no test.\n\n\
+         its whole crate once more. The seconds differ from machine to machine and are no test. They \
+         are those of the toolchain before the present one, which prints none.\n\n\
          This page is written by `pages` from what the run printed.\n\n\
          | crate | proved | edits | edits tried |\n|---|---|---|---|\n",
     );

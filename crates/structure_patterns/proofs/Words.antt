@@ -20,16 +20,6 @@ use Rattle.structure_words.specs.Words.{word_of}
 use Rattle.structure_words.proofs.Words.{word_of_unique}
 use Rattle.structure_patterns.specs.Inside.{six_with}
 
--- what is none of 0 to 6 is at least 7
-above_three : (x : ℕ) → (x ≡ 0 → ⊥) → (x ≡ 1 → ⊥) → (x ≡ 2 → ⊥) → (x ≡ 3 → ⊥) → 4 ≤ x
-above_three x a b c d = omega arith
-
-pub above_six : (x : ℕ) → (x ≡ 0 → ⊥) → (x ≡ 1 → ⊥) → (x ≡ 2 → ⊥) → (x ≡ 3 → ⊥) → (x ≡ 4 → ⊥) → (x ≡ 5 → ⊥) → (x ≡ 6 → ⊥) → 7 ≤ x
-above_six x a b c d = from_four x (above_three x a b c d)
-  where
-    from_four : (x : ℕ) → 4 ≤ x → (x ≡ 4 → ⊥) → (x ≡ 5 → ⊥) → (x ≡ 6 → ⊥) → 7 ≤ x
-    from_four x h e f g = omega arith
-
 -- no set of six parts has seven
 pub six_without : (least : ℕ) → 7 ≤ least → 0 ≡ six_with least
 six_without least h =

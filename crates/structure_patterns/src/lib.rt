@@ -1,5 +1,6 @@
 // Stock patterns (02, §6): the table of a machine that designers draw again and again, from its pattern, its number of parts and its threshold k.
 #![tactic(auto)]
+
 ghost use Rattle.std.specs.Prelude.{◌≡◌, ◌&&◌, ◌^◌, ◌≤◌, ◌<◌, ltb};
 ghost use Rattle.answer.specs.Outcome.{outcome, delivered};
 ghost use Rattle.theory_sets.specs.Tables.{table_of};

@@ -13,46 +13,25 @@ use Rattle.theory_cuts.specs.Cuts.{by_cuts}
 use Rattle.structure.specs.Checks.{list_refusal}
 use Rattle.structure_patterns.specs.Inside.{neighbours_from, first_neighbours}
 use Rattle.structure_patterns.proofs.NeighbourSets.{neighbours_accepted}
-use borrow.Author.Rules.{rules}
-use Rattle.structure_patterns.proofs.stopped_by_neighbours.Statement.{statement}
-use Rattle.structure_patterns.proofs.stopped_by_neighbours.Tie as tie
-
-neighbours-requires : tie.Need-neighbours-requires
-neighbours-requires c κs = search rules
+use Rattle.structure_patterns.proofs.stopped_by_neighbours.Goals as goal
 
 -- the sets that are handed on
 first : (n k count : ℕ) (sets : List ℕ) → sets ≡ first_neighbours n k 16 → count ≤ 16 → take count sets ≡ first_neighbours n k count
 first n k count sets e short = ap (take count) e ∙ take_tabulate count 16 (neighbours_from n k) short
 
-array-share-prefix-sets : tie.Need-array-share-prefix-sets
-array-share-prefix-sets c = search rules
-
-slice-aggregate-table-of-cuts : tie.Need-slice-aggregate-table-of-cuts
-slice-aggregate-table-of-cuts c =
-    let a = c.before.before.before.args in
+pub slice_bounds-table_of_cuts-end : goal.slice_bounds-table_of_cuts-end
+slice_bounds-table_of_cuts-end c =
+    let a = c.args in
     let short : a.count ≤ 16 = omega arith in
-    sym (ap length (first a.n a.k a.count c.before.neighbours.result c.before.neighbours.ensures short) ∙ tabulate_length a.count _)
+    sym (ap length (first a.n a.k a.count c.neighbours-sets.result c.neighbours-sets.ensures short) ∙ tabulate_length a.count _)
 
-table-of-cuts-requires : tie.Need-table-of-cuts-requires
-table-of-cuts-requires c κs = search rules
-
-same_length : tie.Need-same-length
-same_length c = search rules
-
-returns : tie.Need-returns
+pub returns : goal.returns
 returns c =
-    let called = c.before.before in
-    let made = called.before.before.before in
-    let a = made.before.before.args in
+    let a = c.args in
     let short : a.count ≤ 16 = omega arith in
     let n = a.n in
-    let sets = first n a.k a.count made.neighbours.result made.neighbours.ensures short in
-    called.table-of-cuts.ensures
+    let sets = first n a.k a.count c.neighbours-sets.result c.neighbours-sets.ensures short in
+    c.table_of_cuts.ensures
     ∙ ap (λ (cuts : List ℕ). delivered (list_refusal n cuts) (table_of n (by_cuts n cuts)) a.table.now) sets
     ∙ ap (λ (v : Verdict). delivered v (table_of n (by_cuts n (first_neighbours n a.k a.count))) a.table.now)
     (neighbours_accepted n a.k (omega arith) (omega arith) a.count (omega arith) (omega arith) (omega arith))
-
-pub stopped-by-neighbours-spec : {M : Type 1} → statement M
-stopped-by-neighbours-spec =
-    tie.close
-    (tie.spec neighbours-requires array-share-prefix-sets slice-aggregate-table-of-cuts table-of-cuts-requires same_length returns)

@@ -28,7 +28,7 @@ use Rattle.vector_kind.proofs.KindNumbers.{kind_back, kind_is_one}
 use Rattle.sheet.proofs.Codes.{kind_few}
 use Rattle.sheet.proofs.Bounds.{Fitting, accepted_fitting, fitting_allowed}
 use Rattle.sheet_reading.specs.Inside.{ended, entered, kinded}
-use Rattle.sheet.specs.Sheets.{coded, decoded, entry_bytes, sheet_bytes, Sheet, sheet, kind_judged, parts_judged, entries_at, sheet_of}
+use Rattle.sheet.specs.Sheets.{coded, decoded, entry_bytes, sheet_bytes, sheet, kind_judged, parts_judged, entries_at, sheet_of}
 
 -- ---- entries
 

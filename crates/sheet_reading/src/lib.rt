@@ -1,5 +1,6 @@
 // Vector sheets (01, "Records on disk"), read as a vector.
 #![tactic(auto)]
+
 ghost use Rattle.std.specs.Prelude.{◌≡◌, ◌≤◌, ltb, length};
 ghost use Rattle.answer.specs.Outcome.{at, refuse, and_then};
 ghost use Rattle.answer.specs.Refusals.{bytes_left};

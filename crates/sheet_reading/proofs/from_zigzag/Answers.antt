@@ -9,9 +9,7 @@ use mir.Facts.{to_z_pos, to_z-of_z}
 use mir.Syntax.{w64}
 use mir.Val.{SFits, to_z}
 use borrow.Author.Tests.{eq-eqb, ne_eqb}
-use borrow.Author.Rules.{rules}
-use Rattle.sheet_reading.proofs.from_zigzag.Statement.{statement}
-use Rattle.sheet_reading.proofs.from_zigzag.Tie as tie
+use Rattle.sheet_reading.proofs.from_zigzag.Goals as goal
 
 -- the half of a number of a sheet, as a signed one
 half : (number : ℕ) → number ≤ 2 ^ 63 - 1 → to_z w64 (number / 2) ≡ pos (number / 2)
@@ -27,22 +25,16 @@ negative number h = ap (λ (z : ℤ). negsuc 0 -ℤ z) (half number h) ∙ minus
 below : (number : ℕ) → number ≤ 2 ^ 63 - 1 → SFits w64 (negsuc 0 -ℤ to_z w64 (number / 2))
 below number h = subst (λ (z : ℤ). SFits w64 z) (sym (negative number h)) (record { sfits = omega arith })
 
-cast-half : tie.Need-overflow-cast-half
-cast-half c = search rules
+pub returns-then-number-eq0 : goal.returns-then-number-eq0
+returns-then-number-eq0 c =
+    let a = c.args in
+    half a.number c.requires ∙ sym (ap (λ (t : Bool). cond t (pos (a.number / 2)) (negsuc (a.number / 2))) (eq-eqb (a.number % 2) 0 c.if-number-eq0.true))
 
-returns : tie.Need-returns
+pub overflow_sub-result : goal.overflow_sub-result
+overflow_sub-result c = below c.args.number c.requires
+
+pub returns : goal.returns
 returns c =
-    let a = c.before.args in
-    half a.number c.before.requires ∙ sym (ap (λ (t : Bool). cond t (pos (a.number / 2)) (negsuc (a.number / 2))) (eq-eqb (a.number % 2) 0 c.if1.true))
-
-sub-result : tie.Need-overflow-sub-result
-sub-result c = below c.before.args.number c.before.requires
-
-returns-2 : tie.Need-returns-2
-returns-2 c =
-    let a = c.before.args in
-    to_z-of_z {w = w64} (below a.number c.before.requires) ∙ negative a.number c.before.requires
-    ∙ sym (ap (λ (t : Bool). cond t (pos (a.number / 2)) (negsuc (a.number / 2))) (ne_eqb (a.number % 2) 0 c.if1.false))
-
-pub from-zigzag-spec : {M : Type 1} → statement M
-from-zigzag-spec = tie.close (tie.spec cast-half returns sub-result returns-2)
+    let a = c.args in
+    to_z-of_z {w = w64} (below a.number c.requires) ∙ negative a.number c.requires
+    ∙ sym (ap (λ (t : Bool). cond t (pos (a.number / 2)) (negsuc (a.number / 2))) (ne_eqb (a.number % 2) 0 c.if-number-eq0.false))

@@ -1,0 +1,17 @@
+-- `sheet_reading::bytes_left` meets its contract, test by test.
+-- Assumes nothing.
+use mathlib.Core.Path.{sym, ap, ◌∙◌}
+use mathlib.Core.Bool.{Bool}
+use borrow.Author.Tests.{lt-ltb, le-ltb}
+use Rattle.answer.specs.Outcome.{refuse}
+use Rattle.answer.specs.Refusals.{bytes_left}
+use Rattle.answer.specs.declared.Verdict.TheVariants.{Accepted}
+use Rattle.sheet_reading.proofs.bytes_left.Goals as goal
+
+pub returns-then-end-bytes : goal.returns-then-end-bytes
+returns-then-end-bytes c =
+    c.refused.ensures
+    ∙ sym (ap (λ (t : Bool). refuse t bytes_left c.args.end Accepted) (lt-ltb _ _ c.if-end-bytes.true))
+
+pub returns : goal.returns
+returns c = sym (ap (λ (t : Bool). refuse t bytes_left c.args.end Accepted) (le-ltb _ _ c.if-end-bytes.false))

@@ -1,5 +1,6 @@
 // h(x,z) of a group: its coefficients (01, "Figures").
 #![tactic(auto)]
+
 ghost use Rattle.std.specs.Prelude.{◌≡◌, ◌++◌, ◌+◌, ◌-◌, ◌*◌, ◌/◌, ◌%◌, ◌^◌, ◌≤◌, ◌<◌, length, drop};
 ghost use Rattle.numbers.specs.Tables.{tabulate, NoneOver};
 ghost use Rattle.theory_sets.specs.Masks.{size as size_of};

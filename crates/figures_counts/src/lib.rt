@@ -1,5 +1,6 @@
 // Path sets counted by size, in one pass over the words of a structure: of all path sets, and of those with each part.
 #![tactic(auto)]
+
 ghost use Rattle.std.specs.Prelude.{◌≡◌, ◌+◌, ◌/◌, ◌%◌, ◌≤◌, ◌<◌, eqb, length, get_or};
 ghost use Rattle.numbers.specs.Tables.{tabulate, NoneOver};
 ghost use Rattle.theory_orders.specs.Formulas.{path_count};

@@ -1,5 +1,6 @@
 // A group's shares through h(x,z) (01, "Figures"; 001, Algorithm 2).
 #![tactic(auto)]
+
 ghost use Rattle.std.specs.Prelude.{◌≡◌, ◌++◌, ℕ, ◌+◌, ◌≤◌, ◌<◌, pos, length, get_or, drop};
 ghost use Rattle.theory_sets.specs.Tables.{in_table};
 ghost use Rattle.answer.specs.Outcome.{outcome, delivered};

@@ -1,5 +1,6 @@
 // The entries of a vector sheet (01, "Records on disk"), read into a lent buffer.
 #![tactic(auto)]
+
 ghost use Rattle.std.specs.Prelude.{◌≡◌};
 ghost use Rattle.answer.specs.Outcome.{outcome};
 ghost use Rattle.sheet.specs.Sheets.{sheet_of};

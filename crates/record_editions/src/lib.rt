@@ -1,6 +1,7 @@
 // Design records of either edition (01, "Records on disk"; 02, §8): read from a position, and checked whole. In edition 2 the numbers 0 and 2
 // stand in front of the fields of edition 1, and the retired numbers and the path counts behind them.
 #![tactic(auto)]
+
 ghost use Rattle.std.specs.Prelude.{◌≡◌, ◌+◌, ◌≤◌, length};
 ghost use Rattle.answer.specs.Outcome.{outcome, delivered};
 ghost use Rattle.theory_sets.specs.Structures.{listed};

@@ -1,6 +1,5 @@
 -- `record_editions::edition_of` meets its contract: the edition that reading tells.
 -- Assumes nothing.
-use borrow.Author.Rules.{rules}
 use Rattle.record_editions.specs.declared.Edition.TheVariants.{First, Second}
 use Rattle.record_editions.proofs.Whole.{stored_told, edition_refused, edition_given_lem}
 use Rattle.record_editions.proofs.edition_of.Goals as goal

@@ -1,7 +1,6 @@
 -- `record_editions::first_cursor` meets its contract: the cursor is made of the contents of the whole record.
 -- Assumes nothing.
 use mathlib.Core.Path.{ap}
-use borrow.Author.Rules.{rules}
 use Rattle.record.specs.declared.Contents.{Contents}
 use Rattle.record.specs.Contents.{cursor}
 use Rattle.record_editions.proofs.first_cursor.Goals as goal

@@ -1,6 +1,5 @@
 -- `record_editions::read_record` meets its contract: the contents are those beside the words.
 -- Assumes nothing.
-use borrow.Author.Rules.{rules}
 use Rattle.record_editions.proofs.Answers.{contents_at_lem}
 use Rattle.record_editions.proofs.read_record.Goals as goal
 

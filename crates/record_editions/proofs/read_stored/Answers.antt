@@ -3,8 +3,6 @@
 use mathlib.Core.Path.{◌≡◌, sym, ◌∙◌}
 use mathlib.Core.Bool.{true}
 use native.Mathlib.Omega.{arith}
-use borrow.Author.Rules.{rules}
-use borrow.Author.Tests.{not-true, not-false}
 use Rattle.record_editions.specs.Editions.{second_there}
 use Rattle.record_editions.proofs.Answers.{second_room, first_given, second_refused, second_few, second_given}
 use Rattle.record_editions.proofs.read_stored.Goals as goal

@@ -1,6 +1,5 @@
 -- `record_editions::record_end` meets its contract: the position that the contents tell.
 -- Assumes nothing.
-use borrow.Author.Rules.{rules}
 use Rattle.record_editions.proofs.Whole.{end_refused, end_given_lem}
 use Rattle.record_editions.proofs.record_end.Goals as goal
 

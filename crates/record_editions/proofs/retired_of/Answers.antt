@@ -1,7 +1,6 @@
 -- `record_editions::retired_of` meets its contract: the retired numbers that reading tells are handed out.
 -- Assumes nothing.
 use mathlib.Core.Path.{◌∙◌}
-use borrow.Author.Rules.{rules}
 use Rattle.record_editions.proofs.Whole.{Told, stored_told, retired_refused, retired_given_lem, retired_room, retired_counted}
 use Rattle.record_editions.proofs.retired_of.Goals as goal
 use Rattle.record_editions.proofs.retired_of.Goals.{After-whole_stored-read}

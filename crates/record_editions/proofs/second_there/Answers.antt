@@ -2,7 +2,6 @@
 -- Assumes nothing.
 use mathlib.Core.Path.{sym}
 use native.Mathlib.Omega.{arith}
-use borrow.Author.Rules.{rules}
 use Rattle.record_editions.proofs.Answers.{second_short, second_other, second_asked}
 use Rattle.record_editions.proofs.second_there.Goals as goal
 

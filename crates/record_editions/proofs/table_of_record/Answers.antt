@@ -2,7 +2,6 @@
 -- Assumes nothing.
 use mathlib.Core.Path.{◌∙◌}
 use native.Mathlib.Omega.{arith}
-use borrow.Author.Rules.{rules}
 use Rattle.record_editions.proofs.Whole.{words_delivered}
 use Rattle.record_editions.proofs.table_of_record.Goals as goal
 

@@ -1,6 +1,5 @@
 -- `record_editions::whole_record` meets its contract: the contents are those beside the words.
 -- Assumes nothing.
-use borrow.Author.Rules.{rules}
 use Rattle.record_editions.proofs.Answers.{contents_whole}
 use Rattle.record_editions.proofs.whole_record.Goals as goal
 

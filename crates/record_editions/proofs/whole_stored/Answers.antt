@@ -1,7 +1,6 @@
 -- `record_editions::whole_stored` meets its contract: the record from the first byte on, and then 25.
 -- Assumes nothing.
 use mathlib.Core.Path.{ap, ◌∙◌}
-use borrow.Author.Rules.{rules}
 use Rattle.record_editions.specs.Inside.{first_read}
 use Rattle.record_editions.proofs.Answers.{whole_refused, whole_left, whole_alone}
 use Rattle.record_editions.proofs.whole_stored.Goals as goal

@@ -1,6 +1,5 @@
 -- `record_editions::whole_with_words` meets its contract: the body of all that is read.
 -- Assumes nothing.
-use borrow.Author.Rules.{rules}
 use Rattle.record_editions.proofs.Answers.{words_whole}
 use Rattle.record_editions.proofs.whole_with_words.Goals as goal
 

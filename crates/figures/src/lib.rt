@@ -1,5 +1,6 @@
 // The figures of a machine: path counts, tail, signature, domination and the importances of its parts (01, "Figures").
 #![tactic(auto)]
+
 ghost use Rattle.std.specs.Prelude.{◌≡◌, ◌+◌, ◌≤◌, ◌<◌, length, replicate};
 ghost use Rattle.numbers.specs.Tables.{tabulate, NoneOver};
 ghost use Rattle.theory_sets.specs.Tables.{in_table};
@@ -200,10 +201,10 @@ fn write_vectors(
     signature: &mut [i64],
     domination: &mut [i64],
 )
-    requires entries_value { vector_refusal Kind.PathCounts n entries.now ≡ Accepted }
-    requires n_in_bounds { n + 1 ≤ length counts.old }
-    requires n_in_bounds_2 { n ≤ length signature.old }
-    requires n_in_bounds_3 { n + 1 ≤ length domination.old }
+    requires entries_accepted { vector_refusal Kind.PathCounts n entries.now ≡ Accepted }
+    requires counts_long { n + 1 ≤ length counts.old }
+    requires signature_long { n ≤ length signature.old }
+    requires domination_long { n + 1 ≤ length domination.old }
     ensures counts_after { counts.new ≡ front (converted Kind.PathCounts Kind.PathCounts n entries.now) counts.old }
     ensures signature_after { signature.new ≡ front (converted Kind.Signature Kind.PathCounts n entries.now) signature.old }
     ensures domination_after { domination.new ≡ front (converted Kind.Domination Kind.PathCounts n entries.now) domination.old }

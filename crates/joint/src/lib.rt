@@ -1,6 +1,7 @@
 // The joint signature of two machines on one cart: in how many failure orders the k-th failure stops the first machine and the l-th the second
 // (02, §5).
 #![tactic(auto)]
+
 ghost use Rattle.std.specs.Prelude.{◌≡◌, ◌++◌, ◌+◌, ◌*◌, ◌/◌, ◌%◌, ◌≤◌, ◌<◌, length, drop};
 ghost use Rattle.numbers.specs.Counts.{factorial};
 ghost use Rattle.numbers.specs.Tables.{tabulate};

@@ -1,5 +1,6 @@
 // A group's shares by both routes, set by set and through h(x,z): by either they are the counts of failure orders (01, "Counting").
 #![tactic(auto)]
+
 ghost use Rattle.std.specs.Prelude.{◌≡◌, min};
 ghost use Rattle.answer.specs.Outcome.{outcome};
 ghost use Rattle.theory_sets.specs.Tables.{in_table};

@@ -1,6 +1,7 @@
 // A reader that walks a design record of either edition where the host keeps it (01, "Records on disk"; 02, §8): the record's bytes and a place
 // among them.
 #![tactic(auto)]
+
 ghost use Rattle.std.specs.Prelude.{◌≡◌};
 ghost use Rattle.record_reader.specs.Places.{set_at};
 

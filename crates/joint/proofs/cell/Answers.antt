@@ -5,7 +5,6 @@ use Prim.Native.Nat.{ℕ, ◌+◌, ◌-◌, ◌≤◌}
 use native.Mathlib.Omega.{arith}
 use Rattle.joint.specs.Inside.{tail_by, cell_by}
 use Rattle.joint.proofs.Tails.{tail_few, cell_is}
-use borrow.Author.Rules.{rules}
 use Rattle.joint.proofs.cell.Goals as goal
 
 pub overflow_add-result : goal.overflow_add-result

@@ -4,7 +4,6 @@ use mathlib.Core.Path.{◌≡◌, sym, ap, ◌∙◌, subst}
 use mathlib.Core.List.{◌++◌}
 use Prim.Native.Nat.{ℕ, ◌*◌, ◌≤◌}
 use lib.ListN.{length, drop}
-use borrow.Author.Rules.{rules}
 use Rattle.answer.specs.Outcome.{and_then, room}
 use Rattle.answer.specs.declared.Verdict.TheVariants.{Accepted}
 use Rattle.answer.proofs.Outcomes.{then_accepted, room_accepted}

@@ -1,7 +1,6 @@
 -- `joint::judge` meets its contract: both tables are judged first, and then the room.
 -- Assumes nothing.
 use mathlib.Core.Path.{sym, ◌∙◌}
-use borrow.Author.Rules.{rules}
 use Rattle.answer.specs.Outcome.{room}
 use Rattle.answer.proofs.Outcomes.{then_passed, then_refused}
 use Rattle.joint.proofs.judge.Goals as goal

@@ -1,7 +1,6 @@
 -- `joint::tables_verdict` meets its contract: the first table is judged first, and then the second.
 -- Assumes nothing.
 use mathlib.Core.Path.{sym, ◌∙◌}
-use borrow.Author.Rules.{rules}
 use Rattle.answer.proofs.Outcomes.{then_passed, then_refused}
 use Rattle.structure.specs.Checks.{table_refusal}
 use Rattle.joint.specs.Refusals.{joint_refusal}

@@ -6,7 +6,6 @@ use native.Mathlib.Nat.{le_trans, le_of_eq, lt_of_le_of_lt}
 use native.Mathlib.Omega.{arith}
 use Rattle.joint.specs.Inside.{tail_by}
 use Rattle.joint.proofs.Tails.{tail_few, tail_within, tail_around}
-use borrow.Author.Rules.{rules}
 use Rattle.joint.proofs.tail.Goals as goal
 
 pub overflow_mul-result : goal.overflow_mul-result

@@ -4,7 +4,6 @@ use mathlib.Core.Path.{ap, ◌∙◌}
 use mathlib.Core.List.{List, ◌++◌}
 use Prim.Native.Nat.{ℕ, ◌*◌}
 use lib.ListN.{drop}
-use borrow.Author.Rules.{rules}
 use Rattle.joint.proofs.Tails.{counted_tables, square_is}
 use Rattle.joint.proofs.write_square.Goals as goal
 

@@ -16,7 +16,6 @@ use Rattle.record_parts.specs.Lines.{In, Line}
 use Rattle.record_parts.specs.Lines as lines
 use Rattle.record_parts.proofs.OneChange.{line_none, line_one, line_without}
 use Rattle.record_parts.proofs.Lines.{line_append}
-use Rattle.codec.specs.Reads.{found}
 use Rattle.record.specs.Records.{Design}
 use Rattle.record.specs.RecordBytes.{DesignRules}
 use Rattle.masks.specs.Groups.{meets}

@@ -6,7 +6,7 @@ use mathlib.Core.List.{List}
 use Prim.Native.Nat.{ℕ, ◌+◌}
 use native.Mathlib.Omega.{arith}
 use lib.ListN.{take}
-use Rattle.answer.specs.Outcome.{at, Outcome, outcome, delivered}
+use Rattle.answer.specs.Outcome.{Outcome, outcome, delivered}
 use Rattle.answer.specs.declared.Verdict.{Verdict}
 use Rattle.answer.specs.declared.Verdict.TheVariants as verdict
 use Rattle.answer.specs.declared.Written.{Written}

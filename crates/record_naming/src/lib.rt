@@ -1,6 +1,7 @@
 // Parts by their numbers: the position of the part that has a number, the mask of some parts, and the numbers of a mask. The numbers of the parts
 // come by position, as reading a record hands them out.
 #![tactic(auto)]
+
 ghost use Rattle.std.specs.Prelude.{◌≡◌, ◌≤◌, length};
 ghost use Rattle.answer.specs.Outcome.{outcome, delivered};
 ghost use Rattle.record_numbers.specs.Numbering.{most_parts, named, names};

@@ -1,6 +1,7 @@
 // Whether a machine can be made of blocks as they are given: the structure of the blocks, their sizes, and their path counts one after another
 // (02, §10).
 #![tactic(auto)]
+
 ghost use Rattle.std.specs.Prelude.{◌≡◌, ◌≤◌, length};
 ghost use Rattle.answer.specs.declared.Verdict.TheVariants.{Accepted};
 ghost use Rattle.theory_blocks.specs.Blocks.{parts_in};

@@ -1,0 +1,16 @@
+-- `drawing_reading::stands` meets its contract: the bytes are compared one by one, where there is room for all of them.
+-- Assumes nothing.
+use mathlib.Core.Path.{◌≡◌, sym, ap, ◌∙◌}
+use Prim.Native.Nat.{◌+◌, ◌-◌, ◌≤◌}
+use native.Mathlib.Omega.{arith}
+use lib.ListN.{length, take, drop}
+use borrow.Author.Rules.{rules}
+use Rattle.drawing_text.specs.Forms.{same_bytes}
+use Rattle.drawing_reading.proofs.Keywords.{Left, compared_none, compared_more, compared_other, compared_all, no_room}
+use Rattle.drawing_reading.proofs.stands.Given as goal
+
+abbrev pub invariant-loop-i : goal.invariant-loop-i
+invariant-loop-i l = (l.i ≤ length l.word) × (same_bytes (take (length l.word - l.i) (drop (l.at + l.i) l.text)) (drop l.i l.word) ≡ same_bytes (take (length l.word) (drop l.at l.text)) l.word)
+
+abbrev pub decreases-loop-i : goal.decreases-loop-i
+decreases-loop-i l = length l.word - l.i

@@ -1,6 +1,7 @@
 // Lists of sets (01, "Structures" and "Records on disk"): the minimal sets of one, also with a set added, and what is left of one without a
 // group of parts.
 #![tactic(auto)]
+
 ghost use Rattle.std.specs.Prelude.{◌≡◌, [], ◌∷◌, ◌++◌, ◌≤◌, length};
 ghost use Rattle.answer.specs.Outcome.{outcome, delivered};
 ghost use Rattle.theory_sets.specs.Structures.{listed, minimal_sets};

@@ -1,6 +1,7 @@
 // Opening a design record (01, "Records on disk"): the whole record is checked as a reader checks it, and what it says is handed out, its sets in
 // an array, for those who work on them.
 #![tactic(auto)]
+
 ghost use Rattle.std.specs.Prelude.{◌≡◌, ℕ, ◌≤◌, ◌<◌};
 ghost use mathlib.Core.List.{Memᴰ};
 ghost use Rattle.theory_orders.specs.Antichains.{most_sets};

@@ -1,5 +1,6 @@
 // The path counts of a machine made of blocks, from the structure of its blocks and the path counts of each (02, §10; 003, section 3).
 #![tactic(auto)]
+
 ghost use Rattle.std.specs.Prelude.{◌≡◌, cond, ℕ, ◌+◌, ◌-◌, ◌^◌, ◌≤◌, ◌<◌, min, eqb, pos, nat_abs, length, get_or, replicate};
 ghost use Rattle.numbers.specs.Counts.{choose};
 ghost use Rattle.numbers.specs.Tables.{tabulate, NoneOver};

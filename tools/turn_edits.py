@@ -20,7 +20,12 @@ import respell  # noqa: E402
 
 OLD = "aadb557"
 BY_HAND = {
+    "answer/short_buffer_written.edit",
     "blocks_checks/place_in_the_joined_list.edit",
+    "codec/end_before_last_group.edit",
+    "masks/others_skipped.edit",
+    "record_parts/only_part_taken_out.edit",
+    "record_parts/spent_before_full.edit",
     "record_reader/moved_says_the_same_place.edit",
     "record_reader/new_says_the_beginning.edit",
     "record_reader/next_says_the_beginning.edit",

@@ -14,7 +14,6 @@ use Rattle.numbers.proofs.Tables.{tabulate_length, tabulate_at}
 use Rattle.theory_sets.specs.Structures.{Semicoherent, listed}
 use Rattle.theory_sets.specs.Tables.{in_table, table_of}
 use Rattle.theory_sets.proofs.Structures.{semicoherent_same}
-use Rattle.theory_orders.specs.Counting.{count}
 use Rattle.theory_orders.specs.Formulas.{path_count}
 use Rattle.answer.specs.Outcome.{outcome}
 use Rattle.answer.specs.declared.Verdict.TheVariants.{Accepted, Refused}

@@ -1,5 +1,6 @@
 // The report of a design record of either edition (01, "The report program"; 02, §8).
 #![tactic(auto)]
+
 ghost use Rattle.std.specs.Prelude.{◌≡◌, ◌≤◌, length};
 ghost use Rattle.answer.specs.Outcome.{outcome};
 ghost use Rattle.answer.specs.Placed.{placed};

@@ -134,7 +134,6 @@ back_passed [] none = refl
 back_passed (number ∷ numbers) none = absurd (omega (arith, none))
 
 -- ---- what the part list answers, and what it means for the design
-
 module _ (v : Verdict) (list : PartList) (result : Changed) (number : ℕ) (given : result.answer ≡ numbered.Number number) where
   unless_refused_lem : (why : Refusal) → (parts.unless v list result).answer ≡ numbered.Refused why → v ≡ Refused why
   unless_refused_lem why = cases v

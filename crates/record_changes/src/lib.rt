@@ -1,6 +1,7 @@
 // Changes of design records (01, "Records on disk"; 02, §2 and §8): records to start from, the four changes of record bytes, and conversions to
 // the other edition. The whole record is checked as a reader checks it, then the change, then the new record is written in its edition.
 #![tactic(auto)]
+
 ghost use Rattle.std.specs.Prelude.{◌≡◌, [], ◌∷◌, ◌+◌, ◌≤◌, length, take};
 ghost use Rattle.numbers.specs.Tables.{tabulate};
 ghost use Rattle.theory_sets.specs.Structures.{listed};

@@ -115,12 +115,12 @@ module _ (n : ℕ) (outer inner : ℕ → Bool) (third j : ℕ) where
       inward true b = sum_below_same _ _ (2 ^ n) (λ a ha. term true (holds a b) (mark a))
       inward false b = sym (sum_below_same _ (λ a. 0) (2 ^ n) (λ a ha. mul-zero (mark a)) ∙ sum_below_zero (2 ^ n))
 
-  module _ (few : n ≤ 16) (lanes marked cells : List ℕ) (is-lanes : lanes ≡ tabulate 17 (lane_of third)) (is-marked : marked ≡ tabulate (2 ^ n) (mark_of outer lanes))
+  module _ (few : n ≤ 16) (lanes marked cells : List ℕ) (is-lanes : lanes ≡ tabulate 17 (lane_of third)) (is_marked : marked ≡ tabulate (2 ^ n) (mark_of outer lanes))
       (is-swept : cells ≡ tabulate (2 ^ n) (swept n (λ a. get_or marked a 0))) where
     marked_at : (a : ℕ) → a < 2 ^ n → get_or marked a 0 ≡ mark a
     unfolding mark_of mark
     marked_at a h =
-        ap (λ (xs : List ℕ). get_or xs a 0) is-marked ∙ tabulate_at (2 ^ n) (mark_of outer lanes) a 0 h
+        ap (λ (xs : List ℕ). get_or xs a 0) is_marked ∙ tabulate_at (2 ^ n) (mark_of outer lanes) a 0 h
         ∙ ap (λ (x : ℕ). indicator (outer a) * x)
         (ap (λ (xs : List ℕ). get_or xs (size a) 0) is-lanes ∙ tabulate_at 17 (lane_of third) (size a) 0 (omega (arith, ones-le n a h)))
 
@@ -158,12 +158,12 @@ packed_fits n outer inner third j few =
     omega (arith, pairs_few n outer inner (3 * third) j few, pairs_few n outer inner (3 * third + 1) j few, pairs_few n outer inner (3 * third + 2) j few)
 
 module _ (n : ℕ) (outer inner : ℕ → Bool) (third : ℕ) (few : n ≤ 16) (lanes marked cells : List ℕ) (is-lanes : lanes ≡ tabulate 17 (lane_of third))
-    (is-marked : marked ≡ tabulate (2 ^ n) (mark_of outer lanes)) (is-swept : cells ≡ tabulate (2 ^ n) (swept n (λ a. get_or marked a 0))) where
+    (is_marked : marked ≡ tabulate (2 ^ n) (mark_of outer lanes)) (is-swept : cells ≡ tabulate (2 ^ n) (swept n (λ a. get_or marked a 0))) where
   pub cells_long : length cells ≡ 2 ^ n
   cells_long = ap length is-swept ∙ tabulate_length (2 ^ n) _
 
   pairs_of : (j : ℕ) → cells_by_size inner cells (length cells) j ≡ packed_pairs n outer inner third j
-  pairs_of j = ap (λ (t : ℕ). cells_by_size inner cells t j) cells_long ∙ gathered_pairs n outer inner third j few lanes marked cells is-lanes is-marked is-swept
+  pairs_of j = ap (λ (t : ℕ). cells_by_size inner cells t j) cells_long ∙ gathered_pairs n outer inner third j few lanes marked cells is-lanes is_marked is-swept
 
   pub cells_fit : Fits inner cells
   cells_fit j = lt_of_le_of_lt (le_of_eq (pairs_of j)) (packed_fits n outer inner third j few)

@@ -83,9 +83,9 @@ overflow_mul-sum c =
     let read : (rows : List ℕ) → let last = c.args.last in get_or rows (17 * last + c.loop-i.i) 0 ≡ row_at rows last c.loop-i.i =
     λ rows. sym (row_at_lem rows c.args.last c.loop-i.i (omega (arith, inside, c.requires.k_bound))) in
     -- and its product with the others' count is small
-    let times-running : let a = c.args in let i = c.loop-i.i in get_or a.running.now (17 * a.last + i) 0 * cells_of a.with.now (a.k - i) ≤ 12870 * 12870 =
+    let times_running : let a = c.args in let i = c.loop-i.i in get_or a.running.now (17 * a.last + i) 0 * cells_of a.with.now (a.k - i) ≤ 12870 * 12870 =
     rw (read c.args.running.now) (running_times c.requires.joining c.loop-i.i (c.args.k - c.loop-i.i)) in
-    omega (arith, times-running)
+    omega (arith, times_running)
 
 pub overflow_add-sum-in-loop-i : goal.overflow_add-sum-in-loop-i
 overflow_add-sum-in-loop-i c =
@@ -142,9 +142,9 @@ overflow_mul-sum-in-loop-i c =
     -- what is read is what the block's row has at i
     let read : (rows : List ℕ) → let last = c.args.last in get_or rows (17 * last + c.loop-i.i) 0 ≡ row_at rows last c.loop-i.i =
     λ rows. sym (row_at_lem rows c.args.last c.loop-i.i (omega (arith, inside, c.requires.k_bound))) in
-    let times-stopped : let a = c.args in let i = c.loop-i.i in get_or a.stopped.now (17 * a.last + i) 0 * cells_of a.without.now (a.k - i) ≤ 12870 * 12870 =
+    let times_stopped : let a = c.args in let i = c.loop-i.i in get_or a.stopped.now (17 * a.last + i) 0 * cells_of a.without.now (a.k - i) ≤ 12870 * 12870 =
     rw (read c.args.stopped.now) (stopped_times c.requires.joining c.loop-i.i (c.args.k - c.loop-i.i)) in
-    omega (arith, times-stopped)
+    omega (arith, times_stopped)
 
 pub overflow_add-sum-in-loop-i-2 : goal.overflow_add-sum-in-loop-i-2
 overflow_add-sum-in-loop-i-2 c =
@@ -156,11 +156,11 @@ overflow_add-sum-in-loop-i-2 c =
     let read : (rows : List ℕ) → let last = c.args.last in get_or rows (17 * last + c.loop-i.i) 0 ≡ row_at rows last c.loop-i.i =
     λ rows. sym (row_at_lem rows c.args.last c.loop-i.i (omega (arith, inside, c.requires.k_bound))) in
     -- and its product with the others' count is small
-    let times-running : let a = c.args in let i = c.loop-i.i in get_or a.running.now (17 * a.last + i) 0 * cells_of a.with.now (a.k - i) ≤ 12870 * 12870 =
+    let times_running : let a = c.args in let i = c.loop-i.i in get_or a.running.now (17 * a.last + i) 0 * cells_of a.with.now (a.k - i) ≤ 12870 * 12870 =
     rw (read c.args.running.now) (running_times c.requires.joining c.loop-i.i (c.args.k - c.loop-i.i)) in
-    let times-stopped : let a = c.args in let i = c.loop-i.i in get_or a.stopped.now (17 * a.last + i) 0 * cells_of a.without.now (a.k - i) ≤ 12870 * 12870 =
+    let times_stopped : let a = c.args in let i = c.loop-i.i in get_or a.stopped.now (17 * a.last + i) 0 * cells_of a.without.now (a.k - i) ≤ 12870 * 12870 =
     rw (read c.args.stopped.now) (stopped_times c.requires.joining c.loop-i.i (c.args.k - c.loop-i.i)) in
-    omega (arith, times-running, times-stopped)
+    omega (arith, times_running, times_stopped)
 
 pub overflow_add-sum-in-loop-i-3 : goal.overflow_add-sum-in-loop-i-3
 overflow_add-sum-in-loop-i-3 c =
@@ -172,11 +172,11 @@ overflow_add-sum-in-loop-i-3 c =
     let read : (rows : List ℕ) → let last = c.args.last in get_or rows (17 * last + c.loop-i.i) 0 ≡ row_at rows last c.loop-i.i =
     λ rows. sym (row_at_lem rows c.args.last c.loop-i.i (omega (arith, inside, c.requires.k_bound))) in
     -- and its product with the others' count is small
-    let times-running : let a = c.args in let i = c.loop-i.i in get_or a.running.now (17 * a.last + i) 0 * cells_of a.with.now (a.k - i) ≤ 12870 * 12870 =
+    let times_running : let a = c.args in let i = c.loop-i.i in get_or a.running.now (17 * a.last + i) 0 * cells_of a.with.now (a.k - i) ≤ 12870 * 12870 =
     rw (read c.args.running.now) (running_times c.requires.joining c.loop-i.i (c.args.k - c.loop-i.i)) in
-    let times-stopped : let a = c.args in let i = c.loop-i.i in get_or a.stopped.now (17 * a.last + i) 0 * cells_of a.without.now (a.k - i) ≤ 12870 * 12870 =
+    let times_stopped : let a = c.args in let i = c.loop-i.i in get_or a.stopped.now (17 * a.last + i) 0 * cells_of a.without.now (a.k - i) ≤ 12870 * 12870 =
     rw (read c.args.stopped.now) (stopped_times c.requires.joining c.loop-i.i (c.args.k - c.loop-i.i)) in
-    omega (arith, times-running, times-stopped, c.loop-i.invariant.1.1, inside, c.requires.k_bound)
+    omega (arith, times_running, times_stopped, c.loop-i.invariant.1.1, inside, c.requires.k_bound)
 
 pub overflow_step-i : goal.overflow_step-i
 overflow_step-i c =
@@ -197,9 +197,9 @@ loop-i-preserved c =
     let read : (rows : List ℕ) → let last = c.args.last in get_or rows (17 * last + c.loop-i.i) 0 ≡ row_at rows last c.loop-i.i =
     λ rows. sym (row_at_lem rows c.args.last c.loop-i.i (omega (arith, inside, c.requires.k_bound))) in
     -- and its product with the others' count is small
-    let times-running : let a = c.args in let i = c.loop-i.i in get_or a.running.now (17 * a.last + i) 0 * cells_of a.with.now (a.k - i) ≤ 12870 * 12870 =
+    let times_running : let a = c.args in let i = c.loop-i.i in get_or a.running.now (17 * a.last + i) 0 * cells_of a.with.now (a.k - i) ≤ 12870 * 12870 =
     rw (read c.args.running.now) (running_times c.requires.joining c.loop-i.i (c.args.k - c.loop-i.i)) in
-    let times-stopped : let a = c.args in let i = c.loop-i.i in get_or a.stopped.now (17 * a.last + i) 0 * cells_of a.without.now (a.k - i) ≤ 12870 * 12870 =
+    let times_stopped : let a = c.args in let i = c.loop-i.i in get_or a.stopped.now (17 * a.last + i) 0 * cells_of a.without.now (a.k - i) ≤ 12870 * 12870 =
     rw (read c.args.stopped.now) (stopped_times c.requires.joining c.loop-i.i (c.args.k - c.loop-i.i)) in
     let a = c.args in
     let i = c.loop-i.i in
@@ -209,7 +209,7 @@ loop-i-preserved c =
         ap₂ (λ (u v : ℕ). u + v) c.loop-i.invariant.1.0
             (ap₂ (λ (u v : ℕ). u * cells_of a.with.now rest + v * cells_of a.without.now rest) (read a.running.now) (read a.stopped.now))
             ∙ ap (sum_below (joined_term a.last a.running.now a.stopped.now a.with.now a.without.now a.k)) (sym (add-one i)),
-        omega (arith, times-running, times-stopped, c.loop-i.invariant.1.1),
+        omega (arith, times_running, times_stopped, c.loop-i.invariant.1.1),
       ),
     )
 

@@ -51,7 +51,11 @@ whole_counts-counts-requires c =
     let a = c.args in accepted.long ∙ start_parts a.sizes.now a.blocks in
     let a = c.args in
     let blocks : length a.sizes.now ≡ a.blocks = accepted.enough in
-    let parts : length a.vectors.now - a.blocks ≡ parts_in (size_at a.sizes.now) a.blocks = omega (arith, entries) in record { vectors_value = ap (λ (r : ℕ). blocks_refusal r a.table.now a.sizes.now a.vectors.now) blocks ∙ passed; parts_value = parts ∙ ap (parts_in (size_at a.sizes.now)) (sym blocks) }
+    let parts : length a.vectors.now - a.blocks ≡ parts_in (size_at a.sizes.now) a.blocks = omega (arith, entries) in
+    record {
+      vectors_value = ap (λ (r : ℕ). blocks_refusal r a.table.now a.sizes.now a.vectors.now) blocks ∙ passed;
+      parts_value = parts ∙ ap (parts_in (size_at a.sizes.now)) (sym blocks);
+    }
 
 pub slice_bounds-counts-end : goal.slice_bounds-counts-end
 slice_bounds-counts-end c =

@@ -72,7 +72,7 @@ copy_counts-requires c =
     -- there is room for the row, and nothing stands there yet
     let room : 17 * c.loop-b.b + 17 ≤ length {A = ℕ} (replicate 272 0) =
     omega (arith, c.loop-b-test.true, c.requires.sizes_len_bound) in
-    let still-none : let from : ℕ = 17 * c.loop-b.b in mid_of from (from + 17 - from) c.loop-b.rows ≡ replicate 17 0 =
+    let still_none : let from : ℕ = 17 * c.loop-b.b in mid_of from (from + 17 - from) c.loop-b.rows ≡ replicate 17 0 =
     let a = c.args in
     let from : ℕ = 17 * c.loop-b.b in
     let f = running_at a.sizes.now a.vectors.now in
@@ -80,7 +80,11 @@ copy_counts-requires c =
     part_old f (replicate 272 0) c.loop-b.rows from 17 c.loop-b.invariant.1.1 room s h ∙ get_or-replicate 272 (from + s) 0 0 (omega (arith, room))) in
     let b = c.loop-b.b in
     let size : size_at c.args.sizes.now b ≤ 16 = c.requires.by_index b c.loop-b-test.true in
-    let from = c.loop-b.start in record { vector_len_bound = omega (arith, length-take (from + size_at c.args.sizes.now b + 1 - from) (drop from c.args.vectors.now)); row_value = still-none }
+    let from = c.loop-b.start in
+    record {
+      vector_len_bound = omega (arith, length-take (from + size_at c.args.sizes.now b + 1 - from) (drop from c.args.vectors.now));
+      row_value = still_none;
+    }
 
 pub loop-b-preserved : goal.loop-b-preserved
 unfolding scaled_count unit_of

@@ -15,12 +15,22 @@ use Rattle.blocks.proofs.whole_counts.Goals as goal
 pub running_counts-running-requires : goal.running_counts-running-requires
 running_counts-running-requires c =
     let a = c.args in
-    let judged = c.requires.vectors_value in record { sizes_len_bound = blocks_few a.table.now a.sizes.now a.vectors.now judged; by_index = sizes_few a.table.now a.sizes.now a.vectors.now judged; vectors_len = vectors_long a.table.now a.sizes.now a.vectors.now judged }
+    let judged = c.requires.vectors_value in
+    record {
+      sizes_len_bound = blocks_few a.table.now a.sizes.now a.vectors.now judged;
+      by_index = sizes_few a.table.now a.sizes.now a.vectors.now judged;
+      vectors_len = vectors_long a.table.now a.sizes.now a.vectors.now judged;
+    }
 
 pub stopped_counts-stopped-requires : goal.stopped_counts-stopped-requires
 stopped_counts-stopped-requires c =
     let a = c.args in
-    let judged = c.requires.vectors_value in record { sizes_len_bound = blocks_few a.table.now a.sizes.now a.vectors.now judged; by_index = sizes_few a.table.now a.sizes.now a.vectors.now judged; by_index_2 = running_most a.table.now a.sizes.now a.vectors.now judged c.running_counts-running.result c.running_counts-running.ensures }
+    let judged = c.requires.vectors_value in
+    record {
+      sizes_len_bound = blocks_few a.table.now a.sizes.now a.vectors.now judged;
+      by_index = sizes_few a.table.now a.sizes.now a.vectors.now judged;
+      by_index_2 = running_most a.table.now a.sizes.now a.vectors.now judged c.running_counts-running.result c.running_counts-running.ensures;
+    }
 
 pub folded-counts-requires : goal.folded-counts-requires
 folded-counts-requires c =
@@ -28,7 +38,13 @@ folded-counts-requires c =
     let a = c.args in
     both_rows a.table.now a.sizes.now a.vectors.now c.requires.vectors_value c.running_counts-running.result c.running_counts-running.ensures _ c.stopped_counts-stopped.ensures in
     let sizes = c.args.sizes.now in
-    let few = blocks_few c.args.table.now sizes c.args.vectors.now c.requires.vectors_value in record { both_rows = both; blocks_in_bounds = le_refl (length sizes); parts_value = c.requires.parts_value; blocks_bound = le_trans (le_of_eq (zero-add (2 ^ length sizes))) (pow_mono few) }
+    let few = blocks_few c.args.table.now sizes c.args.vectors.now c.requires.vectors_value in
+    record {
+      both_rows = both;
+      blocks_in_bounds = le_refl (length sizes);
+      parts_value = c.requires.parts_value;
+      blocks_bound = le_trans (le_of_eq (zero-add (2 ^ length sizes))) (pow_mono few);
+    }
 
 pub signed-requires : goal.signed-requires
 signed-requires c =

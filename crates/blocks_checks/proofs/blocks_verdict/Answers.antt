@@ -19,18 +19,22 @@ use Rattle.blocks_checks.proofs.blocks_verdict.Goals as goal
 pub returns-then-sizes-blocks : goal.returns-then-sizes-blocks
 unfolding blocks_refusal
 returns-then-sizes-blocks c =
-    let table-right : let a = c.args in table_refusal a.blocks a.table.now ≡ Accepted =
+    let table_right : let a = c.args in table_refusal a.blocks a.table.now ≡ Accepted =
     sym c.table_verdict-checked.ensures ∙ c.in-Accepted.is in
     c.refused.ensures
-    ∙ sym (then_passed _ table-right ∙ refuse_held _ wrong_vector_length 0 _ (ap not (ne_eqb _ _ c.if-sizes-blocks.true)))
+    ∙ sym (then_passed _ table_right ∙ refuse_held _ wrong_vector_length 0 _ (ap not (ne_eqb _ _ c.if-sizes-blocks.true)))
 
 pub counts_verdict-requires : goal.counts_verdict-requires
 counts_verdict-requires c =
-    let table-right : let a = c.args in table_refusal a.blocks a.table.now ≡ Accepted =
+    let table_right : let a = c.args in table_refusal a.blocks a.table.now ≡ Accepted =
     sym c.table_verdict-checked.ensures ∙ c.in-Accepted.is in
     let sizes_right : let sizes = c.args.sizes.now in sizes_refusal sizes (length sizes) ≡ Accepted =
     sym c.sizes_verdict-sized.ensures ∙ c.in-Accepted-sized.is in
-    let a = c.args in record { sizes_len_bound = omega (arith, (accepted_table a.blocks a.table.now table-right).few, c.if-sizes-blocks.false); sizes_value = sizes_right }
+    let a = c.args in
+    record {
+      sizes_len_bound = omega (arith, (accepted_table a.blocks a.table.now table_right).few, c.if-sizes-blocks.false);
+      sizes_value = sizes_right;
+    }
 
 pub returns-in-Refused : goal.returns-in-Refused
 unfolding blocks_refusal
@@ -40,24 +44,24 @@ returns-in-Refused c =
 pub returns-in-Refused-sized : goal.returns-in-Refused-sized
 unfolding blocks_refusal
 returns-in-Refused-sized c =
-    let table-right : let a = c.args in table_refusal a.blocks a.table.now ≡ Accepted =
+    let table_right : let a = c.args in table_refusal a.blocks a.table.now ≡ Accepted =
     sym c.table_verdict-checked.ensures ∙ c.in-Accepted.is in
     -- what is left to check where the table is right and there is a size for each block
     let left : let a = c.args in let sizes = a.sizes.now in blocks_refusal a.blocks a.table.now sizes a.vectors.now ≡ and_then (sizes_refusal sizes (length sizes)) (block_counts_refusal (length sizes) sizes a.vectors.now) =
     let a = c.args in
-    then_passed _ table-right ∙ refuse_passed _ wrong_vector_length 0 _ (ap not (eq-eqb _ _ c.if-sizes-blocks.false))
+    then_passed _ table_right ∙ refuse_passed _ wrong_vector_length 0 _ (ap not (eq-eqb _ _ c.if-sizes-blocks.false))
     ∙ ap (λ (r : ℕ). and_then (sizes_refusal a.sizes.now r) (block_counts_refusal r a.sizes.now a.vectors.now)) (sym c.if-sizes-blocks.false) in
     sym (left ∙ then_refused _ (sym c.sizes_verdict-sized.ensures ∙ c.in-Refused-sized.is))
 
 pub returns-in-Accepted-sized : goal.returns-in-Accepted-sized
 unfolding blocks_refusal
 returns-in-Accepted-sized c =
-    let table-right : let a = c.args in table_refusal a.blocks a.table.now ≡ Accepted =
+    let table_right : let a = c.args in table_refusal a.blocks a.table.now ≡ Accepted =
     sym c.table_verdict-checked.ensures ∙ c.in-Accepted.is in
     -- what is left to check where the table is right and there is a size for each block
     let left : let a = c.args in let sizes = a.sizes.now in blocks_refusal a.blocks a.table.now sizes a.vectors.now ≡ and_then (sizes_refusal sizes (length sizes)) (block_counts_refusal (length sizes) sizes a.vectors.now) =
     let a = c.args in
-    then_passed _ table-right ∙ refuse_passed _ wrong_vector_length 0 _ (ap not (eq-eqb _ _ c.if-sizes-blocks.false))
+    then_passed _ table_right ∙ refuse_passed _ wrong_vector_length 0 _ (ap not (eq-eqb _ _ c.if-sizes-blocks.false))
     ∙ ap (λ (r : ℕ). and_then (sizes_refusal a.sizes.now r) (block_counts_refusal r a.sizes.now a.vectors.now)) (sym c.if-sizes-blocks.false) in
     let sizes_right : let sizes = c.args.sizes.now in sizes_refusal sizes (length sizes) ≡ Accepted =
     sym c.sizes_verdict-sized.ensures ∙ c.in-Accepted-sized.is in

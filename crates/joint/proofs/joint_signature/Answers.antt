@@ -23,7 +23,11 @@ write_square-requires c =
     let passed : and_then (joint_refusal c.args.n c.args.first.now c.args.second.now) (room c.cells_needed-count.result (length c.args.cells.now)) ≡ Accepted =
     sym c.judge-judged.ensures ∙ c.in-Accepted.is in
     let a = c.args in
-    let both = then_accepted (joint_refusal a.n a.first.now a.second.now) _ passed in record { second_value = both.0; n_in_bounds = subst (λ (x : ℕ). x ≤ length a.cells.now) (count both.0) (room_accepted c.cells_needed-count.result (length a.cells.now) both.1) }
+    let both = then_accepted (joint_refusal a.n a.first.now a.second.now) _ passed in
+    record {
+      second_value = both.0;
+      n_in_bounds = subst (λ (x : ℕ). x ≤ length a.cells.now) (count both.0) (room_accepted c.cells_needed-count.result (length a.cells.now) both.1);
+    }
 
 pub returns-in-Refused : goal.returns-in-Refused
 returns-in-Refused c =

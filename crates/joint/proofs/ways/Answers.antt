@@ -15,7 +15,9 @@ overflow_mul-result c =
     ap₂ (λ (x y : ℕ). x * y) (c.factorial.ensures ∙ up_to_16_given c.args.before _ (omega (arith, c.requires)))
     (c.factorial-2.ensures ∙ up_to_16_given c.args.between _ (omega (arith, c.requires))) in
     let a = c.args in
-    record { fits = lt_of_le_of_lt (le_trans (le_of_eq first_two) (ways_few a.before a.between a.behind c.requires).0) (omega arith) }
+    record {
+      fits = lt_of_le_of_lt (le_trans (le_of_eq first_two) (ways_few a.before a.between a.behind c.requires).0) (omega arith);
+    }
 
 pub overflow_mul-result-2 : goal.overflow_mul-result-2
 overflow_mul-result-2 c =
@@ -25,7 +27,9 @@ overflow_mul-result-2 c =
     let all_three : c.factorial.result * c.factorial-2.result * c.factorial-3.result ≡ factorial c.args.before * factorial c.args.between * factorial c.args.behind =
     ap₂ (λ (x y : ℕ). x * y) first_two (c.factorial-3.ensures ∙ up_to_16_given c.args.behind _ (omega (arith, c.requires))) in
     let a = c.args in
-    record { fits = lt_of_le_of_lt (le_trans (le_of_eq all_three) (ways_few a.before a.between a.behind c.requires).1) (omega arith) }
+    record {
+      fits = lt_of_le_of_lt (le_trans (le_of_eq all_three) (ways_few a.before a.between a.behind c.requires).1) (omega arith);
+    }
 
 pub returns : goal.returns
 returns c =

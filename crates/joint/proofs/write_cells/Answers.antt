@@ -28,7 +28,11 @@ nonzero_rem-c c =
 
 pub cell-requires : goal.cell-requires
 cell-requires c =
-    record { counted = c.requires.counted; k_lt_n = square_row c.args.n c.loop-c.c c.loop-c-test.true; l_lt_n = square_column c.args.n c.loop-c.c c.loop-c-test.true }
+    record {
+      counted = c.requires.counted;
+      k_lt_n = square_row c.args.n c.loop-c.c c.loop-c-test.true;
+      l_lt_n = square_column c.args.n c.loop-c.c c.loop-c-test.true;
+    }
 
 pub offset_bounds-cells-c : goal.offset_bounds-cells-c
 offset_bounds-cells-c c =

@@ -33,14 +33,14 @@ one_third-requires c =
     -- there is room for the row, and nothing stands there yet
     let room : 17 * c.loop-third.third + 17 ≤ length {A = ℕ} (replicate 102 0) =
     omega (arith, c.loop-third-test.true) in
-    let still-none : mid_of (17 * c.loop-third.third) (17 * c.loop-third.third + 17 - 17 * c.loop-third.third) c.loop-third.sums ≡ replicate 17 0 =
+    let still_none : mid_of (17 * c.loop-third.third) (17 * c.loop-third.third + 17 - 17 * c.loop-third.third) c.loop-third.sums ≡ replicate 17 0 =
     let a = c.args in
     let from : ℕ = 17 * c.loop-third.third in
     let f = packed_at a.n a.outer.now a.inner.now in
     tabulate_unique 17 (λ s. 0) _ 0 (part_length f (replicate 102 0) c.loop-third.sums from 17 c.loop-third.invariant.1.1 (room)) (λ s h.
     part_old f (replicate 102 0) c.loop-third.sums from 17 c.loop-third.invariant.1.1 (room) s h
     ∙ get_or-replicate 102 (from + s) 0 0 (omega (arith, c.loop-third-test.true))) in
-    record { n_bound = c.requires.n_bound; cells_len = c.loop-third.invariant.1.0; sums_value = still-none }
+    record { n_bound = c.requires.n_bound; cells_len = c.loop-third.invariant.1.0; sums_value = still_none }
 
 pub overflow_step-third : goal.overflow_step-third
 overflow_step-third c =

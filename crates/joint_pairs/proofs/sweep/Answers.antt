@@ -31,7 +31,12 @@ pub sweep_part-requires : goal.sweep_part-requires
 sweep_part-requires c =
     let long : length c.loop-part.cells ≡ 2 ^ c.args.n =
     ap length c.loop-part.invariant.1 ∙ tabulate_length (2 ^ c.args.n) _ in
-    record { n_bound = c.requires.n_bound; part_lt_n = c.loop-part-test.true; cells_len = long; none_over = few c.args.n c.loop-part.part c.args.cells.now c.loop-part.cells c.requires.n_bound c.loop-part.invariant.0 c.requires.none_over c.loop-part.invariant.1 }
+    record {
+      n_bound = c.requires.n_bound;
+      part_lt_n = c.loop-part-test.true;
+      cells_len = long;
+      none_over = few c.args.n c.loop-part.part c.args.cells.now c.loop-part.cells c.requires.n_bound c.loop-part.invariant.0 c.requires.none_over c.loop-part.invariant.1;
+    }
 
 pub overflow_step-part : goal.overflow_step-part
 overflow_step-part c =

@@ -148,7 +148,12 @@ add_upper-requires c =
     let a = c.args in
     let half = c.power_of_two-half.result in
     let from : ℕ = 2 * half * c.loop-block.block in
-    let f = swept a.part a.cells.now in record { cells_len = part_length f a.cells.now c.loop-block.cells from (2 * half) c.loop-block.invariant.1.1.1 (room_in); half_bound = omega (arith, room); none_over = part_few f a.cells.now c.loop-block.cells from (2 * half) c.loop-block.invariant.1.1.1 (room_in) (2 ^ 62) c.requires.none_over }
+    let f = swept a.part a.cells.now in
+    record {
+      cells_len = part_length f a.cells.now c.loop-block.cells from (2 * half) c.loop-block.invariant.1.1.1 (room_in);
+      half_bound = omega (arith, room);
+      none_over = part_few f a.cells.now c.loop-block.cells from (2 * half) c.loop-block.invariant.1.1.1 (room_in) (2 ^ 62) c.requires.none_over;
+    }
 
 pub overflow_step-block : goal.overflow_step-block
 overflow_step-block c =

@@ -16,7 +16,9 @@ overflow_mul-result c =
     let a = c.args in
     ap (λ (x : ℕ). a.k * x) (c.binomial.ensures ∙ up_to_16_given (a.m + a.j) (choose (a.m + a.j) a.k) (omega (arith, c.requires.n_bound, c.requires.j_bound))) in
     let a = c.args in
-    record { fits = omega (arith, divisor, divisor_few a.n a.m a.k a.j c.requires.n_bound c.requires.le_k c.requires.k_le_m c.requires.j_bound) }
+    record {
+      fits = omega (arith, divisor, divisor_few a.n a.m a.k a.j c.requires.n_bound c.requires.le_k c.requires.k_le_m c.requires.j_bound);
+    }
 
 pub nonzero_div-result : goal.nonzero_div-result
 nonzero_div-result c =

@@ -21,8 +21,8 @@ use Rattle.shares_claim.proofs.Sums.{carried_none, carried_more, row_below, plac
 use Rattle.shares_by_polynomial.proofs.FromCells.{common_some, factorial_small, cell_term, cell_size, cells_most, taken_fewer, share_number, next_row, cell_apart, cell_size_lem}
 use Rattle.shares_by_polynomial.proofs.share_from_cells.Goals as goal
 
-end-few : (n m : ℕ) → n ≤ 16 → m ≤ n → m * row_length n m ≤ 289
-end-few n m most h =
+end_few : (n m : ℕ) → n ≤ 16 → m ≤ n → m * row_length n m ≤ 289
+end_few n m most h =
     let rows : m ≤ 17 = omega arith in
     let row : row_length n m ≤ 17 = omega arith in
     mul-le-mul rows row
@@ -37,7 +37,7 @@ overflow_add-row c =
 
 pub overflow_mul-end : goal.overflow_mul-end
 overflow_mul-end c =
-    record { fits = omega (arith, end-few c.args.n c.args.m c.requires.n_bound c.requires.m_le_n) }
+    record { fits = omega (arith, end_few c.args.n c.args.m c.requires.n_bound c.requires.m_le_n) }
 
 pub loop-c-init : goal.loop-c-init
 unfolding sum_below
@@ -59,12 +59,19 @@ cell_weight-weight-requires c =
     let a = c.args in
     let l = row_length a.n a.m in
     let row = row_below c.loop-c.c a.m l (omega arith) inner in
-    let place = place_below c.loop-c.c l (omega arith) in record { n_bound = c.requires.n_bound; le_k = c.requires.le_k; k_le_m = c.requires.k_le_m; i_lt_m = subst (λ (x : ℕ). c.loop-c.c / x < a.m) (sym c.loop-c.invariant.rows) row; j_bound = subst (λ (x : ℕ). a.m + c.loop-c.c % x ≤ a.n) (sym c.loop-c.invariant.rows) (omega (arith, c.requires.m_le_n)) }
+    let place = place_below c.loop-c.c l (omega arith) in
+    record {
+      n_bound = c.requires.n_bound;
+      le_k = c.requires.le_k;
+      k_le_m = c.requires.k_le_m;
+      i_lt_m = subst (λ (x : ℕ). c.loop-c.c / x < a.m) (sym c.loop-c.invariant.rows) row;
+      j_bound = subst (λ (x : ℕ). a.m + c.loop-c.c % x ≤ a.n) (sym c.loop-c.invariant.rows) (omega (arith, c.requires.m_le_n));
+    }
 
 pub overflow_add-c : goal.overflow_add-c
 overflow_add-c c =
     let short : c.loop-c.c ≤ 289 =
-    le_trans c.loop-c.invariant.within (le_trans (le_of_eq c.loop-c.invariant.ends) (end-few c.args.n c.args.m c.requires.n_bound c.requires.m_le_n)) in
+    le_trans c.loop-c.invariant.within (le_trans (le_of_eq c.loop-c.invariant.ends) (end_few c.args.n c.args.m c.requires.n_bound c.requires.m_le_n)) in
     omega (arith, short, c.loop-c.invariant.rows, c.requires.n_bound)
 
 pub overflow_mul-added : goal.overflow_mul-added
@@ -172,7 +179,7 @@ overflow_add-taken c =
 pub overflow_step-c : goal.overflow_step-c
 overflow_step-c c =
     let short : c.loop-c.c ≤ 289 =
-    le_trans c.loop-c.invariant.within (le_trans (le_of_eq c.loop-c.invariant.ends) (end-few c.args.n c.args.m c.requires.n_bound c.requires.m_le_n)) in
+    le_trans c.loop-c.invariant.within (le_trans (le_of_eq c.loop-c.invariant.ends) (end_few c.args.n c.args.m c.requires.n_bound c.requires.m_le_n)) in
     omega (arith, short)
 
 pub loop-c-preserved : goal.loop-c-preserved

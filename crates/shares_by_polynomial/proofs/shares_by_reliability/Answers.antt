@@ -20,7 +20,13 @@ write_shares-requires c =
     let a = c.args in
     let works = in_table a.table.now in
     let found = found_given a.n a.table.now a.group (replicate 289 (pos 0)) _ c.reliability-found.result refl c.reliability-found.ensures _ c.in-Length.is in
-    let group = accepted_group a.n a.table.now a.group found.accepted in record { n_bound = group.few; m_le_n = le_trans (le_of_eq c.size-m.ensures) (ones-le a.n a.group group.within); bounded = coefficients_bounded a.n works a.group group.within _ _ found.stands c.size-m.result c.size-m.ensures; by_index = shares_in_range a.n works a.group group.within _ _ found.stands c.size-m.result c.size-m.ensures group.coherent }
+    let group = accepted_group a.n a.table.now a.group found.accepted in
+    record {
+      n_bound = group.few;
+      m_le_n = le_trans (le_of_eq c.size-m.ensures) (ones-le a.n a.group group.within);
+      bounded = coefficients_bounded a.n works a.group group.within _ _ found.stands c.size-m.result c.size-m.ensures;
+      by_index = shares_in_range a.n works a.group group.within _ _ found.stands c.size-m.result c.size-m.ensures group.coherent;
+    }
 
 pub returns-in-Refused : goal.returns-in-Refused
 returns-in-Refused c =

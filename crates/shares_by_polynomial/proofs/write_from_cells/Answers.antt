@@ -26,7 +26,15 @@ overflow_add-k c =
 pub share_from_cells-requires : goal.share_from_cells-requires
 share_from_cells-requires c =
     let some : 1 ≤ c.loop-k.k + 1 = omega arith in
-    let most : c.loop-k.k + 1 ≤ c.args.m = omega arith in record { n_bound = c.requires.n_bound; m_le_n = c.requires.m_le_n; le_k = some; k_le_m = most; bounded = c.requires.bounded; in_range = c.requires.by_index (c.loop-k.k + 1) some most }
+    let most : c.loop-k.k + 1 ≤ c.args.m = omega arith in
+    record {
+      n_bound = c.requires.n_bound;
+      m_le_n = c.requires.m_le_n;
+      le_k = some;
+      k_le_m = most;
+      bounded = c.requires.bounded;
+      in_range = c.requires.by_index (c.loop-k.k + 1) some most;
+    }
 
 pub offset_bounds-shares-k : goal.offset_bounds-shares-k
 offset_bounds-shares-k c =

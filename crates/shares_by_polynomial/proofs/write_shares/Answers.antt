@@ -18,7 +18,13 @@ returns-then-shares-m c =
 
 pub write_from_cells-requires : goal.write_from_cells-requires
 write_from_cells-requires c =
-    record { n_bound = c.requires.n_bound; m_le_n = c.requires.m_le_n; bounded = c.requires.bounded; by_index = c.requires.by_index; m_in_bounds = c.if-shares-m.false }
+    record {
+      n_bound = c.requires.n_bound;
+      m_le_n = c.requires.m_le_n;
+      bounded = c.requires.bounded;
+      by_index = c.requires.by_index;
+      m_in_bounds = c.if-shares-m.false;
+    }
 
 pub returns : goal.returns
 returns c =

@@ -33,7 +33,9 @@ overflow_mul-result c =
     ap₂ (λ (x y : ℕ). x * y) c.size.ensures
     (listed_weight c.args.n c.args.weights.now c.requires.weights_value c.size-2.result _ few c.size-2.ensures) in
     let a = c.args in
-    record { fits = omega (arith, product, added_by_few a.n a.group a.a c.requires.n_bound c.requires.group_bound c.requires.a_bound) }
+    record {
+      fits = omega (arith, product, added_by_few a.n a.group a.a c.requires.n_bound c.requires.group_bound c.requires.a_bound);
+    }
 
 pub returns : goal.returns
 unfolding added_by

@@ -47,7 +47,9 @@ overflow_mul-result c =
     ap₂ (λ (x y : ℕ). x * y) (ap₂ (λ (x y : ℕ). x - y) c.size.ensures c.size-2.ensures)
     (listed_weight c.args.n c.args.weights.now c.requires.weights_value (c.size-3.result + 1) _ few (ap (λ (s : ℕ). s + 1) c.size-3.ensures)) in
     let a = c.args in
-    record { fits = omega (arith, product, taken_by_few a.n a.group a.a c.requires.n_bound c.requires.group_bound c.requires.a_bound) }
+    record {
+      fits = omega (arith, product, taken_by_few a.n a.group a.a c.requires.n_bound c.requires.group_bound c.requires.a_bound);
+    }
 
 pub returns : goal.returns
 unfolding taken_by

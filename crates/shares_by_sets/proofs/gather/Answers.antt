@@ -30,7 +30,15 @@ loop-a-init c =
 
 pub add_set-requires : goal.add_set-requires
 add_set-requires c =
-    let few : 2 ^ c.args.n ≤ 65536 = pow_mono c.requires.n_bound in record { n_bound = c.requires.n_bound; group_bound = lt_of_lt_of_le c.requires.group_bound few; a_bound = lt_of_lt_of_le (subst (λ (e : ℕ). c.loop-a.a < e) c.loop-a.invariant.0 c.loop-a-test.true) few; weights_value = c.requires.weights_value; added_value = c.loop-a.invariant.1.1.0; taken_value = c.loop-a.invariant.1.1.1 }
+    let few : 2 ^ c.args.n ≤ 65536 = pow_mono c.requires.n_bound in
+    record {
+      n_bound = c.requires.n_bound;
+      group_bound = lt_of_lt_of_le c.requires.group_bound few;
+      a_bound = lt_of_lt_of_le (subst (λ (e : ℕ). c.loop-a.a < e) c.loop-a.invariant.0 c.loop-a-test.true) few;
+      weights_value = c.requires.weights_value;
+      added_value = c.loop-a.invariant.1.1.0;
+      taken_value = c.loop-a.invariant.1.1.1;
+    }
 
 pub loop-a-preserved : goal.loop-a-preserved
 loop-a-preserved c =
@@ -49,4 +57,8 @@ returns c =
     -- the pass is over
     let done : c.loop-a.a ≡ 2 ^ c.args.n =
     le_antisymm c.loop-a.invariant.1.0 c.loop-a-test.false ∙ c.loop-a.invariant.0 in
-    let a = c.args in record { added_after = c.loop-a.invariant.1.1.0 ∙ ap (sums a.words.now a.group (added_by a.n a.group)) done; taken_after = c.loop-a.invariant.1.1.1 ∙ ap (sums a.words.now a.group (taken_by a.n a.group)) done }
+    let a = c.args in
+    record {
+      added_after = c.loop-a.invariant.1.1.0 ∙ ap (sums a.words.now a.group (added_by a.n a.group)) done;
+      taken_after = c.loop-a.invariant.1.1.1 ∙ ap (sums a.words.now a.group (taken_by a.n a.group)) done;
+    }

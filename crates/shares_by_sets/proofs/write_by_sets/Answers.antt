@@ -11,12 +11,23 @@ use Rattle.shares_by_sets.proofs.write_by_sets.Goals as goal
 pub gather-requires : goal.gather-requires
 unfolding tabulate
 gather-requires c =
-    record { n_bound = c.requires.n_bound; group_bound = c.requires.group_bound; weights_value = c.weights-weights.ensures; added_value = refl; taken_value = refl }
+    record {
+      n_bound = c.requires.n_bound;
+      group_bound = c.requires.group_bound;
+      weights_value = c.weights-weights.ensures;
+      added_value = refl;
+      taken_value = refl;
+    }
 
 pub write_differences-requires : goal.write_differences-requires
 write_differences-requires c =
     let a = c.args in
-    let works = in_words c.load-words.result in record { m_in_bounds = subst (λ (m : ℕ). m ≤ length a.shares.now) (sym c.size-m.ensures) c.requires.group_in_bounds; by_index = added_small a.n works a.group c.requires.n_bound c.requires.group_bound _ c.gather.ensures.added_after; by_index_2 = taken_small a.n works a.group c.requires.n_bound c.requires.group_bound _ c.gather.ensures.taken_after }
+    let works = in_words c.load-words.result in
+    record {
+      m_in_bounds = subst (λ (m : ℕ). m ≤ length a.shares.now) (sym c.size-m.ensures) c.requires.group_in_bounds;
+      by_index = added_small a.n works a.group c.requires.n_bound c.requires.group_bound _ c.gather.ensures.added_after;
+      by_index_2 = taken_small a.n works a.group c.requires.n_bound c.requires.group_bound _ c.gather.ensures.taken_after;
+    }
 
 pub returns : goal.returns
 returns c =

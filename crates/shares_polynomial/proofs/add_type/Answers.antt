@@ -27,26 +27,26 @@ overflow_sub-outside c =
 
 pub overflow_mul-inside : goal.overflow_mul-inside
 overflow_mul-inside c =
-    let type-is : c.size-inside.result * 17 + (c.size.result - c.size-inside.result) ≡ type_of c.args.group c.args.a =
+    let type_is : c.size-inside.result * 17 + (c.size.result - c.size-inside.result) ≡ type_of c.args.group c.args.a =
     ap₂ (λ (x y : ℕ). x * 17 + (y - x)) c.size-inside.ensures c.size.ensures in
     let low : c.size-inside.result * 17 + (c.size.result - c.size-inside.result) < 289 =
-    omega (arith, type-is, type_few c.args.group c.args.a c.requires.group_bound c.requires.a_bound) in
+    omega (arith, type_is, type_few c.args.group c.args.a c.requires.group_bound c.requires.a_bound) in
     omega (arith, low)
 
 pub overflow_add-inside : goal.overflow_add-inside
 overflow_add-inside c =
-    let type-is : c.size-inside.result * 17 + (c.size.result - c.size-inside.result) ≡ type_of c.args.group c.args.a =
+    let type_is : c.size-inside.result * 17 + (c.size.result - c.size-inside.result) ≡ type_of c.args.group c.args.a =
     ap₂ (λ (x y : ℕ). x * 17 + (y - x)) c.size-inside.ensures c.size.ensures in
     let low : c.size-inside.result * 17 + (c.size.result - c.size-inside.result) < 289 =
-    omega (arith, type-is, type_few c.args.group c.args.a c.requires.group_bound c.requires.a_bound) in
+    omega (arith, type_is, type_few c.args.group c.args.a c.requires.group_bound c.requires.a_bound) in
     omega (arith, low)
 
 pub returns : goal.returns
 returns c =
-    let type-is : c.size-inside.result * 17 + (c.size.result - c.size-inside.result) ≡ type_of c.args.group c.args.a =
+    let type_is : c.size-inside.result * 17 + (c.size.result - c.size-inside.result) ≡ type_of c.args.group c.args.a =
     ap₂ (λ (x y : ℕ). x * 17 + (y - x)) c.size-inside.ensures c.size.ensures in
     let a = c.args in
     gathered_add (in_words a.words.now) (type_of a.group) (λ b. 1) 289 a.a 1 (λ b h. le_of_eq refl) (omega (arith, c.requires.a_bound)) a.counts.now _ _ 1
     c.requires.counts_value
     (sym c.works.ensures ∙ c.if-not-works.false)
-    (type_few a.group a.a c.requires.group_bound c.requires.a_bound) type-is refl c.add.ensures
+    (type_few a.group a.a c.requires.group_bound c.requires.a_bound) type_is refl c.add.ensures

@@ -15,8 +15,8 @@ use Rattle.shares_polynomial.proofs.coefficient.Goals as goal
 use Rattle.shares_polynomial.proofs.coefficient.Goals.{then-i-a-eq0, else-i-a-eq0}
 
 -- there are at most 17 × 17 terms
-end-few : (n m i j : ℕ) → n ≤ 16 → m ≤ n → i ≤ m → j ≤ n - m → (j + 1) * (i + 1) ≤ 289
-end-few n m i j most h k l =
+end_few : (n m i j : ℕ) → n ≤ 16 → m ≤ n → i ≤ m → j ≤ n - m → (j + 1) * (i + 1) ≤ 289
+end_few n m i j most h k l =
     let rows : j + 1 ≤ 17 = omega arith in
     let row : i + 1 ≤ 17 = omega arith in
     mul-le-mul rows row
@@ -32,7 +32,9 @@ overflow_add-end-2 c =
 pub overflow_mul-end : goal.overflow_mul-end
 overflow_mul-end c =
     let a = c.args in
-    record { fits = omega (arith, end-few a.n a.m a.i a.j c.requires.n_bound c.requires.m_le_n c.requires.i_le_m c.requires.j_bound) }
+    record {
+      fits = omega (arith, end_few a.n a.m a.i a.j c.requires.n_bound c.requires.m_le_n c.requires.i_le_m c.requires.j_bound);
+    }
 
 pub loop-t-init : goal.loop-t-init
 loop-t-init c =
@@ -63,7 +65,15 @@ type_term-term-requires c =
     let a = c.args in
     let below = place_below c.loop-t.t (a.i + 1) (omega arith) in
     omega arith in
-    record { n_bound = c.requires.n_bound; m_le_n = c.requires.m_le_n; i_le_m = c.requires.i_le_m; j_bound = c.requires.j_bound; a_le_i = place; b_le_j = row; none_over = c.requires.none_over }
+    record {
+      n_bound = c.requires.n_bound;
+      m_le_n = c.requires.m_le_n;
+      i_le_m = c.requires.i_le_m;
+      j_bound = c.requires.j_bound;
+      a_le_i = place;
+      b_le_j = row;
+      none_over = c.requires.none_over;
+    }
 
 pub overflow_sub-i : goal.overflow_sub-i
 overflow_sub-i c =
@@ -96,7 +106,7 @@ overflow_add-added c =
     let a = c.args in
     le_trans c.loop-t.invariant.within
     (le_trans (le_of_eq c.loop-t.invariant.ends)
-    (end-few a.n a.m a.i a.j c.requires.n_bound c.requires.m_le_n c.requires.i_le_m c.requires.j_bound)) in
+    (end_few a.n a.m a.i a.j c.requires.n_bound c.requires.m_le_n c.requires.i_le_m c.requires.j_bound)) in
     omega (arith, few, short, c.loop-t.invariant.few_added)
 
 pub overflow_add-taken : goal.overflow_add-taken
@@ -109,7 +119,7 @@ overflow_add-taken c =
     let a = c.args in
     le_trans c.loop-t.invariant.within
     (le_trans (le_of_eq c.loop-t.invariant.ends)
-    (end-few a.n a.m a.i a.j c.requires.n_bound c.requires.m_le_n c.requires.i_le_m c.requires.j_bound)) in
+    (end_few a.n a.m a.i a.j c.requires.n_bound c.requires.m_le_n c.requires.i_le_m c.requires.j_bound)) in
     omega (arith, few, short, c.loop-t.invariant.few_taken)
 
 pub overflow_step-t : goal.overflow_step-t
@@ -118,7 +128,7 @@ overflow_step-t c =
     let a = c.args in
     le_trans c.loop-t.invariant.within
     (le_trans (le_of_eq c.loop-t.invariant.ends)
-    (end-few a.n a.m a.i a.j c.requires.n_bound c.requires.m_le_n c.requires.i_le_m c.requires.j_bound)) in
+    (end_few a.n a.m a.i a.j c.requires.n_bound c.requires.m_le_n c.requires.i_le_m c.requires.j_bound)) in
     omega (arith, short)
 
 odd : (x : ℕ) → (x % 2 ≡ 0 → ⊥) → x % 2 ≡ 1
@@ -169,7 +179,7 @@ returns c =
     let a = c.args in
     le_trans c.loop-t.invariant.within
     (le_trans (le_of_eq c.loop-t.invariant.ends)
-    (end-few a.n a.m a.i a.j c.requires.n_bound c.requires.m_le_n c.requires.i_le_m c.requires.j_bound)) in
+    (end_few a.n a.m a.i a.j c.requires.n_bound c.requires.m_le_n c.requires.i_le_m c.requires.j_bound)) in
     let a = c.args in
     let done : c.loop-t.t ≡ (a.j + 1) * (a.i + 1) = le_antisymm c.loop-t.invariant.within c.loop-t-test.false ∙ c.loop-t.invariant.ends in
     to_z-of_z {w = w64} (record { sfits = c.difference.type_inv }) ∙ c.difference.ensures

@@ -27,7 +27,12 @@ slice_bounds-add_type-end c =
 
 pub add_type-requires : goal.add_type-requires
 add_type-requires c =
-    let few : 2 ^ c.args.n ≤ 65536 = pow_mono c.requires.n_bound in record { group_bound = lt_of_lt_of_le c.requires.group_bound few; a_bound = lt_of_lt_of_le (subst (λ (e : ℕ). c.loop-a.a < e) c.loop-a.invariant.0 c.loop-a-test.true) few; counts_value = c.loop-a.invariant.1.1 }
+    let few : 2 ^ c.args.n ≤ 65536 = pow_mono c.requires.n_bound in
+    record {
+      group_bound = lt_of_lt_of_le c.requires.group_bound few;
+      a_bound = lt_of_lt_of_le (subst (λ (e : ℕ). c.loop-a.a < e) c.loop-a.invariant.0 c.loop-a-test.true) few;
+      counts_value = c.loop-a.invariant.1.1;
+    }
 
 pub loop-a-preserved : goal.loop-a-preserved
 loop-a-preserved c =

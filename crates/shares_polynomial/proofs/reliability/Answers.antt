@@ -29,7 +29,12 @@ write_reliability-requires c =
     sym c.judge-judged.ensures ∙ c.in-Accepted.is in
     let a = c.args in
     let both = then_accepted (shares_refusal a.n a.table.now a.group) _ passed in
-    let group = accepted_group a.n a.table.now a.group both.0 in record { n_bound = group.few; group_bound = group.within; group_in_bounds = subst (λ (x : ℕ). x ≤ length a.cells.now) (count both.0) (room_accepted c.cells_needed-count.result (length a.cells.now) both.1) }
+    let group = accepted_group a.n a.table.now a.group both.0 in
+    record {
+      n_bound = group.few;
+      group_bound = group.within;
+      group_in_bounds = subst (λ (x : ℕ). x ≤ length a.cells.now) (count both.0) (room_accepted c.cells_needed-count.result (length a.cells.now) both.1);
+    }
 
 pub returns-in-Refused : goal.returns-in-Refused
 returns-in-Refused c =

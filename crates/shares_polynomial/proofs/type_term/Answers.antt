@@ -32,9 +32,9 @@ overflow_mul-result-2 c =
     let a = c.args in
     mul-le-mul (le_trans (le_of_eq first) (choose_small (a.m - a.a) (a.i - a.a) (omega (arith, c.requires.n_bound, c.requires.m_le_n))))
     (le_trans (le_of_eq second) (choose_small (a.n - a.m - a.b) (a.j - a.b) (omega (arith, c.requires.n_bound)))) in
-    let whole-few : c.binomial.result * c.binomial-2.result * c.cell.result ≤ 2 ^ 48 =
+    let whole_few : c.binomial.result * c.binomial-2.result * c.cell.result ≤ 2 ^ 48 =
     mul-le-mul few (le_trans (le_of_eq c.cell.ensures) (c.requires.none_over (c.args.a * 17 + c.args.b))) in
-    record { fits = omega (arith, whole-few) }
+    record { fits = omega (arith, whole_few) }
 
 pub returns : goal.returns
 unfolding type_term

@@ -51,7 +51,14 @@ coefficient-requires c =
     let a = c.args in
     let l = row_length a.n a.m in
     let row = row_below c.loop-c.c (a.m + 1) l (omega arith) inner in
-    let place = place_below c.loop-c.c l (omega arith) in record { n_bound = c.requires.n_bound; m_le_n = c.requires.m_le_n; i_le_m = subst (λ (x : ℕ). c.loop-c.c / x ≤ a.m) (sym c.loop-c.invariant.0) (omega arith); j_bound = subst (λ (x : ℕ). c.loop-c.c % x ≤ a.n - a.m) (sym c.loop-c.invariant.0) (omega arith); none_over = c.requires.none_over }
+    let place = place_below c.loop-c.c l (omega arith) in
+    record {
+      n_bound = c.requires.n_bound;
+      m_le_n = c.requires.m_le_n;
+      i_le_m = subst (λ (x : ℕ). c.loop-c.c / x ≤ a.m) (sym c.loop-c.invariant.0) (omega arith);
+      j_bound = subst (λ (x : ℕ). c.loop-c.c % x ≤ a.n - a.m) (sym c.loop-c.invariant.0) (omega arith);
+      none_over = c.requires.none_over;
+    }
 
 pub offset_bounds-cells-c : goal.offset_bounds-cells-c
 offset_bounds-cells-c c =

@@ -1,6 +1,7 @@
 // Changes of design records by part numbers: the parts are looked up in the record, and then it is changed where they stand. Positions move when
 // a part leaves, part numbers never do.
 #![tactic(auto)]
+
 ghost use Rattle.std.specs.Prelude.{◌≡◌};
 ghost use Rattle.answer.specs.Outcome.{outcome};
 ghost use Rattle.record_lines.specs.Changes.{take_out, take_out_group, add_set};

@@ -1,0 +1,38 @@
+-- `record_by_number::position_of` meets its contract: the numbers of the contents are those of the record's design.
+-- Assumes nothing.
+use mathlib.Core.Path.{◌∙◌}
+use native.Mathlib.Omega.{arith}
+use Rattle.record_naming.specs.Naming.{found_position}
+use Rattle.record_by_number.specs.Parts.{part_position}
+use Rattle.record_by_number.proofs.Looking.{DesignSeen, looked_refused, looked_design, numbers_room, numbers_counted, looked_up_lem}
+use Rattle.record_by_number.proofs.position_of.Goals as goal
+
+pub returns-in-Refused : goal.returns-in-Refused
+unfolding part_position
+returns-in-Refused c =
+    let a = c.args in
+    looked_refused a.bytes.now (λ i. omega (arith, c.shared_slice_known-1.given i)) c.whole_record-contents.result c.whole_record-contents.ensures _ c.in-Refused.is
+    (λ numbers. found_position numbers a.number)
+
+pub slice_bounds-numbers-end : goal.slice_bounds-numbers-end
+slice_bounds-numbers-end c =
+    -- the design of an accepted record
+    let seen : DesignSeen c.args.bytes.now c.whole_record-contents.result =
+    looked_design c.args.bytes.now (λ i. omega (arith, c.shared_slice_known-1.given i)) c.whole_record-contents.result c.whole_record-contents.ensures c.in_default.is in
+    numbers_room seen
+
+pub slice_bounds-position-end : goal.slice_bounds-position-end
+slice_bounds-position-end c =
+    -- the design of an accepted record
+    let seen : DesignSeen c.args.bytes.now c.whole_record-contents.result =
+    looked_design c.args.bytes.now (λ i. omega (arith, c.shared_slice_known-1.given i)) c.whole_record-contents.result c.whole_record-contents.ensures c.in_default.is in
+    numbers_counted seen
+
+pub returns : goal.returns
+unfolding part_position
+returns c =
+    -- the design of an accepted record
+    let seen : DesignSeen c.args.bytes.now c.whole_record-contents.result =
+    looked_design c.args.bytes.now (λ i. omega (arith, c.shared_slice_known-1.given i)) c.whole_record-contents.result c.whole_record-contents.ensures c.in_default.is in
+    let a = c.args in
+    c.position.ensures ∙ looked_up_lem seen (λ numbers. found_position numbers a.number)

@@ -1,6 +1,7 @@
 // A design record of either edition as a text of the drawing tool (02, §1): the text's length is worked out first, and it is written where there
 // is room for all of it.
 #![tactic(auto)]
+
 ghost use Rattle.std.specs.Prelude.{◌≡◌, [], ◌∷◌, ◌+◌, ◌≤◌, ◌<◌, length};
 ghost use Rattle.answer.specs.Outcome.{outcome, delivered};
 ghost use Rattle.answer.specs.Placed.{placed};

@@ -667,16 +667,16 @@ fn of_step(step: Step) -> NextSet
     }
 }
 
-fn of_entries_read(entriesDelivered: EntriesRead) -> Sheet
-    ensures { result ≡ of_entries_read entries_delivered }
+fn of_entries_read(read: EntriesRead) -> Sheet
+    ensures { result ≡ of_entries_read read }
 {
-    let written = entriesDelivered.answer;
+    let written = read.answer;
     let answer = of_written(written);
-    let kind = entriesDelivered.kind;
+    let kind = read.kind;
     Sheet {
         number: answer.number,
         value: answer.value,
         kind: kind.number(),
-        n: entriesDelivered.n,
+        n: read.n,
     }
 }

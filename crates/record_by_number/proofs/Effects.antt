@@ -108,7 +108,7 @@ module _ (bytes : List ℕ) (d : Design) (next : ℕ) (small : Bytes bytes) (rea
       named_single (position - 1) numbers (omega (arith, p.0, p.1, counted)) ∙ ap (λ (x : ℕ). x ∷ []) p.2 in
       subst (λ (o : Outcome Written (List ℕ)). Leave (number ∷ []) d o.buffer k) (sym t.same)
       (record {
-        in_use_lem = λ other i. in_named numbers (single position) (rw one i);
+        in_use = λ other i. in_named numbers (single position) (rw one i);
         new = design_without (single position) d;
         read = m.accepted_again;
         without = rw one at (without_group (single position) d rules (take_out_accepted position d m.accepted).left);
@@ -123,7 +123,7 @@ module _ (bytes : List ℕ) (d : Design) (next : ℕ) (small : Bytes bytes) (rea
       let m = made (take_out_group group) buffer k (ap (λ (o : Outcome Written (List ℕ)). o.answer) (sym t.same) ∙ e) in
       subst (λ (o : Outcome Written (List ℕ)). Leave wanted d o.buffer k) (sym t.same)
       (record {
-        in_use_lem = λ number i. in_named numbers group ((wanted_named wanted group t.given number).1 i);
+        in_use = λ number i. in_named numbers group ((wanted_named wanted group t.given number).1 i);
         new = design_without group d;
         read = m.accepted_again;
         without = without_order (named numbers group) wanted (wanted_named wanted group t.given) (without_group group d rules (group_out_accepted group d m.accepted).2);
@@ -138,7 +138,7 @@ module _ (bytes : List ℕ) (d : Design) (next : ℕ) (small : Bytes bytes) (rea
       let m = made (add_set mask) buffer k (ap (λ (o : Outcome Written (List ℕ)). o.answer) (sym t.same) ∙ e) in
       subst (λ (o : Outcome Written (List ℕ)). SetComes wanted d o.buffer k) (sym t.same)
       (record {
-        in_use_lem = λ number i. in_named numbers mask ((wanted_named wanted mask t.given number).1 i);
+        in_use = λ number i. in_named numbers mask ((wanted_named wanted mask t.given number).1 i);
         new = changed (add_set mask) d;
         read = m.accepted_again;
         parts = refl;

@@ -12,7 +12,7 @@ use Rattle.record_groups.specs.Without.{Without}
 -- these are numbers of parts, and in front of a buffer stands the record of the design without them: their numbers are gone, with every set
 -- that named one of them, and all else is there
 pub record Leave (gone : List ℕ) (d : Design) (buffer : List ℕ) (length : ℕ) : Type 0 where
-  pub in_use_lem : (number : ℕ) → In number gone → In number (numbers_of d.parts)
+  pub in_use : (number : ℕ) → In number gone → In number (numbers_of d.parts)
   pub new : Design
   pub read : whole_record (take length buffer) ≡ found new length
   pub without : Without gone d new
@@ -20,7 +20,7 @@ pub record Leave (gone : List ℕ) (d : Design) (buffer : List ℕ) (length : �
 -- these are numbers of parts, and in front of a buffer stands the record of the design with the same parts, whose minimal sets are the least of
 -- the old ones and of one that has just the wanted numbers
 pub record SetComes (wanted : List ℕ) (d : Design) (buffer : List ℕ) (length : ℕ) : Type 0 where
-  pub in_use_lem : (number : ℕ) → In number wanted → In number (numbers_of d.parts)
+  pub in_use : (number : ℕ) → In number wanted → In number (numbers_of d.parts)
   pub new : Design
   pub read : whole_record (take length buffer) ≡ found new length
   pub parts : new.parts ≡ d.parts

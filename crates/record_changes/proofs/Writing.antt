@@ -116,7 +116,7 @@ forms_ten numbers small = forms_most 10 numbers (λ i. bytes_at_most 10 (get_or 
 -- ---- in an edition
 
 module _ (list : PartList) (sets retired buffer : List ℕ) (rules : DesignRules (design list sets)) where
-  -- a well_formed list is the list of its mark and its numbers
+  -- a well-formed list is the list of its mark and its numbers
   same_design : design (list_of list.mark (numbers_of list)) sets ≡ design list sets
   same_design = ap (λ (l : PartList). design l sets) (sym (well_formed_list list rules.parts))
 

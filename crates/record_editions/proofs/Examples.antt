@@ -160,9 +160,9 @@ sixty_five : whole_stored (0 ∷ 2 ∷ 1 ∷ 1 ∷ 1 ∷ 1 ∷ 1 ∷ 65 ∷ []) 
 unfolding whole_stored only_stored stored_at second_there record_at head_at parts_at fields_at field_at misplaced holds number_at number_in tail_at retired_at fresh_counts tabulate path_count sum_below listed some ones ones_in
 sixty_five = refl
 
-in_use_lem : whole_stored (0 ∷ 2 ∷ 1 ∷ 2 ∷ 1 ∷ 1 ∷ 1 ∷ 1 ∷ 1 ∷ []) ≡ refused (at 30 8)
+in_use : whole_stored (0 ∷ 2 ∷ 1 ∷ 2 ∷ 1 ∷ 1 ∷ 1 ∷ 1 ∷ 1 ∷ []) ≡ refused (at 30 8)
 unfolding whole_stored only_stored stored_at second_there record_at head_at parts_at fields_at field_at misplaced holds number_at number_in tail_at retired_at fresh_counts tabulate path_count sum_below listed some ones ones_in
-in_use_lem = refl
+in_use = refl
 
 above_the_mark : whole_stored (0 ∷ 2 ∷ 1 ∷ 2 ∷ 1 ∷ 1 ∷ 1 ∷ 1 ∷ 3 ∷ []) ≡ refused (at 30 8)
 unfolding whole_stored only_stored stored_at second_there record_at head_at parts_at fields_at field_at misplaced holds number_at number_in tail_at retired_at fresh_counts tabulate path_count sum_below listed some ones ones_in

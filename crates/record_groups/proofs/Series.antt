@@ -133,7 +133,7 @@ record Leads (part : Leaving) (bytes : List ℕ) (s : Stored) : Type 0 where
   pub next : ℕ
   pub read : whole_stored bytes ≡ found s next
   pub rules : DesignRules (design_of s)
-  pub in_use_lem : In part.number (numbers_of (design_of s).parts)
+  pub in_use : In part.number (numbers_of (design_of s).parts)
 
 module _ (part : Leaving) (bytes : List ℕ) (s : Stored) (f : Leads part bytes s) where
   abbrev d : Design
@@ -149,7 +149,7 @@ module _ (part : Leaving) (bytes : List ℕ) (s : Stored) (f : Leads part bytes 
   all = every (meets (group_of part bytes)) d.sets
 
   at_position : Traced 1 part.number numbers
-  at_position = traced 1 part.number numbers f.in_use_lem
+  at_position = traced 1 part.number numbers f.in_use
 
   position_is : position ≡ suc at_position.index
   position_is = ap (λ (x : Read Design). position_in x part.number) (stored_design bytes s f.next f.read) ∙ at_position.position ∙ omega arith
@@ -247,23 +247,23 @@ module _ (part : Leaving) (bytes : List ℕ) (s : Stored) (f : Leads part bytes 
 series_comes : (parts : List Leaving) (began bytes : List ℕ) (s : Stored) (next : ℕ) → whole_stored bytes ≡ found s next → StoredRules s → stored_bytes s ≡ bytes → Apart (leaving parts)
     → ((number : ℕ) → In number (leaving parts) → In number (numbers_of (design_of s).parts)) → NotShort (series_from began parts bytes)
     → Comes (leaving parts) s began (series_from began parts bytes)
-series_comes [] began bytes s next read r written apart in_use_lem fits =
+series_comes [] began bytes s next read r written apart in_use fits =
     let d : Design = design_of s in
     let rules = rules_design s r in
     record {
       refused = λ all. clash all (none_named (named (numbers_of d.parts)) d.sets rules.sets.some);
       left = λ some. (d, without_none d rules, ap (λ (l : List ℕ). record { verdict = Accepted; bytes = l }) (sym written) ∙ ap left_with (sym (filed_none s)));
     }
-series_comes (part ∷ parts) began bytes s next read r written apart in_use_lem fits =
+series_comes (part ∷ parts) began bytes s next read r written apart in_use fits =
     cases (every (meets (group_of part bytes)) (design_of s).sets) refl (λ some.
     let rest = middle part bytes s leads some in
     let rules = stored_rules (take_out (position part bytes s leads)) s r (accepted part bytes s leads some) in
     series_comes parts began (stored_bytes rest) rest _ (whole_stored_lem rest rules) rules refl apart.1
-    (λ number i. still_in_use part bytes s leads some number (in_use_lem number (Memᴰ.tail i)) (λ same. apart.0 (subst (λ (x : ℕ). In x (leaving parts)) same i)))
+    (λ number i. still_in_use part bytes s leads some number (in_use number (Memᴰ.tail i)) (λ same. apart.0 (subst (λ (x : ℕ). In x (leaving parts)) same i)))
     (subst NotShort (first_made part bytes s leads some parts began fits) fits))
   where
     leads : Leads part bytes s
-    leads = record { next = next; read = read; rules = rules_design s r; in_use_lem = in_use_lem part.number (Memᴰ.head refl) }
+    leads = record { next = next; read = read; rules = rules_design s r; in_use = in_use part.number (Memᴰ.head refl) }
 
     rest_of : Stored
     rest_of = changed_stored (take_out (position_in (whole_record bytes) part.number)) s

@@ -1,5 +1,5 @@
--- The part list of a record, read and written: what is found is well_formed and is the byte form of what it says, and the byte form of a
--- well_formed part list is found as that list.
+-- The part list of a record, read and written: what is found is well-formed and is the byte form of what it says, and the byte form of a
+-- well-formed part list is found as that list.
 -- Assumes nothing.
 use mathlib.Core.Path.{◌≡◌, refl, sym, ap, ◌∙◌, subst}
 use mathlib.Core.Bool.{Bool}

@@ -188,7 +188,7 @@ given_at (change ∷ changes) d allowed set m =
           at = refl;
           within = (set_accepted mask d accepted).0;
           same = same;
-          in_use_lem = λ number i. in_named (numbers_of d.parts) mask (rw same at i);
+          in_use = λ number i. in_named (numbers_of d.parts) mask (rw same at i);
         }
 
     behind : GivenInUse changes (changed change d) set → GivenInUse (change ∷ changes) d set
@@ -200,7 +200,7 @@ given_at (change ∷ changes) d allowed set m =
           at = ap (λ (cs : List Change). change ∷ cs) g.at;
           within = g.within;
           same = g.same;
-          in_use_lem = g.in_use_lem;
+          in_use = g.in_use;
         }
 
 -- Along every line from an accepted record, a set that was given was one of parts then in use.

@@ -114,7 +114,7 @@ pub record GivenInUse (changes : List Change) (d : Design) (set : List ℕ) : Ty
   pub at : changes ≡ earlier ++ (add_set mask ∷ later)
   pub within : mask < 2 ^ (design_after earlier d).parts.count
   pub same : set ≡ named (numbers_of (design_after earlier d).parts) mask
-  pub in_use_lem : (number : ℕ) → In number set → In number (numbers_of (design_after earlier d).parts)
+  pub in_use : (number : ℕ) → In number set → In number (numbers_of (design_after earlier d).parts)
 
 -- ---- the records themselves
 

@@ -57,7 +57,7 @@ line_append {first} {middle} {last} {issued} {issued'} {left} {left'} w one two 
           (Memᴰ.append_cases left i);
     }
 
--- Every line of changes from a well_formed list is a line.
+-- Every line of changes from a well-formed list is a line.
 pub line_of : (changes : List PartChange) (list : PartList) → WellFormed list → Line list (last_of changes list) (issued_by changes list) (left_by changes list)
 line_of [] list w = line_none list w
 line_of (c ∷ cs) list w =

@@ -1,4 +1,4 @@
--- One change of a well_formed part list, as a line of its own: a part more, a part or a group taken out, or nothing where it is
+-- One change of a well-formed part list, as a line of its own: a part more, a part or a group taken out, or nothing where it is
 -- refused.
 -- Assumes nothing.
 use mathlib.Core.Path.{◌≡◌, refl, sym, ap, ◌∙◌, subst}
@@ -197,7 +197,7 @@ by_group P list group made refused = cases (broken_refusal list) refl (take_out_
     cases Accepted whole (Refused r) e = refused r
     cases Accepted whole Accepted e = made (accepted_rules list.count list.mark (numbers_of list) whole) e
 
--- each change of a well_formed list is a line
+-- each change of a well-formed list is a line
 pub line_one : (c : PartChange) (list : PartList) → WellFormed list → Line list (apply c list).list (issued_in c list) (left_in c list)
 unfolding part_added taken_out
 line_one add_part list w =
@@ -213,7 +213,7 @@ line_one (take_out_group group) list w =
     (λ rules accepted. line_without list w group (take_out_group_accepted list group accepted).2)
     (λ r. line_none list w)
 
--- What a change gives is well_formed, whatever list it was handed: of a list with all its cells, spare ones that do not hold 0 among them.
+-- What a change gives is well-formed, whatever list it was handed: of a list with all its cells, spare ones that do not hold 0 among them.
 pub given_well_formed : (c : PartChange) (list : PartList) → length list.numbers ≡ most_parts → (apply c list).verdict ≡ Accepted → WellFormed (apply c list).list
 unfolding part_added taken_out
 given_well_formed add_part list all =

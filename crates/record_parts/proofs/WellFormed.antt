@@ -1,4 +1,4 @@
--- The constructors give well_formed part lists and give exactly those: a list is determined by its mark and its numbers, and these are
+-- The constructors give well-formed part lists and give exactly those: a list is determined by its mark and its numbers, and these are
 -- accepted exactly if they keep the rules.
 -- Assumes nothing.
 use mathlib.Core.Path.{◌≡◌, refl, sym, ap, ap₂, ◌∙◌}
@@ -30,7 +30,7 @@ list_well_formed mark numbers r =
       spare = ap cells_of (sym same);
     }
 
--- a well_formed list has as many numbers in use as it counts
+-- a well-formed list has as many numbers in use as it counts
 pub well_formed_counted : (list : PartList) → WellFormed list → length (numbers_of list) ≡ list.count
 well_formed_counted list w =
     let few : length (numbers_of list) ≤ list.count = rw (length-take) (min-le_left _ _) in
@@ -63,12 +63,12 @@ unfolding made
 made_list mark numbers e =
     ap (λ (v : Verdict). (listing v (list_of mark numbers)).list) (rules_accepted ((made_exactly mark numbers).0 e))
 
--- which is well_formed
+-- which is well-formed
 pub made_well_formed : (mark : ℕ) (numbers : List ℕ) → (made mark numbers).verdict ≡ Accepted → WellFormed (made mark numbers).list
 made_well_formed mark numbers e =
     rw (made_list mark numbers e) (list_well_formed mark numbers ((made_exactly mark numbers).0 e))
 
--- and every well_formed list is made, of its own mark and numbers
+-- and every well-formed list is made, of its own mark and numbers
 pub well_formed_made : (list : PartList) → WellFormed list → made list.mark (numbers_of list) ≡ listing Accepted list
 unfolding made
 well_formed_made list w =

@@ -15,7 +15,7 @@ number-requires c κs = search rules
 
 returns : tie.Need-returns
 returns c =
-    let entries_delivered = c.before.before.args.entries_delivered in
+    let entries_delivered = c.before.before.args.read in
     ap₂ (λ (answer : Answer) (kind : ℕ). record { number = answer.number; value = answer.value; kind = kind; n = entries_delivered.n }) c.before.of-written.ensures c.number.ensures
 
 pub of-entries-read-spec : {M : Type 1} → statement M

@@ -1,4 +1,4 @@
--- `record_changes::write_stored` meets its contract: a well_formed list is the list of its mark and its numbers, and in edition 2 the path counts are counted afresh.
+-- `record_changes::write_stored` meets its contract: a well-formed list is the list of its mark and its numbers, and in edition 2 the path counts are counted afresh.
 -- Assumes nothing.
 use mathlib.Core.Path.{◌≡◌, sym, ap, ◌∙◌}
 use mathlib.Core.List.{List}

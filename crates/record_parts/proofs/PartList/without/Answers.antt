@@ -26,17 +26,17 @@ module _ (start : Start) where
   all : length list.numbers ≡ most_parts
   all = cells_all list _ start.well_formed.0
 
-  in_use_lem : length (numbers_of list) ≡ list.count
-  in_use_lem = numbers_counted list all start.requires.count_le_most_parts
+  in_use : length (numbers_of list) ≡ list.count
+  in_use = numbers_counted list all start.requires.count_le_most_parts
 
   counted : length (others (numbers_of list) group) + size group ≡ list.count
-  counted = others_counted (numbers_of list) group (subst (λ (n : ℕ). group < 2 ^ n) (sym in_use_lem) start.requires.group_bound) ∙ in_use_lem
+  counted = others_counted (numbers_of list) group (subst (λ (n : ℕ). group < 2 ^ n) (sym in_use) start.requires.group_bound) ∙ in_use
 
 pub slice_bounds-numbers-end : goal.slice_bounds-numbers-end
 slice_bounds-numbers-end c = omega (arith, all (goal.at.slice_bounds-numbers-end c).Start, c.requires.count_le_most_parts)
 
 pub slice_bounds-cells-end : goal.slice_bounds-cells-end
-slice_bounds-cells-end c = sym (in_use_lem (goal.at.slice_bounds-cells-end c).Start)
+slice_bounds-cells-end c = sym (in_use (goal.at.slice_bounds-cells-end c).Start)
 
 pub overflow_sub-result : goal.overflow_sub-result
 overflow_sub-result c = omega (arith, counted (goal.at.overflow_sub-result c).Start, c.size.ensures)
@@ -48,5 +48,5 @@ returns c =
     let left = others (numbers_of whole) (group here) in
     let counts : whole.count - c.size.result ≡ length left = omega (arith, counted here, c.size.ensures) in
     let cells : c.cells-cells.result ≡ cells_of left =
-    c.cells-cells.ensures ∙ cells_few (numbers_of whole) (group here) (omega (arith, in_use_lem here, c.requires.count_le_most_parts)) in
+    c.cells-cells.ensures ∙ cells_few (numbers_of whole) (group here) (omega (arith, in_use here, c.requires.count_le_most_parts)) in
     ap₂ (λ (count : ℕ) (cells : List ℕ). record { count = count; mark = whole.mark; numbers = cells }) counts cells

@@ -1,6 +1,7 @@
 // A text of the drawing tool as a design record (02, §1). The text is read once, line by line: a byte that fits no form ends the reading, and
 // what refuses a line of the form is known at its end.
 #![tactic(auto)]
+
 ghost use Rattle.std.specs.Prelude.{true, ◌≡◌, [], map, ◌+◌, ◌*◌, ◌^◌, ◌≤◌, ◌<◌, length, get_or, take, drop};
 ghost use Rattle.answer.specs.Outcome.{outcome};
 ghost use Rattle.drawing_text.specs.Lines.{lines_of, first_line};

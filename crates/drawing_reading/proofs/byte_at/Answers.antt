@@ -2,7 +2,6 @@
 -- Assumes nothing.
 use mathlib.Core.Path.{sym}
 use lib.ListN.{get_or-eq_default}
-use borrow.Author.Rules.{rules}
 use Rattle.drawing_reading.proofs.byte_at.Goals as goal
 
 pub returns-then-text-at : goal.returns-then-text-at

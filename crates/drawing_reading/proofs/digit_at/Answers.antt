@@ -5,7 +5,6 @@ use mathlib.Core.Bool.{Bool, cond}
 use Prim.Native.Nat.{ℕ, ◌-◌, ◌<◌, ◌≤◌}
 use native.Mathlib.Omega.{arith}
 use lib.ListN.{get_or}
-use borrow.Author.Rules.{rules}
 use Rattle.drawing_text.proofs.Numerals.{digit_of, no_digit_low, no_digit_high}
 use Rattle.drawing_reading.proofs.digit_at.Goals as goal
 

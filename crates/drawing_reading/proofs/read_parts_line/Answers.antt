@@ -6,8 +6,6 @@ use mathlib.Core.List.{[], ◌∷◌}
 use Prim.Native.Nat.{◌+◌, ◌<◌}
 use native.Mathlib.Omega.{arith}
 use lib.ListN.{length, get_or, drop}
-use borrow.Author.Rules.{rules}
-use borrow.Author.Tests.{not-true, not-false}
 use Rattle.drawing_text.specs.Lines.{line_feed}
 use Rattle.drawing_text.specs.Forms.{space, parts_word}
 use Rattle.drawing_reading.proofs.Shown.{byte_here, NumeralRead, numeral_read, Shown, shown_none, shown_more}
@@ -22,29 +20,29 @@ pub returns-then-byte_at-ne32 : goal.returns-then-byte_at-ne32
 returns-then-byte_at-ne32 c =
     -- the keyword stands in front
     let keyword : Shown parts_word c.args.text.now 0 5 [] =
-        shown_none parts_word c.args.text.now 0 (sym c.stands.ensures ∙ c.if-not-stands.false) in
+    shown_none parts_word c.args.text.now 0 (sym c.stands.ensures ∙ c.if-not-stands.false) in
     parts_no_space c.args.text.now keyword (λ same. c.if-byte_at-ne32.true (c.byte_at.ensures ∙ same))
 
 pub returns-then-byte_at-ne10 : goal.returns-then-byte_at-ne10
 returns-then-byte_at-ne10 c =
     -- the keyword stands in front
     let keyword : Shown parts_word c.args.text.now 0 5 [] =
-        shown_none parts_word c.args.text.now 0 (sym c.stands.ensures ∙ c.if-not-stands.false) in
+    shown_none parts_word c.args.text.now 0 (sym c.stands.ensures ∙ c.if-not-stands.false) in
     -- a space stands behind it
     let spaced-here : get_or c.args.text.now 5 0 ≡ space =
-        sym c.byte_at.ensures ∙ c.if-byte_at-ne32.false in
+    sym c.byte_at.ensures ∙ c.if-byte_at-ne32.false in
     -- and a number behind that
     let read_number : NumeralRead c.args.text.now 6 c.in-Number.value c.in-Number.end =
-        numeral_read c.args.text.now 6 _ _ (sym c.in-Number.is ∙ c.read_numeral-number.ensures) in
+    numeral_read c.args.text.now 6 _ _ (sym c.in-Number.is ∙ c.read_numeral-number.ensures) in
     let numbered : Shown parts_word c.args.text.now 0 c.in-Number.end (read_number.number ∷ []) =
-        shown_more parts_word c.args.text.now 0 keyword spaced-here _ _ read_number in
+    shown_more parts_word c.args.text.now 0 keyword spaced-here _ _ read_number in
     parts_no_end c.args.text.now numbered (λ same. c.if-byte_at-ne10.true (c.byte_at-in-Number.ensures ∙ same))
 
 pub overflow_add-behind : goal.overflow_add-behind
 overflow_add-behind c =
     -- and a line feed behind the number
     let ended : (c.in-Number.end < length c.args.text.now) × (drop c.in-Number.end c.args.text.now ≡ line_feed ∷ drop (c.in-Number.end + 1) c.args.text.now) =
-        byte_here c.args.text.now c.in-Number.end line_feed (omega arith)
+    byte_here c.args.text.now c.in-Number.end line_feed (omega arith)
     (sym c.byte_at-in-Number.ensures ∙ c.if-byte_at-ne10.false) in
     omega (arith, ended.0)
 
@@ -52,23 +50,23 @@ pub returns-in-Malformed : goal.returns-in-Malformed
 returns-in-Malformed c =
     -- the keyword stands in front
     let keyword : Shown parts_word c.args.text.now 0 5 [] =
-        shown_none parts_word c.args.text.now 0 (sym c.stands.ensures ∙ c.if-not-stands.false) in
+    shown_none parts_word c.args.text.now 0 (sym c.stands.ensures ∙ c.if-not-stands.false) in
     -- a space stands behind it
     let spaced-here : get_or c.args.text.now 5 0 ≡ space =
-        sym c.byte_at.ensures ∙ c.if-byte_at-ne32.false in
+    sym c.byte_at.ensures ∙ c.if-byte_at-ne32.false in
     parts_no_number c.args.text.now keyword spaced-here (sym c.in-Malformed.is ∙ c.read_numeral-number.ensures)
 
 pub returns-else-byte_at-ne10 : goal.returns-else-byte_at-ne10
 returns-else-byte_at-ne10 c =
     -- the keyword stands in front
     let keyword : Shown parts_word c.args.text.now 0 5 [] =
-        shown_none parts_word c.args.text.now 0 (sym c.stands.ensures ∙ c.if-not-stands.false) in
+    shown_none parts_word c.args.text.now 0 (sym c.stands.ensures ∙ c.if-not-stands.false) in
     -- a space stands behind it
     let spaced-here : get_or c.args.text.now 5 0 ≡ space =
-        sym c.byte_at.ensures ∙ c.if-byte_at-ne32.false in
+    sym c.byte_at.ensures ∙ c.if-byte_at-ne32.false in
     -- and a number behind that
     let read_number : NumeralRead c.args.text.now 6 c.in-Number.value c.in-Number.end =
-        numeral_read c.args.text.now 6 _ _ (sym c.in-Number.is ∙ c.read_numeral-number.ensures) in
+    numeral_read c.args.text.now 6 _ _ (sym c.in-Number.is ∙ c.read_numeral-number.ensures) in
     let numbered : Shown parts_word c.args.text.now 0 c.in-Number.end (read_number.number ∷ []) =
-        shown_more parts_word c.args.text.now 0 keyword spaced-here _ _ read_number in
+    shown_more parts_word c.args.text.now 0 keyword spaced-here _ _ read_number in
     parts_read c.args.text.now numbered _ read_number.holds (sym c.byte_at-in-Number.ensures ∙ c.if-byte_at-ne10.false)

@@ -2,20 +2,16 @@
 -- what was gathered is gathered of them. The measure is what is left of the text. Each way out is one in which such a walk ends.
 -- Assumes nothing.
 use mathlib.Core.Path.{◌≡◌, sym, ap, ◌∙◌, subst}
-use mathlib.Core.List.{List, [], ◌∷◌, ◌++◌}
-use Prim.Native.Nat.{ℕ, ◌+◌, ◌-◌, ◌<◌}
+use mathlib.Core.List.{[], ◌∷◌, ◌++◌}
+use Prim.Native.Nat.{◌+◌, ◌<◌}
 use native.Mathlib.Omega.{arith}
 use lib.ListN.{length, get_or, drop}
-use borrow.Author.Rules.{rules}
-use borrow.Author.Tests.{not-true, not-false}
 use Rattle.drawing_text.specs.Lines.{line_feed}
 use Rattle.drawing_text.specs.Forms.{space, set_word}
-use Rattle.drawing_reading.specs.declared.Gathered.{Gathered}
 use Rattle.drawing_reading.specs.Inside.{with_position}
 use Rattle.drawing_reading.proofs.Positions.{Gathers, gathers_none, gathers_more, with_held}
-use Rattle.drawing_reading.proofs.Shown.{byte_here, NumeralRead, numeral_read, Shown, shown_none, keyword_inside, shown_more}
+use Rattle.drawing_reading.proofs.Shown.{byte_here, NumeralRead, numeral_read, shown_none, keyword_inside, shown_more}
 use Rattle.drawing_reading.proofs.LineReads.{set_no_keyword, set_no_number, set_no_position, set_no_end, set_read}
-use Rattle.drawing_reading.proofs.read_set_line.Invariants.{SetWalk}
 use Rattle.drawing_reading.proofs.read_set_line.Goals as goal
 
 pub returns-then-not-stands : goal.returns-then-not-stands
@@ -41,43 +37,43 @@ pub overflow_add-next : goal.overflow_add-next
 overflow_add-next c =
     -- a space stands at the position
     let spaced-here : get_or c.args.text.now c.loop-number.next 0 ≡ space =
-        sym c.byte_at.ensures ∙ c.loop-number-test.true in
+    sym c.byte_at.ensures ∙ c.loop-number-test.true in
     let spaced-inside : (c.loop-number.next < length c.args.text.now) × (drop c.loop-number.next c.args.text.now ≡ space ∷ drop (c.loop-number.next + 1) c.args.text.now) =
-        byte_here c.args.text.now c.loop-number.next space (omega arith) spaced-here in
+    byte_here c.args.text.now c.loop-number.next space (omega arith) spaced-here in
     omega (arith, spaced-inside.0)
 
 pub returns-in_default : goal.returns-in_default
 returns-in_default c =
     -- a space stands at the position
     let spaced-here : get_or c.args.text.now c.loop-number.next 0 ≡ space =
-        sym c.byte_at.ensures ∙ c.loop-number-test.true in
+    sym c.byte_at.ensures ∙ c.loop-number-test.true in
     let a = c.args in
     set_no_number a.text.now a.start a.n c.loop-number.invariant.shown spaced-here (sym c.in_default.is ∙ c.read_numeral-number.ensures)
 
 pub with-gathered-requires : goal.with-gathered-requires
 with-gathered-requires c =
-    record { n_bound = c.requires.n_bound; set_bound = c.loop-number.invariant.gathers.below; }
+    record { n_bound = c.requires.n_bound; set_bound = c.loop-number.invariant.gathers.below }
 
 pub loop-number-smaller : goal.loop-number-smaller
 loop-number-smaller c =
     -- a space stands at the position
     let spaced-here : get_or c.args.text.now c.loop-number.next 0 ≡ space =
-        sym c.byte_at.ensures ∙ c.loop-number-test.true in
+    sym c.byte_at.ensures ∙ c.loop-number-test.true in
     let spaced-inside : (c.loop-number.next < length c.args.text.now) × (drop c.loop-number.next c.args.text.now ≡ space ∷ drop (c.loop-number.next + 1) c.args.text.now) =
-        byte_here c.args.text.now c.loop-number.next space (omega arith) spaced-here in
+    byte_here c.args.text.now c.loop-number.next space (omega arith) spaced-here in
     -- the number behind it
     let read_number : NumeralRead c.args.text.now (c.loop-number.next + 1) c.in-Number.value c.in-Number.behind =
-        numeral_read c.args.text.now (c.loop-number.next + 1) _ _ (sym c.in-Number.is ∙ c.read_numeral-number.ensures) in
+    numeral_read c.args.text.now (c.loop-number.next + 1) _ _ (sym c.in-Number.is ∙ c.read_numeral-number.ensures) in
     omega (arith, spaced-inside.0, read_number.ends)
 
 pub loop-number-preserved : goal.loop-number-preserved
 loop-number-preserved c =
     -- a space stands at the position
     let spaced-here : get_or c.args.text.now c.loop-number.next 0 ≡ space =
-        sym c.byte_at.ensures ∙ c.loop-number-test.true in
+    sym c.byte_at.ensures ∙ c.loop-number-test.true in
     -- the number behind it
     let read_number : NumeralRead c.args.text.now (c.loop-number.next + 1) c.in-Number.value c.in-Number.behind =
-        numeral_read c.args.text.now (c.loop-number.next + 1) _ _ (sym c.in-Number.is ∙ c.read_numeral-number.ensures) in
+    numeral_read c.args.text.now (c.loop-number.next + 1) _ _ (sym c.in-Number.is ∙ c.read_numeral-number.ensures) in
     let a = c.args in
     let few = c.requires.n_bound in
     let r = read_number in
@@ -92,14 +88,14 @@ loop-number-preserved c =
 pub returns-then-next-first : goal.returns-then-next-first
 returns-then-next-first c =
     let no-space-here : get_or c.args.text.now c.loop-number.next 0 ≡ space → ⊥ =
-        λ e. c.loop-number-test.false (c.byte_at.ensures ∙ e) in
+    λ e. c.loop-number-test.false (c.byte_at.ensures ∙ e) in
     let a = c.args in
     set_no_position a.text.now a.start a.n c.loop-number.invariant.shown c.if-next-first.true no-space-here
 
 pub returns-then-byte_at-ne10 : goal.returns-then-byte_at-ne10
 returns-then-byte_at-ne10 c =
     let no-space-here : get_or c.args.text.now c.loop-number.next 0 ≡ space → ⊥ =
-        λ e. c.loop-number-test.false (c.byte_at.ensures ∙ e) in
+    λ e. c.loop-number-test.false (c.byte_at.ensures ∙ e) in
     let a = c.args in
     set_no_end a.text.now a.start a.n c.loop-number.invariant.shown no-space-here (λ same. c.if-byte_at-ne10.true (c.byte_at-2.ensures ∙ same))
 

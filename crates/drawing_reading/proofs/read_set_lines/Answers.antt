@@ -2,14 +2,13 @@
 -- lines left decide as all of them do (`LinesWalk`). The measure is what is left of the text.
 -- Assumes nothing.
 use mathlib.Core.Path.{◌≡◌, sym, ◌∙◌}
-use Prim.Native.Nat.{◌-◌, ◌<◌}
+use Prim.Native.Nat.{◌<◌}
 use native.Mathlib.Omega.{arith}
-use lib.ListN.{length, drop}
-use borrow.Author.Rules.{rules}
+use lib.ListN.{drop}
 use Rattle.drawing_text.specs.Lines.{first_line}
 use Rattle.drawing_reading.specs.declared.Line.TheVariants as line
 use Rattle.drawing_reading.specs.Inside.{set_line_of}
-use Rattle.drawing_reading.proofs.SetLines.{LinesWalk, lines_walk_none, lines_walk_refused, lines_walk_end, lines_walk_over, lines_walk_broken, lines_walk_room, lines_walk_on, lines_walk_more}
+use Rattle.drawing_reading.proofs.SetLines.{lines_walk_none, lines_walk_refused, lines_walk_end, lines_walk_over, lines_walk_broken, lines_walk_room, lines_walk_on, lines_walk_more}
 use Rattle.drawing_reading.proofs.read_set_lines.Goals as goal
 
 pub loop-next-init : goal.loop-next-init
@@ -23,7 +22,7 @@ returns-then-count-eq12870 c =
 
 pub read_set_line-line-requires : goal.read_set_line-line-requires
 read_set_line-line-requires c =
-    record { n_bound = c.requires; start_in_bounds = omega arith; }
+    record { n_bound = c.requires; start_in_bounds = omega arith }
 
 pub overflow_add-count-in-Refused : goal.overflow_add-count-in-Refused
 overflow_add-count-in-Refused c =
@@ -51,16 +50,16 @@ pub loop-next-smaller : goal.loop-next-smaller
 loop-next-smaller c =
     -- a line that was read as a set
     let read : line.Set c.in-Set.set c.in-Set.behind ≡ set_line_of c.args.n (first_line (drop c.loop-next.next c.args.text.now)) c.loop-next.next =
-        sym c.in-Set.is ∙ c.read_set_line-line.ensures in
+    sym c.in-Set.is ∙ c.read_set_line-line.ensures in
     let forward : c.loop-next.next < c.in-Set.behind =
-        lines_walk_on c.loop-next.invariant c.loop-next-test.true c.if-count-eq12870.false _ _ read in
+    lines_walk_on c.loop-next.invariant c.loop-next-test.true c.if-count-eq12870.false _ _ read in
     omega (arith, c.loop-next-test.true, forward)
 
 pub loop-next-preserved : goal.loop-next-preserved
 loop-next-preserved c =
     -- a line that was read as a set
     let read : line.Set c.in-Set.set c.in-Set.behind ≡ set_line_of c.args.n (first_line (drop c.loop-next.next c.args.text.now)) c.loop-next.next =
-        sym c.in-Set.is ∙ c.read_set_line-line.ensures in
+    sym c.in-Set.is ∙ c.read_set_line-line.ensures in
     lines_walk_more c.loop-next.invariant c.loop-next-test.true c.if-count-eq12870.false _ _ read
 
 pub returns : goal.returns

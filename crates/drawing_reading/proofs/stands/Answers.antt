@@ -1,11 +1,8 @@
 -- `drawing_reading::stands` meets its contract: the bytes are compared one by one, where there is room for all of them.
 -- Assumes nothing.
 use mathlib.Core.Path.{◌≡◌, sym, ap, ◌∙◌}
-use Prim.Native.Nat.{◌+◌, ◌-◌, ◌≤◌}
 use native.Mathlib.Omega.{arith}
-use lib.ListN.{length, take, drop}
-use borrow.Author.Rules.{rules}
-use Rattle.drawing_text.specs.Forms.{same_bytes}
+use lib.ListN.{length}
 use Rattle.drawing_reading.proofs.Keywords.{Left, compared_none, compared_more, compared_other, compared_all, no_room}
 use Rattle.drawing_reading.proofs.stands.Goals as goal
 

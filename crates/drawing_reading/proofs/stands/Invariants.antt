@@ -1,12 +1,9 @@
 -- `drawing_reading::stands` meets its contract: the bytes are compared one by one, where there is room for all of them.
 -- Assumes nothing.
-use mathlib.Core.Path.{◌≡◌, sym, ap, ◌∙◌}
+use mathlib.Core.Path.{◌≡◌}
 use Prim.Native.Nat.{◌+◌, ◌-◌, ◌≤◌}
-use native.Mathlib.Omega.{arith}
 use lib.ListN.{length, take, drop}
-use borrow.Author.Rules.{rules}
 use Rattle.drawing_text.specs.Forms.{same_bytes}
-use Rattle.drawing_reading.proofs.Keywords.{Left, compared_none, compared_more, compared_other, compared_all, no_room}
 use Rattle.drawing_reading.proofs.stands.Given as goal
 
 abbrev pub invariant-loop-i : goal.invariant-loop-i

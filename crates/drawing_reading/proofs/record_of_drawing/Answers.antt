@@ -1,0 +1,31 @@
+-- `drawing_reading::record_of_drawing` meets its contract: what an accepted text says is a list that a first record takes.
+-- Assumes nothing.
+use mathlib.Core.Path.{sym, ap, ◌∙◌}
+use lib.ListN.{length}
+use Rattle.drawing_reading.proofs.Records.{DrawnRead, drawn_read, drawn_refused, drawn_record}
+use Rattle.drawing_reading.proofs.record_of_drawing.Goals as goal
+
+pub returns-in-Refused : goal.returns-in-Refused
+returns-in-Refused c =
+    let a = c.args in
+    drawn_refused a.text.now c.read_drawing-drawn.result c.read_drawing-drawn.ensures _ c.in-Refused.is a.buffer.now
+
+pub slice_bounds-sets-end : goal.slice_bounds-sets-end
+slice_bounds-sets-end c =
+    -- what an accepted text gave
+    let read : DrawnRead c.args.text.now c.read_drawing-drawn.result c.read_drawing-drawn.ensures =
+    drawn_read c.args.text.now c.read_drawing-drawn.result c.read_drawing-drawn.ensures c.in_default.is in
+    read.inside
+
+pub slice_bounds-first_record-end : goal.slice_bounds-first_record-end
+slice_bounds-first_record-end c =
+    -- what an accepted text gave
+    let read : DrawnRead c.args.text.now c.read_drawing-drawn.result c.read_drawing-drawn.ensures =
+    drawn_read c.args.text.now c.read_drawing-drawn.result c.read_drawing-drawn.ensures c.in_default.is in
+    let r = read in r.counted ∙ ap length (sym r.front)
+
+pub returns : goal.returns
+returns c =
+    let a = c.args in
+    c.first_record.ensures
+    ∙ drawn_record a.text.now c.read_drawing-drawn.result c.read_drawing-drawn.ensures c.in_default.is a.buffer.now

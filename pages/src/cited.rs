@@ -5,7 +5,7 @@ use crate::{antt, edits, tree};
 use std::collections::HashSet;
 use std::path::Path;
 
-/// The documents whose names are held to the tree; a note on a change says what was, so that only its links are.
+/// The documents whose names are held to the tree; a note on a change, the port among them, says what was, so that only its links are.
 fn documents() -> Vec<String> {
     let mut all = tree::files("docs", &[".md"]);
     all.push(String::from("README.md"));
@@ -13,7 +13,7 @@ fn documents() -> Vec<String> {
 }
 
 fn is_note(path: &str) -> bool {
-    path.starts_with("docs/changes/")
+    path.starts_with("docs/changes/") || path == "docs/PORT.md"
 }
 
 /// Every fault of every document.

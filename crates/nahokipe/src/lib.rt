@@ -1,5 +1,6 @@
 // The static library: every entry point for C, each passing on to the function behind it.
 #![tactic(auto)]
+
 ghost use Rattle.std.specs.Prelude.{◌≡◌, ◌-◌};
 ghost use Rattle.answer.specs.Outcome.{at, outcome, retold, delivered, valued};
 ghost use Rattle.theory_sets.specs.Structures.{listed, minimal_sets};

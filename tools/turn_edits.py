@@ -23,12 +23,18 @@ BY_HAND = {
     "answer/short_buffer_written.edit",
     "blocks_checks/place_in_the_joined_list.edit",
     "codec/end_before_last_group.edit",
+    "drawing_reading/repeat_before_position.edit",
+    "figures/buffers_in_another_order.edit",
     "masks/others_skipped.edit",
     "record_parts/only_part_taken_out.edit",
     "record_parts/spent_before_full.edit",
     "record_reader/moved_says_the_same_place.edit",
     "record_reader/new_says_the_beginning.edit",
     "record_reader/next_says_the_beginning.edit",
+    "record_retired/others_filed.edit",
+    "sheet/tail_sheet_after_kind.edit",
+    "sheet/tail_sheet_after_parts.edit",
+    "sheet/tail_sheet_after_room.edit",
     "theory_orders/one_order_too_few.edit",
 }
 KIT = {"getD": "get_or", "List·Memᴰ": "Memᴰ"}

@@ -34,7 +34,12 @@ write_stored-requires c =
     let made : change_refusal add_part (d read) ≡ Accepted =
     let r = read in
     add_made (d r) (design_kept r) _ (sym (ap (λ (x : Changed). x.answer) list_changed) ∙ c.in_default-numbered.is) in
-    let r = read in record { design_rules = change_rules r add_part made _ _ (ap (λ (x : Changed). x.list) list_changed) (sets_front r); count_le_most_retired = retired_few r; count_in_bounds = retired_inside r }
+    let r = read in
+    record {
+      design_rules = change_rules r add_part made _ _ (ap (λ (x : Changed). x.list) list_changed) (sets_front r);
+      count_le_most_retired = retired_few r;
+      count_in_bounds = retired_inside r;
+    }
 
 pub returns-in-Refused : goal.returns-in-Refused
 returns-in-Refused c =

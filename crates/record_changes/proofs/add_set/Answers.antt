@@ -72,7 +72,11 @@ write_stored-requires c =
     let found = found_is a.set r c.minimal_with-found.result c.minimal_with-found.new.sets c.minimal_with-found.ensures in
     let built = given (change_refusal (add_set a.set) (d r)) (changed (add_set a.set) (d r)).sets (replicate 12870 0) c.minimal_with-found.new.sets c.in-Length.left
     (ap (λ (x : Written). outcome x c.minimal_with-found.new.sets) (sym c.in-Length.is) ∙ found) in
-    record { design_rules = change_rules r (add_set a.set) built.accepted _ _ r.list built.front; count_le_most_retired = retired_few r; count_in_bounds = retired_inside r }
+    record {
+      design_rules = change_rules r (add_set a.set) built.accepted _ _ r.list built.front;
+      count_le_most_retired = retired_few r;
+      count_in_bounds = retired_inside r;
+    }
 
 pub returns-in-Refused : goal.returns-in-Refused
 returns-in-Refused c =

@@ -6,8 +6,6 @@ use lib.ListN.{length, take}
 use Rattle.codec.specs.ByteForm.{forms_of}
 use Rattle.record_changes.proofs.numbers_length.Given as goal
 
--- `record_changes::numbers_length` meets its contract: each number's length is added to those before it, and no part number takes more than ten bytes.
--- Assumes nothing.
 abbrev pub invariant-loop-i : goal.invariant-loop-i
 invariant-loop-i l = (l.i ≤ length l.numbers) × (l.total ≡ length (forms_of (take l.i l.numbers)))
 

@@ -26,7 +26,7 @@ overflow_add-head c =
       omega (arith, c.number_length-2.ensures, bytes_at_most 10 a.mark (omega arith) (omega arith)),
     ) in
     -- and so does each part number
-    let numbers-short : c.numbers_length.result ≤ 160 =
+    let numbers_short : c.numbers_length.result ≤ 160 =
     let numbers = c.args.numbers.now in
     omega (
       arith,
@@ -34,7 +34,7 @@ overflow_add-head c =
       c.requires.numbers_len_bound,
       forms_most 10 numbers (λ i. bytes_at_most 10 _ (omega arith) (omega (arith, c.shared_slice_known-1.given i))),
     ) in
-    omega (arith, firsts, numbers-short)
+    omega (arith, firsts, numbers_short)
 
 pub overflow_add-head-2 : goal.overflow_add-head-2
 overflow_add-head-2 c =
@@ -45,7 +45,7 @@ overflow_add-head-2 c =
       omega (arith, c.number_length-2.ensures, bytes_at_most 10 a.mark (omega arith) (omega arith)),
     ) in
     -- and so does each part number
-    let numbers-short : c.numbers_length.result ≤ 160 =
+    let numbers_short : c.numbers_length.result ≤ 160 =
     let numbers = c.args.numbers.now in
     omega (
       arith,
@@ -55,7 +55,7 @@ overflow_add-head-2 c =
     ) in
     let third : c.number_length-3.result ≤ 10 =
     omega (arith, c.number_length-3.ensures, bytes_at_most 10 (length c.args.sets.now) (omega arith) (omega (arith, c.requires.sets_len_bound))) in
-    omega (arith, firsts, numbers-short, third)
+    omega (arith, firsts, numbers_short, third)
 
 pub overflow_add-result : goal.overflow_add-result
 overflow_add-result c =
@@ -66,7 +66,7 @@ overflow_add-result c =
       omega (arith, c.number_length-2.ensures, bytes_at_most 10 a.mark (omega arith) (omega arith)),
     ) in
     -- and so does each part number
-    let numbers-short : c.numbers_length.result ≤ 160 =
+    let numbers_short : c.numbers_length.result ≤ 160 =
     let numbers = c.args.numbers.now in
     omega (
       arith,
@@ -77,7 +77,7 @@ overflow_add-result c =
     let third : c.number_length-3.result ≤ 10 =
     omega (arith, c.number_length-3.ensures, bytes_at_most 10 (length c.args.sets.now) (omega arith) (omega (arith, c.requires.sets_len_bound))) in
     -- a set takes three bytes at the most
-    let sets-short : c.sets_length.result ≤ 38610 =
+    let sets_short : c.sets_length.result ≤ 38610 =
     let sets = c.args.sets.now in
     omega (
       arith,
@@ -85,7 +85,7 @@ overflow_add-result c =
       c.requires.sets_len_bound,
       forms_most 3 sets (λ i. bytes_at_most 3 _ (omega arith) (omega (arith, c.shared_slice_known-2-1.given i))),
     ) in
-    omega (arith, firsts, numbers-short, third, sets-short)
+    omega (arith, firsts, numbers_short, third, sets_short)
 
 pub returns : goal.returns
 returns c =
@@ -96,7 +96,7 @@ returns c =
       omega (arith, c.number_length-2.ensures, bytes_at_most 10 a.mark (omega arith) (omega arith)),
     ) in
     -- and so does each part number
-    let numbers-short : c.numbers_length.result ≤ 160 =
+    let numbers_short : c.numbers_length.result ≤ 160 =
     let numbers = c.args.numbers.now in
     omega (
       arith,
@@ -107,7 +107,7 @@ returns c =
     let third : c.number_length-3.result ≤ 10 =
     omega (arith, c.number_length-3.ensures, bytes_at_most 10 (length c.args.sets.now) (omega arith) (omega (arith, c.requires.sets_len_bound))) in
     -- a set takes three bytes at the most
-    let sets-short : c.sets_length.result ≤ 38610 =
+    let sets_short : c.sets_length.result ≤ 38610 =
     let sets = c.args.sets.now in
     omega (
       arith,
@@ -125,5 +125,5 @@ returns c =
         c.number_length-3.ensures,
         c.sets_length.ensures,
       );
-      upper_bound = omega (arith, firsts, numbers-short, third, sets-short);
+      upper_bound = omega (arith, firsts, numbers_short, third, sets_short);
     }

@@ -6,8 +6,6 @@ use lib.ListN.{length, take}
 use Rattle.codec.specs.ByteForm.{forms_of}
 use Rattle.record_changes.proofs.sets_length.Given as goal
 
--- `record_changes::sets_length` meets its contract: each number's length is added to those before it, and no set takes more than three bytes.
--- Assumes nothing.
 abbrev pub invariant-loop-i : goal.invariant-loop-i
 invariant-loop-i l = (l.i ≤ length l.sets) × (l.total ≡ length (forms_of (take l.i l.sets)))
 

@@ -26,9 +26,9 @@ overflow_add-result-2 c =
       omega (arith, c.numbers_length.ensures, c.requires.retired_len_bound, forms_ten retired (λ i. omega (arith, c.shared_slice_known-1.given i))),
     ) in
     -- and each of the path counts
-    let counts-short : c.numbers_length-2.result ≤ 640 =
+    let counts_short : c.numbers_length-2.result ≤ 640 =
     omega (arith, c.numbers_length-2.ensures, c.requires.counts_len_bound, forms_ten c.args.counts.now (λ i. omega (arith, c.shared_slice_known-2-1.given i))) in
-    omega (arith, firsts, counts-short)
+    omega (arith, firsts, counts_short)
 
 pub returns : goal.returns
 returns c =
@@ -39,6 +39,10 @@ returns c =
       omega (arith, c.numbers_length.ensures, c.requires.retired_len_bound, forms_ten retired (λ i. omega (arith, c.shared_slice_known-1.given i))),
     ) in
     -- and each of the path counts
-    let counts-short : c.numbers_length-2.result ≤ 640 =
+    let counts_short : c.numbers_length-2.result ≤ 640 =
     omega (arith, c.numbers_length-2.ensures, c.requires.counts_len_bound, forms_ten c.args.counts.now (λ i. omega (arith, c.shared_slice_known-2-1.given i))) in
-    let a = c.args in record { value = omega (arith, c.number_length.ensures, c.numbers_length.ensures, c.numbers_length-2.ensures, tail_length a.retired.now a.counts.now); upper_bound = omega (arith, firsts, counts-short) }
+    let a = c.args in
+    record {
+      value = omega (arith, c.number_length.ensures, c.numbers_length.ensures, c.numbers_length-2.ensures, tail_length a.retired.now a.counts.now);
+      upper_bound = omega (arith, firsts, counts_short);
+    }

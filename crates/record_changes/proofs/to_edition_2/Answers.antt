@@ -30,7 +30,12 @@ pub write_stored-requires : goal.write_stored-requires
 write_stored-requires c =
     -- what was opened, where the record is accepted
     let read = opened_record c.args.bytes.now _ c.open_record-opened.ensures (λ i. omega (arith, c.shared_slice_known-1.given i)) c.in_default.is in
-    let r = read in record { design_rules = opened_rules r _ _ r.list (sets_front r); count_le_most_retired = retired_few r; count_in_bounds = retired_inside r }
+    let r = read in
+    record {
+      design_rules = opened_rules r _ _ r.list (sets_front r);
+      count_le_most_retired = retired_few r;
+      count_in_bounds = retired_inside r;
+    }
 
 pub returns : goal.returns
 returns c =

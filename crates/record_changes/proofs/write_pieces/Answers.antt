@@ -16,7 +16,8 @@ use Rattle.record_changes.proofs.Writing.{pieces, record_pieces, record_length}
 use Rattle.record_changes.proofs.write_pieces.Goals as goal
 
 -- the pieces stand behind one another, and there is room for them all
-module _ (lent : List ℕ) (position : ℕ) (count mark numbers set_count sets : List ℕ) (room : position + (length count + length mark + length numbers + length set_count + length sets) ≤ length lent)
+module _ (lent : List ℕ) (position : ℕ) (count mark numbers set_count sets : List ℕ)
+    (room : position + (length count + length mark + length numbers + length set_count + length sets) ≤ length lent)
     (b1 b2 b3 b4 : List ℕ) (n1 n2 n3 n4 : ℕ) where
   abbrev One : Type 0
   One = outcome n1 b1 ≡ placed lent position count

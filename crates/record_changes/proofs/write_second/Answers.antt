@@ -62,7 +62,8 @@ returns-then-buffer-whole c =
     let body = record_bytes (design (list_of a.mark a.numbers.now) a.sets.now) in
     let tail = tail_bytes a.retired.now a.counts.now in
     ap (λ (w : Written). outcome w a.buffer.now) c.short.ensures
-    ∙ delivered_short Accepted (0 ∷ 2 ∷ (body ++ tail)) a.buffer.now refl _ (whole_length body tail _ _ c.record_length-body.ensures.value c.tail_length.ensures.value) c.if-buffer-whole.true
+    ∙ delivered_short Accepted (0 ∷ 2 ∷ (body ++ tail)) a.buffer.now refl _
+    (whole_length body tail _ _ c.record_length-body.ensures.value c.tail_length.ensures.value) c.if-buffer-whole.true
 
 pub write_pieces-middle-requires : goal.write_pieces-middle-requires
 write_pieces-middle-requires c =

@@ -29,7 +29,10 @@ slice_bounds-write_record-end c =
 
 pub write_record-requires : goal.write_record-requires
 write_record-requires c =
-    record { numbers_len_bound = omega (arith, well_formed_counted c.args.list c.requires.design_rules.parts, c.requires.design_rules.parts.rules.few); sets_len_bound = c.requires.design_rules.sets.most }
+    record {
+      numbers_len_bound = omega (arith, well_formed_counted c.args.list c.requires.design_rules.parts, c.requires.design_rules.parts.rules.few);
+      sets_len_bound = c.requires.design_rules.sets.most;
+    }
 
 pub fresh_counts-counts-requires : goal.fresh_counts-counts-requires
 fresh_counts-counts-requires c =
@@ -57,7 +60,13 @@ slice_bounds-write_second-end-in-Second-2 c =
 
 pub write_second-requires : goal.write_second-requires
 write_second-requires c =
-    let few = c.requires.design_rules.parts.rules.few in record { numbers_len_bound = omega (arith, well_formed_counted c.args.list c.requires.design_rules.parts, few); sets_len_bound = c.requires.design_rules.sets.most; retired_len_bound = omega (arith, length-take-le c.args.retired.count c.args.retired.numbers c.requires.count_in_bounds, c.requires.count_le_most_retired); counts_len_bound = omega (arith, counted c.args.list.count c.args.sets.now c.fresh_counts-counts.result c.fresh_counts-counts.ensures, few) }
+    let few = c.requires.design_rules.parts.rules.few in
+    record {
+      numbers_len_bound = omega (arith, well_formed_counted c.args.list c.requires.design_rules.parts, few);
+      sets_len_bound = c.requires.design_rules.sets.most;
+      retired_len_bound = omega (arith, length-take-le c.args.retired.count c.args.retired.numbers c.requires.count_in_bounds, c.requires.count_le_most_retired);
+      counts_len_bound = omega (arith, counted c.args.list.count c.args.sets.now c.fresh_counts-counts.result c.fresh_counts-counts.ensures, few);
+    }
 
 pub returns-in-First : goal.returns-in-First
 returns-in-First c =

@@ -58,5 +58,6 @@ write_numbers-requires c =
 pub returns : goal.returns
 returns c =
     let a = c.args in
-    three a.buffer.now a.at _ _ _ (whole_room a.at (length a.buffer.now) a.retired.now a.counts.now c.requires) _ _ c.write_number-first.ensures _ _ c.write_numbers-second.ensures _ _ c.write_numbers.ensures
+    three a.buffer.now a.at _ _ _ (whole_room a.at (length a.buffer.now) a.retired.now a.counts.now c.requires)
+    _ _ c.write_number-first.ensures _ _ c.write_numbers-second.ensures _ _ c.write_numbers.ensures
     ∙ ap (placed a.buffer.now a.at) (sym (tail_pieces a.retired.now a.counts.now))

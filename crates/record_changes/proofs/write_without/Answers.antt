@@ -71,7 +71,11 @@ returns-then-left-eq0 c =
 
 pub file_group-filed-requires : goal.file_group-filed-requires
 file_group-filed-requires c =
-    record { well_formed = c.requires.design_rules.parts; count_le_most_retired = c.requires.count_le_most_retired; count_in_bounds = c.requires.count_in_bounds }
+    record {
+      well_formed = c.requires.design_rules.parts;
+      count_le_most_retired = c.requires.count_le_most_retired;
+      count_in_bounds = c.requires.count_in_bounds;
+    }
 
 pub slice_bounds-kept-end : goal.slice_bounds-kept-end
 slice_bounds-kept-end c =

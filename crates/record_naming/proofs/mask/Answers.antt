@@ -19,11 +19,11 @@ module _ (numbers wanted : List ℕ) (index mask : ℕ) (any : 0 < index) (insid
       mask_here numbers (index - 1) (omega arith) wanted
       ∙ ap (λ (m : ℕ). cond (names (get_or numbers (index - 1) 0) wanted) 1 0 + 2 * m) (ap (λ (k : ℕ). mask_of (drop k numbers) wanted) back ∙ sym so_far)
 
-  with-one : names (get_or numbers (index - 1) 0) wanted ≡ true → mask * 2 + 1 ≡ mask_of (drop (index - 1) numbers) wanted
-  with-one e = let d : mask_of (drop (index - 1) numbers) wanted ≡ 1 + 2 * mask = doubled ∙ rw e refl in omega (arith, d)
+  with_one : names (get_or numbers (index - 1) 0) wanted ≡ true → mask * 2 + 1 ≡ mask_of (drop (index - 1) numbers) wanted
+  with_one e = let d : mask_of (drop (index - 1) numbers) wanted ≡ 1 + 2 * mask = doubled ∙ rw e refl in omega (arith, d)
 
-  without-one : names (get_or numbers (index - 1) 0) wanted ≡ false → mask * 2 ≡ mask_of (drop (index - 1) numbers) wanted
-  without-one e = let d : mask_of (drop (index - 1) numbers) wanted ≡ 0 + 2 * mask = doubled ∙ rw e refl in omega (arith, d)
+  without_one : names (get_or numbers (index - 1) 0) wanted ≡ false → mask * 2 ≡ mask_of (drop (index - 1) numbers) wanted
+  without_one e = let d : mask_of (drop (index - 1) numbers) wanted ≡ 0 + 2 * mask = doubled ∙ rw e refl in omega (arith, d)
 
 pub loop-index-init : goal.loop-index-init
 loop-index-init c =
@@ -44,13 +44,13 @@ pub loop-index-preserved-then-stands : goal.loop-index-preserved-then-stands
 loop-index-preserved-then-stands c =
     let a = c.args in
     let here : names (get_or a.numbers.now (c.loop-index.index - 1) 0) a.wanted.now ≡ true = sym c.stands.ensures ∙ c.if-stands.true in
-    (omega arith, with-one a.numbers.now a.wanted.now c.loop-index.index c.loop-index.mask (omega arith) c.loop-index.invariant.0 c.loop-index.invariant.1 here)
+    (omega arith, with_one a.numbers.now a.wanted.now c.loop-index.index c.loop-index.mask (omega arith) c.loop-index.invariant.0 c.loop-index.invariant.1 here)
 
 pub loop-index-preserved : goal.loop-index-preserved
 loop-index-preserved c =
     let a = c.args in
     let none : names (get_or a.numbers.now (c.loop-index.index - 1) 0) a.wanted.now ≡ false = sym c.stands.ensures ∙ c.if-stands.false in
-    (omega arith, without-one a.numbers.now a.wanted.now c.loop-index.index c.loop-index.mask (omega arith) c.loop-index.invariant.0 c.loop-index.invariant.1 none)
+    (omega arith, without_one a.numbers.now a.wanted.now c.loop-index.index c.loop-index.mask (omega arith) c.loop-index.invariant.0 c.loop-index.invariant.1 none)
 
 pub returns : goal.returns
 returns c =

@@ -40,8 +40,8 @@ module _ (numbers : List ℕ) (mask : ℕ) (few : length numbers ≤ most_parts)
 mask_right : (numbers : List ℕ) (mask : ℕ) → 1 ≤ length numbers → length numbers ≤ 16 → mask < 2 ^ length numbers → named_refusal numbers mask ≡ Accepted
 mask_right numbers mask some few inside = parts_passed 0 (length numbers) _ some few ∙ rw (lt-leb (2 ^ length numbers) mask inside) refl
 
-mask-over : (numbers : List ℕ) (mask : ℕ) → 1 ≤ length numbers → length numbers ≤ 16 → 2 ^ length numbers ≤ mask → named_refusal numbers mask ≡ Refused (at unknown_group_part 0)
-mask-over numbers mask some few over = parts_passed 0 (length numbers) _ some few ∙ rw (le-leb (2 ^ length numbers) mask over) refl
+mask_over : (numbers : List ℕ) (mask : ℕ) → 1 ≤ length numbers → length numbers ≤ 16 → 2 ^ length numbers ≤ mask → named_refusal numbers mask ≡ Refused (at unknown_group_part 0)
+mask_over numbers mask some few over = parts_passed 0 (length numbers) _ some few ∙ rw (le-leb (2 ^ length numbers) mask over) refl
 
 -- where the numbers are refused the buffer stays
 kept : (numbers : List ℕ) (mask : ℕ) (buffer : List ℕ) (r : Written) (why : Refusal) → r ≡ written.Refused why → named_refusal numbers mask ≡ Refused why
@@ -68,7 +68,7 @@ returns-then-all-mask c =
     c.power_of_two-all.ensures ∙ up_to_16_given n (2 ^ n) c.if-count-gt-MOST_PARTS.false in
     let a = c.args in
     kept a.numbers.now a.mask a.buffer.now _ _ c.unwritten-then-all-mask.ensures
-    (mask-over a.numbers.now a.mask (pos_of_ne-zero c.if-count-eq0.false) c.if-count-gt-MOST_PARTS.false (omega (arith, all, c.if-all-mask.true)))
+    (mask_over a.numbers.now a.mask (pos_of_ne-zero c.if-count-eq0.false) c.if-count-gt-MOST_PARTS.false (omega (arith, all, c.if-all-mask.true)))
 
 pub slice_bounds-cells-end : goal.slice_bounds-cells-end
 slice_bounds-cells-end c =

@@ -19,8 +19,8 @@ use Rattle.record_naming.proofs.Steps.{position_here, position_past, position_en
 use Rattle.record_naming.proofs.position.Goals as goal
 
 -- a position that was found, and one that was not
-found-is : (numbers : List ℕ) (number position : ℕ) → position_of numbers number ≡ suc position → Value.Given (position + 1) ≡ found_position numbers number
-found-is numbers number position e =
+found_is : (numbers : List ℕ) (number position : ℕ) → position_of numbers number ≡ suc position → Value.Given (position + 1) ≡ found_position numbers number
+found_is numbers number position e =
     ap Value.Given (add-one position ∙ sym e)
     ∙ valued_given _ (position_of numbers number) (refuse_passed (eqb (position_of numbers number) 0) unknown_position 0 Accepted (ne_eqb (position_of numbers number) 0 (λ none. omega (arith, e))))
 
@@ -35,7 +35,7 @@ loop-i-init c =
 pub returns-then-numbers-i : goal.returns-then-numbers-i
 returns-then-numbers-i c =
     let a = c.args in
-    found-is a.numbers.now a.number c.loop-i.i
+    found_is a.numbers.now a.number c.loop-i.i
     (sym c.loop-i.invariant.1 ∙ position_here a.numbers.now c.loop-i.i (omega arith) (suc c.loop-i.i) a.number c.if-numbers-i.true)
 
 pub loop-i-preserved : goal.loop-i-preserved

@@ -4,8 +4,6 @@ use Prim.Native.Nat.{◌-◌}
 use Rattle.record_opening.proofs.Loading.{SetWalk}
 use Rattle.record_opening.proofs.load_sets.Given as goal
 
--- `record_opening::load_sets` meets its contract. The loop's invariant: it walks along the sets (`SetWalk`). The measure is the sets left.
--- Assumes nothing.
 abbrev pub invariant-loop-read : goal.invariant-loop-read
 invariant-loop-read l = SetWalk l.bytes l.count l.initial.cursor l.sets l.cursor l.read
 

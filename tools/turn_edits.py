@@ -23,7 +23,7 @@ BY_HAND = {
     "answer/short_buffer_written.edit",
     "blocks_checks/place_in_the_joined_list.edit",
     "codec/end_before_last_group.edit",
-    "drawing_reading/repeat_before_position.edit",
+    "drawing_reading/one_set_too_many.edit",
     "figures/buffers_in_another_order.edit",
     "masks/others_skipped.edit",
     "record_parts/only_part_taken_out.edit",

@@ -248,10 +248,10 @@ fn cells_of_a_square() {
 /// longer.
 #[test]
 fn records_and_tables() {
-    let edition_1 = bound("crates/record/proofs/Lengths.antt", "pub record-longest");
+    let edition_1 = bound("crates/record/proofs/Lengths.antt", "pub record_longest");
     let longest = bound(
         "crates/record_editions/proofs/Lengths.antt",
-        "pub stored-longest",
+        "pub stored_longest",
     );
     assert_eq!(lent::LONGEST_RECORD, longest);
     for (record, longest) in [
@@ -278,7 +278,7 @@ fn retired_numbers() {
 /// What is proved of sheets is what the header says, of those that are saved and of those that were stored.
 #[test]
 fn sheets() {
-    let longest = bound("crates/sheet/proofs/Lengths.antt", "pub written-longest");
+    let longest = bound("crates/sheet/proofs/Lengths.antt", "pub written_longest");
     assert_eq!(lent::LONGEST_SHEET, longest);
     let tail = nahokipe::tail(16, &six_of_sixteen()).expect("an accepted table");
     let mut sheet = vec![0; 2 * longest];

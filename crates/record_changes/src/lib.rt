@@ -104,12 +104,11 @@ pub fn add_set(bytes: &[u8], set: u16, buffer: &mut [u8]) -> Written
     }
     let list = opened.list;
     let n = list.count;
-    let sets = opened.sets;
     let count = opened.count;
     let edition = opened.edition;
     let retired = opened.retired;
     let mut minimal = [0u16; 12870];
-    let found = record_sets::minimal_with(n, &sets[..count], set, &mut minimal);
+    let found = record_sets::minimal_with(n, &opened.sets[..count], set, &mut minimal);
     match found {
         Written::Refused(refusal) => Written::Refused(refusal),
         Written::Length(left) => { write_stored(edition, list, &minimal[..left], retired, buffer) }

@@ -17,7 +17,7 @@ use Rattle.record_lines.specs.Changes.{add_set, change_refusal, changed}
 use Rattle.record_lines.proofs.Rules.{changed_rules}
 use Rattle.answer.proofs.Deliveries.{given, refused_by}
 use Rattle.record_opening.specs.declared.Opened.{Opened}
-use Rattle.record_opening.proofs.Designs.{RecordOpened, opened_record, sets_front, sets_counted, sets_few, sets_room}
+use Rattle.record_opening.proofs.Designs.{RecordOpened, opened_record, sets_front, sets_counted}
 use Rattle.record_lines.proofs.Refusals.{unconverted_refusal}
 use Rattle.record_changes.proofs.Answers.{d, design_kept, retired_few, retired_inside, kept_retired, opened_refused, change_refused, change_rules, change_made, with_set}
 use Rattle.record_changes.proofs.add_set.Goals as goal
@@ -34,12 +34,6 @@ module _ (set : ℕ) {bytes : List ℕ} {o : Opened} (r : RecordOpened bytes o) 
 
   most : change_refusal (add_set set) (d r) ≡ Accepted → length (changed (add_set set) (d r)).sets ≤ 12870
   most accepted = (changed_rules (add_set set) (d r) (design_kept r) accepted).sets.most
-
-pub slice_bounds-sets-end : goal.slice_bounds-sets-end
-slice_bounds-sets-end c =
-    let a = c.args in
-    let r = opened_record a.bytes.now _ c.open_record-opened.ensures (λ i. omega (arith, c.shared_slice_known-1.given i)) c.in_default.is in
-    omega (arith, sets_few r, sets_room r)
 
 pub slice_bounds-minimal_with-end : goal.slice_bounds-minimal_with-end
 slice_bounds-minimal_with-end c =

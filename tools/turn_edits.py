@@ -26,6 +26,8 @@ BY_HAND = {
     "drawing_reading/one_set_too_many.edit",
     "figures/buffers_in_another_order.edit",
     "masks/others_skipped.edit",
+    "record_changes/retired_numbers_lost.edit",
+    "record_changes/same_set_added.edit",
     "record_parts/only_part_taken_out.edit",
     "record_parts/spent_before_full.edit",
     "record_reader/moved_says_the_same_place.edit",

@@ -41,6 +41,12 @@ fn main(rt: HostRuntime) -> io::Result<()> {
         &[1, 1, 1, 1, 1],
         &[0, 1, 0, 1, 0, 1, 0, 1, 0, 1],
     )?;
+    alone_and_impossible(out)?;
+    refusals(out)
+}
+
+// One block alone, and counts that no block has.
+fn alone_and_impossible(out: Stdout) -> io::Result<()> {
     whole(out, b"one block", 1, &[0x02], &[3], &[0, 0, 2, 1])?;
     whole(
         out,
@@ -49,8 +55,7 @@ fn main(rt: HostRuntime) -> io::Result<()> {
         &[0x08],
         &[4, 1],
         &[0, 0, 1, 1, 1, 0, 1],
-    )?;
-    refusals(out)
+    )
 }
 
 fn refusals(out: Stdout) -> io::Result<()> {

@@ -143,8 +143,7 @@ CLAUSE = re.compile(r"^\s*(requires|ensures|ghost|impl Model)\b")
 
 
 def turn_rt(text, turned, own):
-    """Respells clauses, ghost items and the names in comments; code keeps its names, and where a parameter has the new name of what a clause
-    cites, that name is left for the hand."""
+    """Respells clauses, ghost items and the names in comments; code keeps its names."""
     stay = imported(text, own)
     out, deep = [], 0
     for line in text.splitlines(keepends=True):

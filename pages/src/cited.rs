@@ -34,7 +34,7 @@ pub fn faults() -> Vec<String> {
             }
         }
     }
-    faults.extend(tree::files("docs/claims", &[".md"]).iter().flat_map(|path| misplaced(path, &mut shelf)));
+    faults.extend(tree::files("docs/claims", &[".md"]).iter().flat_map(|path| misplaced(path, &known, &mut shelf)));
     faults.extend(unnamed(&mut shelf));
     faults
 }
@@ -42,7 +42,7 @@ pub fn faults() -> Vec<String> {
 // ---- theorems in the tables of a claims page
 
 /// The theorems of a table's second column that none of the files in its third declares; `same` stands for the files of the row before.
-fn misplaced(path: &str, shelf: &mut Shelf) -> Vec<String> {
+fn misplaced(path: &str, known: &Known, shelf: &mut Shelf) -> Vec<String> {
     let text = tree::text(path);
     let mut files = Vec::new();
     let mut faults = Vec::new();
@@ -51,7 +51,7 @@ fn misplaced(path: &str, shelf: &mut Shelf) -> Vec<String> {
         let [_, statements, place] = cells[..] else { continue };
         files = files_named(place, &files);
         let proofs: Vec<&String> = files.iter().filter(|file| file.contains("/proofs/")).collect();
-        for name in spans(statements).into_iter().filter(|name| is_law(name) && !proofs.is_empty()) {
+        for name in spans(statements).into_iter().filter(|name| known.is_law(name) && !proofs.is_empty()) {
             if !proofs.iter().any(|file| shelf.antt(file).declarations.iter().any(|d| d.name == name)) {
                 faults.push(format!("{path}:{number}: `{name}` is declared in none of: {place}"));
             }
@@ -78,11 +78,6 @@ fn files_named(cell: &str, before: &[String]) -> Vec<String> {
         files.push(format!("crates/{krate}/{folder}/{}.antt", part.rsplit('/').next().unwrap_or("")));
     }
     files
-}
-
-/// A law's name: small words with hyphens between them.
-fn is_law(name: &str) -> bool {
-    name.contains('-') && name.chars().all(|c| c.is_alphanumeric() || c == '-')
 }
 
 /// A document brought up to date: the line of each link, where the name in the link's text decides, and in brackets behind a link to a promise
@@ -212,10 +207,11 @@ fn spans(line: &str) -> Vec<&str> {
     line.split('`').skip(1).step_by(2).filter(|span| !span.is_empty()).collect()
 }
 
-/// The names of the tree: words of the sources and definitions, edits, and functions by crate.
+/// The names of the tree: words of the sources and definitions, edits, functions by crate, and what specs/ declares.
 struct Known {
     words: HashSet<String>,
     functions: HashSet<String>,
+    definitions: HashSet<String>,
 }
 
 impl Known {
@@ -241,7 +237,13 @@ impl Known {
             functions.extend(source.types.keys().map(|t| format!("{name}::{t}")));
             functions.extend(source.constants.iter().cloned());
         }
-        Known { words, functions }
+        let mut definitions = HashSet::new();
+        for path in tree::files("crates", &[".antt"]).iter().filter(|path| path.contains("/specs/")) {
+            for declaration in &shelf.antt(path).declarations {
+                definitions.extend(declaration.constructors.iter().chain([&declaration.name]).cloned());
+            }
+        }
+        Known { words, functions, definitions }
     }
 
     fn has(&self, span: &str) -> bool {
@@ -257,6 +259,13 @@ impl Known {
             return self.has_path(plain);
         }
         self.words.contains(plain.trim_end_matches(".antt")) || Path::new(plain).exists() || Path::new(&format!("docs/{plain}")).exists()
+    }
+
+    /// A law's name: several small words, and neither a function's nor a definition's nor a crate's.
+    fn is_law(&self, name: &str) -> bool {
+        let words = name.contains('_') && name.chars().all(|c| c.is_alphanumeric() || c == '_');
+        let other = self.functions.contains(name) || self.definitions.contains(name) || tree::crates().iter().any(|krate| krate == name);
+        words && !other
     }
 
     /// A path from the root, below crates/, or the same in each crate; what is built and what the toolchain has are not in the tree.
@@ -294,9 +303,17 @@ mod tests {
 
     #[test]
     fn a_link_by_its_text_file_and_line() {
-        let link = links("see [`line-of`](../crates/x/proofs/Lines.antt#L12) there").remove(0);
-        assert_eq!((link.text.as_str(), link.line), ("`line-of`", Some(12)));
+        let link = links("see [`line_of`](../crates/x/proofs/Lines.antt#L12) there").remove(0);
+        assert_eq!((link.text.as_str(), link.line), ("`line_of`", Some(12)));
         assert_eq!(led_to("docs/CLAIMS.md", &link), "crates/x/proofs/Lines.antt");
+    }
+
+    #[test]
+    fn laws_and_other_names() {
+        let of = |name: &str| HashSet::from([name.to_string()]);
+        let known = Known { words: HashSet::new(), functions: of("take_out"), definitions: of("first_read") };
+        assert!(known.is_law("first_read_lem") && known.is_law("line_of"));
+        assert!(["take_out", "first_read", "alone", "codec::read_number"].iter().all(|name| !known.is_law(name)));
     }
 
     #[test]

@@ -4,7 +4,7 @@ use mathlib.Core.Path.{◌≡◌, refl, sym, ap, ap₂, ◌∙◌}
 use mathlib.Core.Bool.{Bool, cond}
 use mathlib.Core.Logic.{◌⊎◌, inl, inr}
 use Prim.Native.Nat.{ℕ, zero, suc, zero-le, ◌+◌, ◌-◌, ◌*◌, ◌/◌, ◌%◌, ◌^◌, ◌≤◌, ◌<◌}
-use native.Mathlib.Nat.{le_trans, le_of_eq, le_of_suc-le-suc, le_of_lt, not-suc-le-zero, lt-suc_self, zero-lt-suc, eq-or-lt_of_le, sub-add_cancel, zero-mul, mul_comm, mul-pos, mul-div_cancel, mul-mod_left, le-div_iff_mul-le, two-pow-succ}
+use native.Mathlib.Nat.{le_trans, le_of_eq, le_of_suc-le-suc, le_of_lt, not-suc-le-zero, lt-suc_self, zero-lt-suc, eq-or-lt_of_le, sub-add_cancel, zero-mul, mul_comm, mul-pos, mul-le-mul, mul-div_cancel, mul-mod_left, le-div_iff_mul-le, two-pow-succ}
 use native.Mathlib.Numerals.{add-one}
 use native.Mathlib.Omega.{arith}
 use lib.Arith.{le-zero}
@@ -186,6 +186,17 @@ module _ (n i : ℕ) (first : 1 ≤ i) (within : i ≤ n) where
 
   pub choose_quotient : choose n (i - 1) * (n - i + 1) / i ≡ choose n i
   choose_quotient = ap (λ (x : ℕ). x / i) divided ∙ mul-div_cancel (choose n i) first
+
+-- the same of a number that is C(n,i-1), and what a step divides is small
+module _ (n i c : ℕ) (before : c ≡ choose n (i - 1)) where
+  pub step_next : 1 ≤ i → i ≤ n → c * (n - i + 1) / i ≡ choose n i
+  step_next first within = ap (λ (x : ℕ). x * (n - i + 1) / i) before ∙ choose_quotient n i first within
+
+  pub step_small : n ≤ 16 → c * (n - i + 1) < 2 ^ 32
+  step_small few =
+      let factor : n - i + 1 ≤ 17 = omega arith in
+      let most : c ≤ 65536 = omega (arith, before, choose_small n (i - 1) few) in
+      omega (arith, mul-le-mul most factor)
 
 -- of i + q + 1 + r parts: to choose one, i others and q of the rest
 pub choose_parts : (q i r m : ℕ) → i + suc q + r ≡ m

@@ -1,11 +1,15 @@
 -- Laws of `tabulate`: its length, its entries, its end, and a list that a loop fills with a function's values.
 -- Assumes nothing.
 use mathlib.Core.Path.{◌≡◌, refl, sym, ap, ap₂, ◌∙◌, subst}
+use mathlib.Core.Bool.{cond}
 use mathlib.Core.List.{List, [], ◌∷◌, ◌++◌, append-nil}
 use mathlib.Core.Logic.{◌⊎◌, inl, inr}
 use Prim.Native.Nat.{ℕ, zero, suc, ◌+◌, ◌-◌, ◌≤◌, ◌<◌, zero-le}
 use native.Mathlib.Nat.{le_of_suc-le-suc, not-suc-le-zero, add-sub_of_le, le_antisymm, le_of_eq, le_trans}
 use native.Mathlib.Numerals.{add-one}
+use native.Mathlib.Omega.{arith}
+use borrow.Author.Tests.{le-leb, lt-leb}
+use lib.Dec.{leb}
 use lib.ListN.{length, get_or, set, take, drop, length-append, length-drop, drop_of_length-le, get_or-append, get_or-eq_default}
 use lib.Seq.{drop-cons, set-append_seam, append_snoc, get_or-append-add, get_or-drop, ext_get_or}
 use Rattle.numbers.specs.Tables.{tabulate, NoneOver}
@@ -28,6 +32,14 @@ module _ {A : Type 0} where
   unfolding tabulate
   tabulate_suc zero f = refl
   tabulate_suc (suc n) f = ap (λ (xs : List A). f zero ∷ xs) (tabulate_suc n (λ i. f (suc i)))
+
+-- its entries, and 0 beyond the last
+pub tabulate_or : (last : ℕ) (f : ℕ → ℕ) (k : ℕ) → get_or (tabulate (suc last) f) k 0 ≡ cond (leb k last) (f k) 0
+tabulate_or last f k = cases (below_or_above k (suc last))
+  where
+    cases : (k < suc last) ⊎ (suc last ≤ k) → get_or (tabulate (suc last) f) k 0 ≡ cond (leb k last) (f k) 0
+    cases (inl l) = tabulate_at (suc last) f k 0 l ∙ simp (le-leb k last (omega arith))
+    cases (inr l) = get_or-eq_default (tabulate (suc last) f) 0 (rw (tabulate_length (suc last) f) l) ∙ simp (lt-leb k last (omega arith))
 
 -- A list that a loop fills from the front with f: the first n are new, the rest is as it was.
 module _ {A : Type 0} (f : ℕ → A) (xs : List A) where

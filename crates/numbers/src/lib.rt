@@ -29,21 +29,19 @@ const FACTORIALS: [u64; 17] = [
 pub fn factorial(n: usize) -> u64
     ensures { result ≡ up_to_16 n («n!» n) }
 {
-    if n <= 16 { FACTORIALS[n] } else { 0 }
+    cell(&FACTORIALS, n)
 }
 
 // C(n,k) for n up to 16, and 0 above: by the product formula, where c(0) is 1 and c(i) is c(i-1) × (n-i+1) / i.
+#[tactic(auto, using(crate::proofs::Counts::choose_above, crate::proofs::Counts::choose_none, crate::proofs::Counts::step_small, crate::proofs::Counts::step_next))]
 pub fn binomial(n: usize, k: usize) -> u32
     ensures { result ≡ up_to_16 n (choose n k) }
 {
-    if 16 < n {
-        return 0;
-    }
-    if n < k {
+    if 16 < n || n < k {
         return 0;
     }
     let mut c: u32 = 1;
-    for i in 1..k + 1 {
+    for i in 1..=k {
         c = c * (n - i + 1) as u32 / i as u32;
     }
     c
@@ -60,19 +58,19 @@ pub fn power_of_two(n: usize) -> usize
 pub fn at_most_16(number: usize) -> usize
     ensures { result ≡ min number 16 }
 {
-    if number < 16 { number } else { 16 }
+    number.min(16)
 }
 
 // Whether a number is 1 to `limit`.
 pub fn in_range(number: usize, limit: usize) -> bool
     ensures { result ≡ leb 1 number && leb number limit }
 {
-    1 <= number && number <= limit
+    (1..=limit).contains(&number)
 }
 
 // The number at an index of a list, and 0 beyond the last.
 pub fn cell(list: &[u64], at: usize) -> u64
     ensures { result ≡ get_or list.now at 0 }
 {
-    if at < list.len() { list[at] } else { 0 }
+    list.get(at).copied().unwrap_or(0)
 }

@@ -8,7 +8,7 @@ ghost use Rattle.theory_sets.specs.Tables.{packed, in_table, table_of};
 ghost use Rattle.theory_cuts.specs.Cuts.{minimal_cuts, by_cuts, dual_table};
 ghost use Rattle.structure_words.specs.Words.{in_words, word_of, words_of};
 ghost use Rattle.structure.specs.Checks.{list_refusal, table_refusal};
-ghost use Rattle.structure_cuts.specs.Inside.{cuts_within, exchanged_index, backwards};
+ghost use Rattle.structure_cuts.specs.Inside.{cuts_within, backwards};
 
 use answer::{Verdict, Written};
 
@@ -61,13 +61,14 @@ pub fn dual(n: usize, table: &[u8], buffer: &mut [u8]) -> Written
 }
 
 // The cut sets of the structure of n parts that the words hold.
+#[tactic(auto, using(numbers::proofs::Tables::filled_none, numbers::proofs::Tables::filled_again, numbers::proofs::Tables::filled_end))]
 fn cut_sets(words: &[u64], n: usize) -> [u64; 1024]
     requires { n ≤ 16 }
     ensures { result ≡ words_of (cuts_within n (in_words words.now)) }
 {
     let mut sets = [0u64; 1024];
-    for at in 0..1024 {
-        sets[at] = cut_word(words, n, at);
+    for (at, word) in sets.iter_mut().enumerate() {
+        *word = cut_word(words, n, at);
     }
     sets
 }
@@ -92,22 +93,9 @@ fn cut_word(words: &[u64], n: usize, at: usize) -> u64
 }
 
 // The bits of a word from the other end.
+#[tactic(auto, using(crate::proofs::Reversal::reversed_word))]
 fn reversed(word: u64) -> u64
     ensures { result ≡ backwards word }
 {
-    let mut turned = word;
-    for part in 0..6 {
-        turned = exchanged(turned, part);
-    }
-    turned
-}
-
-// A word with its bits exchanged in pairs: that of each index which has the part with that of the same index without it.
-fn exchanged(word: u64, part: usize) -> u64
-    requires { part < 6 }
-    ensures { result ≡ packed 64 (λ k. has word (exchanged_index part k)) }
-{
-    let lower = structure_words::lacking(part);
-    let step = numbers::power_of_two(part);
-    ((word >> step) & lower) | ((word & lower) << step)
+    word.reverse_bits()
 }

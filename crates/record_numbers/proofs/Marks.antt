@@ -1,12 +1,11 @@
--- The highest of some numbers along a walk over them.
+-- The highest of some numbers is the best that a walk over them picks.
 -- Assumes nothing.
-use mathlib.Core.Path.{◌≡◌}
-use mathlib.Core.List.{List}
-use Prim.Native.Nat.{ℕ, ◌+◌, ◌<◌, max}
-use native.Mathlib.Nat.{le_trans, le_antisymm, le-max_left, le-max_right, max-le}
-use native.Mathlib.Numerals.{add-one}
-use lib.ListN.{length, drop, get_or}
-use lib.Seq.{drop-cons}
+use mathlib.Core.Path.{◌≡◌, sym, ◌∙◌}
+use mathlib.Core.List.{List, [], ◌∷◌}
+use Prim.Native.Nat.{ℕ, max}
+use native.Mathlib.Nat.{le_trans, le_antisymm, le-max_left, le-max_right, max-le, max-zero}
+use Rattle.std.specs.Prelude.{Option, unwrap_or}
+use Rattle.std.specs.List.{fold, reduce}
 use Rattle.record_numbers.specs.Numbering.{highest}
 
 max_assoc : (a b c : ℕ) → max a (max b c) ≡ max (max a b) c
@@ -15,6 +14,11 @@ max_assoc a b c =
     (max-le (le_trans (le-max_left a b) (le-max_left _ c)) (max-le (le_trans (le-max_right a b) (le-max_left _ c)) (le-max_right _ c)))
     (max-le (max-le (le-max_left a _) (le_trans (le-max_left b c) (le-max_right a _))) (le_trans (le-max_right b c) (le-max_right a _)))
 
--- on the walk along the numbers, the highest of all is that of the numbers passed and those left
-pub highest_past : (numbers : List ℕ) (most index : ℕ) → index < length numbers → max most (highest (drop index numbers)) ≡ max (max most (get_or numbers index 0)) (highest (drop (index + 1) numbers))
-highest_past numbers most index h = rw (drop-cons numbers index 0, add-one) (max_assoc _ _ _)
+-- the best so far is the highest of those passed
+highest_on : (most : ℕ) (numbers : List ℕ) → fold max most numbers ≡ max most (highest numbers)
+highest_on most [] = sym (max-zero most)
+highest_on most (n ∷ ns) = highest_on (max most n) ns ∙ sym (max_assoc most n (highest ns))
+
+pub highest_picked : (best : Option ℕ) (numbers : List ℕ) → best ≡ reduce max numbers → unwrap_or best 0 ≡ highest numbers
+highest_picked best [] e = rw e
+highest_picked best (n ∷ ns) e = rw e (highest_on n ns)

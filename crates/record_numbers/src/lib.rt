@@ -42,29 +42,14 @@ pub fn judge(mark: u64, numbers: &[u64]) -> Verdict
 pub fn misnumbered(previous: u64, mark: u64, number: u64) -> bool
     ensures { result ≡ misnumbered previous mark number }
 {
-    if number <= previous {
-        return true;
-    }
-    if mark < number {
-        return true;
-    }
-    TOP_NUMBER < number
+    number <= previous || mark < number || TOP_NUMBER < number
 }
 
 // The highest of some numbers.
 pub fn highest(numbers: &[u64]) -> u64
     ensures { result ≡ highest numbers.now }
 {
-    let mut most = 0;
-    let mut index = 0;
-    while index < numbers.len() {
-        let number = numbers[index];
-        if most < number {
-            most = number;
-        }
-        index += 1;
-    }
-    most
+    numbers.iter().copied().max().unwrap_or(0)
 }
 
 // The cells of a list of these numbers, the first 16 of them, without those at the positions of a group.
@@ -72,19 +57,13 @@ pub fn cells(numbers: &[u64], group: usize) -> [u64; MOST_PARTS]
     ensures { result ≡ cells_of (others (take most_parts numbers.now) group) }
 {
     let mut cells = [0; MOST_PARTS];
-    let count = if numbers.len() < MOST_PARTS {
-        numbers.len()
-    } else {
-        MOST_PARTS
-    };
+    let count = numbers.len().min(MOST_PARTS);
     let mut next = 0;
-    let mut left_out = group;
-    for index in 0..count {
-        if left_out % 2 == 0 {
-            cells[next] = numbers[index];
+    for (index, number) in numbers[..count].iter().enumerate() {
+        if (group >> index) % 2 == 0 {
+            cells[next] = *number;
             next += 1;
         }
-        left_out /= 2;
     }
     cells
 }
@@ -93,10 +72,5 @@ pub fn cells(numbers: &[u64], group: usize) -> [u64; MOST_PARTS]
 pub fn stands(number: u64, numbers: &[u64]) -> bool
     ensures { result ≡ names number numbers.now }
 {
-    for i in 0..numbers.len() {
-        if numbers[i] == number {
-            return true;
-        }
-    }
-    false
+    numbers.contains(&number)
 }

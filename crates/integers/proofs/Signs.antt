@@ -3,12 +3,11 @@ use mathlib.Core.Path.{◌≡◌, refl, sym, ap, ◌∙◌, subst}
 use mathlib.Core.Bool.{Bool, true, false, cond, true≢false}
 use Prim.Native.Nat.{ℕ, suc, ◌-◌, ◌^◌, ◌<◌}
 use native.Mathlib.Omega.{arith}
-use lib.Dec.{T}
-use lib.IntN.{ℤ, pos, negsuc, nat_abs, ◌-ℤ◌}
-use lib.Signed.{mag, lt_z, non_neg}
+use lib.IntN.{ℤ, pos, negsuc, ◌-ℤ◌}
+use lib.Signed.{mag, lt_z}
 use mir.Facts.{to_z-of_z}
 use mir.Syntax.{w64}
-use mir.Val.{Fits, SFits, to_z, of_z}
+use mir.Val.{SFits, to_z, of_z}
 use borrow.Author.Tests.{le-ltb, ltb-true}
 
 pub negative : (z : ℤ) → lt_z z (pos 0) ≡ true → (m : ℕ) × (z ≡ negsuc m)
@@ -41,9 +40,6 @@ module _ (value : ℤ) (fits : SFits w64 value) (low : lt_z (to_z w64 (of_z w64 
   pub less_same : to_z w64 (of_z w64 (negsuc 0 -ℤ to_z w64 (of_z w64 value))) ≡ pos less_found.0
   less_same = to_z-of_z {w = w64} less_fits ∙ turned
 
-  pub less_cast : T (non_neg (to_z w64 (of_z w64 (negsuc 0 -ℤ to_z w64 (of_z w64 value))))) × Fits w64 (nat_abs (to_z w64 (of_z w64 (negsuc 0 -ℤ to_z w64 (of_z w64 value)))))
-  less_cast = subst (λ (z : ℤ). T (non_neg z) × Fits w64 (nat_abs z)) (sym less_same) (tt, record { fits = omega (arith, less_small) })
-
 -- a number that is not
 module _ (value : ℤ) (fits : SFits w64 value) (high : lt_z (to_z w64 (of_z w64 value)) (pos 0) ≡ false) where
   pub whole_found : (m : ℕ) × (value ≡ pos m)
@@ -51,8 +47,3 @@ module _ (value : ℤ) (fits : SFits w64 value) (high : lt_z (to_z w64 (of_z w64
 
   pub whole_small : whole_found.0 < 2 ^ 63
   whole_small = subst (λ (z : ℤ). mag z < 2 ^ 63) whole_found.1 fits.sfits
-
-  pub whole_cast : T (non_neg (to_z w64 (of_z w64 value))) × Fits w64 (nat_abs (to_z w64 (of_z w64 value)))
-  whole_cast =
-      subst (λ (z : ℤ). T (non_neg z) × Fits w64 (nat_abs z)) (sym (to_z-of_z {w = w64} fits ∙ whole_found.1))
-      (tt, record { fits = omega (arith, whole_small) })

@@ -8,21 +8,19 @@ ghost use Rattle.integers.specs.Differences.{difference as difference_of};
 pub fn magnitude(value: i64) -> u64
     ensures { result ≡ nat_abs value }
 {
-    if value < 0 {
-        (-1 - value) as u64 + 1
-    } else {
-        value as u64
-    }
+    value.unsigned_abs()
 }
+
+// The limit of the counts that have a difference.
+const LIMIT: u64 = 1 << 62;
 
 // What was added less what was taken, for counts below 2^62, and 0 where one is larger.
 pub fn difference(added: u64, taken: u64) -> i64
     ensures { result ≡ difference_of added taken }
 {
-    if added < 4611686018427387904 {
-        if taken < 4611686018427387904 {
-            return added as i64 - taken as i64;
-        }
+    if added < LIMIT && taken < LIMIT {
+        added as i64 - taken as i64
+    } else {
+        0
     }
-    0
 }

@@ -1,2 +1,3 @@
 pub mod Decimals
-mod Signs
+pub mod Signs
+pub mod Puts

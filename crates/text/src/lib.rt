@@ -2,27 +2,25 @@
 // buffer stays as it was and the answer is the position itself.
 #![tactic(auto)]
 
-ghost use Rattle.std.specs.Prelude.{◌≡◌, ◌+◌, ◌≤◌, length};
-ghost use Rattle.std.proofs.Math.Seq.{paste};
+ghost use Rattle.std.specs.Prelude.{◌≡◌};
 ghost use Rattle.answer.specs.Outcome.{outcome};
 ghost use Rattle.answer.specs.Placed.{placed};
 ghost use Rattle.text.specs.Texts.{decimal, signed};
 
 // Puts bytes at a position and answers the position after them.
+#[tactic(auto, using(answer::proofs::Placing::placed_short, crate::proofs::Puts::placed_part))]
 pub fn put(text: &mut [u8], at: usize, bytes: &[u8]) -> usize
     ensures { outcome result text.new ≡ placed text.old at bytes.now }
 {
-    if text.len() < at {
+    if text.len() < at || text.len() - at < bytes.len() {
         return at;
     }
-    if text.len() - at < bytes.len() {
-        return at;
-    }
-    copy(text, at, bytes);
+    text[at..at + bytes.len()].copy_from_slice(bytes);
     at + bytes.len()
 }
 
 // Puts a number in decimal digits.
+#[tactic(auto, using(crate::proofs::Decimals::digits_decimal))]
 pub fn put_decimal(text: &mut [u8], at: usize, value: u64) -> usize
     ensures { outcome result text.new ≡ placed text.old at (decimal value) }
 {
@@ -32,6 +30,7 @@ pub fn put_decimal(text: &mut [u8], at: usize, value: u64) -> usize
 }
 
 // Puts a signed number, with a minus sign in front of a negative one.
+#[tactic(auto, using(crate::proofs::Signs::signed_other, crate::proofs::Signs::signed_negative, crate::proofs::Signs::spelt_length, crate::proofs::Signs::spelt_shown))]
 pub fn put_signed(text: &mut [u8], at: usize, value: i64) -> usize
     ensures { outcome result text.new ≡ placed text.old at (signed value) }
 {
@@ -42,14 +41,4 @@ pub fn put_signed(text: &mut [u8], at: usize, value: i64) -> usize
         return put(text, at, &spelt[..end]);
     }
     put_decimal(text, at, integers::magnitude(value))
-}
-
-// Copies bytes to a position where there is room for them.
-fn copy(text: &mut [u8], at: usize, bytes: &[u8])
-    requires { at + length bytes.now ≤ length text.old }
-    ensures { text.new ≡ paste text.old at bytes.now (length bytes.now) }
-{
-    for i in 0..bytes.len() {
-        text[at + i] = bytes[i];
-    }
 }

@@ -3,8 +3,8 @@
 use mathlib.Core.Path.{◌≡◌, sym, ap, ap₂, subst, ◌∙◌}
 use mathlib.Core.Bool.{Bool, ◌||◌}
 use mathlib.Core.List.{List}
-use Prim.Native.Nat.{ℕ, suc, ◌+◌, ◌-◌, ◌%◌, ◌^◌, ◌≤◌, ◌<◌}
-use native.Mathlib.Nat.{mod-eq_of_lt, mod-lt}
+use Prim.Native.Nat.{ℕ, suc, ◌+◌, ◌-◌, ◌*◌, ◌%◌, ◌^◌, ◌≤◌, ◌<◌}
+use native.Mathlib.Nat.{mod-eq_of_lt, mod-lt, one-mul}
 use native.Mathlib.Numerals.{add-one}
 use native.Mathlib.Omega.{arith}
 use lib.Bits.{or_lt}
@@ -39,6 +39,14 @@ set_more n k part set inside e =
     has_join set (2 ^ part k) i
     ∙ ap₂ (λ (p q : Bool). p || q) (ap (λ (x : ℕ). has x i) e ∙ has_packed n (λ bit. any (λ j. eqb bit (part j)) k) i l) (has_single (part k) i))
     ∙ ap (λ (m : ℕ). set_of n m part) (sym (add-one k))
+
+-- the next neighbour of a ring of n parts, as a bit of 16
+pub neighbour_more : (n i j set : ℕ) → 1 ≤ n → n ≤ 16 → set ≡ neighbours_from n j i → join set (1 * 2 ^ ((i + j) % n) % 2 ^ 16) ≡ neighbours_from n (j + 1) i
+neighbour_more n i j set some few e =
+    let near : (i + j) % n < n = mod-lt (i + j) some in
+    let low : (i + j) % n < 16 = omega arith in
+    ap (λ (x : ℕ). join set (x % 2 ^ 16)) (one-mul (2 ^ ((i + j) % n))) ∙ ap (join set) (mod-eq_of_lt (pow-lt low))
+    ∙ set_more n j (λ j. (i + j) % n) set near e
 
 -- ---- the sets of a row are the first of the ring's
 

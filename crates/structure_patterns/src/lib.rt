@@ -66,6 +66,7 @@ fn stopped_by_neighbours(n: usize, k: usize, count: usize, table: &mut [u8]) -> 
 }
 
 // The sets of k neighbours in a ring of n parts, from each of the bits 0 to 15 on, counted round the ring.
+#[tactic(auto, using(numbers::proofs::Tables::filled_none, numbers::proofs::Tables::filled_again, numbers::proofs::Tables::filled_end))]
 fn neighbours(n: usize, k: usize) -> [u16; 16]
     requires le_n { 1 ≤ n }
     requires n_bound { n ≤ 16 }
@@ -73,13 +74,14 @@ fn neighbours(n: usize, k: usize) -> [u16; 16]
     ensures { result ≡ first_neighbours n k 16 }
 {
     let mut sets = [0u16; 16];
-    for i in 0..16 {
-        sets[i] = neighbours_from(n, k, i);
+    for (i, set) in sets.iter_mut().enumerate() {
+        *set = neighbours_from(n, k, i);
     }
     sets
 }
 
 // The k neighbours from bit i on: behind the last part comes the first.
+#[tactic(auto, using(crate::proofs::NeighbourSets::set_none, crate::proofs::NeighbourSets::neighbour_more))]
 fn neighbours_from(n: usize, k: usize, i: usize) -> u16
     requires le_n { 1 ≤ n }
     requires n_bound { n ≤ 16 }
@@ -89,32 +91,31 @@ fn neighbours_from(n: usize, k: usize, i: usize) -> u16
 {
     let mut set: u16 = 0;
     for j in 0..k {
-        set = set | (1 << ((i + j) % n));
+        set |= 1 << ((i + j) % n);
     }
     set
 }
 
 // The sets of at least k of n parts.
+#[tactic(auto, using(numbers::proofs::Tables::filled_none, numbers::proofs::Tables::filled_again, numbers::proofs::Tables::filled_end, structure_words::proofs::Words::word_of_and))]
 fn at_least(n: usize, k: usize) -> [u64; 1024]
     requires { n ≤ 16 }
     ensures { result ≡ words_of (λ a. ltb a (2 ^ n) && at_least k a) }
 {
     let mut words = [0u64; 1024];
-    for at in 0..1024 {
-        words[at] = sets_within(n, at) & at_least_word(k, at);
+    for (at, word) in words.iter_mut().enumerate() {
+        *word = sets_within(n, at) & at_least_word(k, at);
     }
     words
 }
 
 // Word `at` of the sets of at least k parts: what the word's own index lacks of k has to stand within the word.
+#[tactic(auto, using(crate::proofs::Words::at_least_here))]
 fn at_least_word(k: usize, at: usize) -> u64
     ensures { result ≡ word_of (at_least k) at }
 {
-    let have = u64::count_ones(at as u64) as usize;
-    if k <= have {
-        return six_with(0);
-    }
-    six_with(k - have)
+    let have = at.count_ones() as usize;
+    six_with(k.saturating_sub(have))
 }
 
 // Word `at` of the sets of n parts.
@@ -126,10 +127,10 @@ fn sets_within(n: usize, at: usize) -> u64
         if 0 < at {
             return 0;
         }
-        return 0xFFFF_FFFF_FFFF_FFFF >> (64 - numbers::power_of_two(n));
+        return u64::MAX >> (64 - numbers::power_of_two(n));
     }
     if at < numbers::power_of_two(n - 6) {
-        0xFFFF_FFFF_FFFF_FFFF
+        u64::MAX
     } else {
         0
     }

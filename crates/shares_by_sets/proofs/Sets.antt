@@ -6,7 +6,7 @@ use mathlib.Core.List.{List, ◌++◌}
 use mathlib.Core.Logic.{◌⊎◌, inl, inr}
 use Prim.Native.Nat.{ℕ, zero, suc, zero-le, ◌+◌, ◌-◌, ◌*◌, ◌^◌, ◌≤◌, ◌<◌}
 use native.Mathlib.Decide.{ℕ_discrete}
-use native.Mathlib.Nat.{mul-le-mul, mul_assoc, lt_of_lt_of_le}
+use native.Mathlib.Nat.{mul-le-mul, mul_assoc, lt_of_lt_of_le, le_of_eq, le_trans}
 use native.Mathlib.Numerals.{add-one}
 use native.Mathlib.Omega.{arith}
 use lib.Count.{ones-le}
@@ -181,3 +181,22 @@ module _ (n : ℕ) (works : ℕ → Bool) (group : ℕ) (few : n ≤ 16) (within
 pub listed_weight : (n : ℕ) (weights : List ℕ) → weights ≡ tabulate 18 (weight n) → (s t : ℕ) → s < 18 → s ≡ t → get_or weights s 0 ≡ weight n t
 listed_weight n weights is s t below same =
     ap (λ (l : List ℕ). get_or l s 0) is ∙ tabulate_at 18 (weight n) s 0 below ∙ ap (weight n) same
+
+pub listed_few : (n : ℕ) (weights : List ℕ) (s : ℕ) → weights ≡ tabulate 18 (weight n) → n ≤ 16 → s < 18 → get_or weights s 0 ≤ 1307674368000
+listed_few n weights s is few below = le_trans (le_of_eq (listed_weight n weights is s s below refl)) (weight_few n s few)
+
+pub listed_fits : (n : ℕ) (weights : List ℕ) (s x : ℕ) → weights ≡ tabulate 18 (weight n) → n ≤ 16 → s < 18 → x ≤ 16 → x * get_or weights s 0 ≤ 20922789888000
+listed_fits n weights s x is few below h = mul-le-mul h (listed_few n weights s is few below)
+
+pub size_few : (a : ℕ) → a < 65536 → size a ≤ 16
+size_few a l = ones-le 16 a l
+
+pub inside_at_most : (group a : ℕ) → group < 65536 → a < 65536 → inside group a ≤ size group
+inside_at_most group a within l = inside_most 16 group a within l
+
+pub lacks_few : (group x : ℕ) → group < 65536 → size group - x ≤ 16
+lacks_few group x within = omega (arith, ones-le 16 group within)
+
+pub factorials_fit : (n s : ℕ) → 1 ≤ s → s ≤ n → n ≤ 16 → (factorial (n - s) ≡ factorial (n - s)) × (factorial (s - 1) * factorial (n - s) ≤ 1307674368000)
+unfolding factorial
+factorials_fit n s some most few = (refl, factorials_few (s - 1) (n - s) 15 (omega arith))

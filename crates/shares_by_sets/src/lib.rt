@@ -46,6 +46,7 @@ fn write_by_sets(n: usize, table: &[u8], group: usize, shares: &mut [i64])
 }
 
 // By the number of parts that a path set has in the group, what the path sets add to a share and what they take from one.
+#[tactic(auto, using(theory_sums::proofs::Gathering::gathered_none))]
 fn gather(
     n: usize,
     words: &[u64],
@@ -62,8 +63,7 @@ fn gather(
     ensures added_after { added.new ≡ tabulate 17 (gathered (in_words words.now) (inside group) (added_by n group) (2 ^ n)) }
     ensures taken_after { taken.new ≡ tabulate 17 (gathered (in_words words.now) (inside group) (taken_by n group) (2 ^ n)) }
 {
-    let end = numbers::power_of_two(n);
-    for a in 0..end {
+    for a in 0..numbers::power_of_two(n) {
         add_set(n, words, group, weights, a, added, taken);
     }
 }
@@ -98,6 +98,7 @@ fn add_set(
 }
 
 // What a path set adds to the share for k = m - i + 1, where i of its parts are in the group.
+#[tactic(auto, using(crate::proofs::Sets::inside_few, crate::proofs::Sets::listed_fits, crate::proofs::Sets::listed_weight, crate::proofs::Sets::size_few), unfolding(crate::specs::Inside::added_by))]
 fn amount_added(n: usize, group: usize, weights: &[u64; 18], a: usize) -> u64
     requires n_bound { n ≤ 16 }
     requires group_bound { group < 65536 }
@@ -109,6 +110,7 @@ fn amount_added(n: usize, group: usize, weights: &[u64; 18], a: usize) -> u64
 }
 
 // What a path set takes from the share for k = m - i, where i of its parts are in the group.
+#[tactic(auto, using(crate::proofs::Sets::lacks_few, crate::proofs::Sets::inside_at_most, crate::proofs::Sets::listed_fits, crate::proofs::Sets::listed_weight, crate::proofs::Sets::size_few), unfolding(crate::specs::Inside::taken_by))]
 fn amount_taken(n: usize, group: usize, weights: &[u64; 18], a: usize) -> u64
     requires n_bound { n ≤ 16 }
     requires group_bound { group < 65536 }
@@ -120,40 +122,40 @@ fn amount_taken(n: usize, group: usize, weights: &[u64; 18], a: usize) -> u64
 }
 
 // The weights of all sizes, from 0 on.
+#[tactic(auto, using(numbers::proofs::Tables::filled_none, numbers::proofs::Tables::filled_again, numbers::proofs::Tables::filled_end))]
 fn weights(n: usize) -> [u64; 18]
     requires { n ≤ 16 }
     ensures { result ≡ tabulate 18 (weight_of n) }
 {
     let mut weights = [0u64; 18];
-    for s in 0..18 {
-        weights[s] = weight(n, s);
+    for (s, cell) in weights.iter_mut().enumerate() {
+        *cell = weight(n, s);
     }
     weights
 }
 
 // (s-1)! × (n-s)! for the sizes s from 1 to n, and 0 for any other number.
+#[tactic(auto, using(crate::proofs::Sets::weight_none, crate::proofs::Sets::weight_above, crate::proofs::Sets::weight_size, crate::proofs::Sets::factorials_fit, numbers::proofs::Counts::up_to_16_given))]
 fn weight(n: usize, s: usize) -> u64
     requires { n ≤ 16 }
     ensures { result ≡ weight_of n s }
 {
-    if s == 0 {
-        return 0;
-    }
-    if n < s {
+    if s == 0 || n < s {
         return 0;
     }
     numbers::factorial(s - 1) * numbers::factorial(n - s)
 }
 
 // Writes the shares by what the path sets add and take.
+#[tactic(auto, using(numbers::proofs::Tables::filled_none, numbers::proofs::Tables::filled_again, integers::proofs::Differences::difference_small))]
 fn write_differences(m: usize, added: &[u64], taken: &[u64], shares: &mut [i64])
     requires m_in_bounds { m ≤ length shares.old }
     requires by_index { (i : ℕ) → get_or added.now i 0 < 2 ^ 62 }
     requires by_index_2 { (i : ℕ) → get_or taken.now i 0 < 2 ^ 62 }
     ensures { shares.new ≡ tabulate m (λ k. pos (get_or added.now (m - k) 0) -ℤ pos (get_or taken.now (m - (k + 1)) 0)) ++ drop m shares.old }
 {
-    for k in 0..m {
-        shares[k] = integers::difference(
+    for (k, share) in shares[..m].iter_mut().enumerate() {
+        *share = integers::difference(
             numbers::cell(added, m - k),
             numbers::cell(taken, m - (k + 1)),
         );

@@ -2,21 +2,15 @@
 -- Assumes nothing.
 use mathlib.Core.Path.{◌≡◌}
 use mathlib.Core.List.{List}
-use Prim.Native.Nat.{ℕ, ◌+◌, ◌-◌, ◌≤◌}
+use Prim.Native.Nat.{ℕ, ◌+◌, ◌-◌}
 use lib.IntN.{ℤ, pos, ◌-ℤ◌}
 use lib.ListN.{get_or}
 use Rattle.numbers.proofs.Tables.{filled}
 use Rattle.shares_by_sets.proofs.write_differences.Given as goal
-
--- `shares_by_sets::write_differences` meets its contract: the shares are filled from the front, and the rest is as it was.
--- Assumes nothing.
 
 -- the share in cell k
 abbrev pub share : ℕ → List ℕ → List ℕ → ℕ → ℤ
 share m added taken k = pos (get_or added (m - k) 0) -ℤ pos (get_or taken (m - (k + 1)) 0)
 
 abbrev pub invariant-loop-k : goal.invariant-loop-k
-invariant-loop-k l = (l.k ≤ l.m) × (l.shares ≡ filled (share l.m l.added l.taken) l.initial.shares l.k)
-
-abbrev pub decreases-loop-k : goal.decreases-loop-k
-decreases-loop-k l = l.m - l.k
+invariant-loop-k l = l.share-items ≡ filled (share l.m l.added l.taken) l.initial.share-items l.k

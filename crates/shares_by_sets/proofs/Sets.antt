@@ -1,18 +1,18 @@
 -- The set-by-set route: the weights of a path set stay in range, and what the path sets add and take by their parts in the group are the two sums
 -- of each share. Assumes nothing.
 use mathlib.Core.Path.{◌≡◌, refl, sym, ap, ap₂, ◌∙◌}
-use mathlib.Core.Bool.{Bool, false, cond, ◌&&◌, and-false}
-use mathlib.Core.List.{List, ◌++◌}
+use mathlib.Core.Bool.{Bool, true, false, cond, ◌&&◌, and-false}
+use mathlib.Core.List.{List}
 use mathlib.Core.Logic.{◌⊎◌, inl, inr}
-use Prim.Native.Nat.{ℕ, zero, suc, zero-le, ◌+◌, ◌-◌, ◌*◌, ◌^◌, ◌≤◌, ◌<◌}
+use Prim.Native.Nat.{ℕ, zero, suc, zero-le, ◌+◌, ◌-◌, ◌*◌, ◌%◌, ◌^◌, ◌≤◌, ◌<◌}
 use native.Mathlib.Decide.{ℕ_discrete}
 use native.Mathlib.Nat.{mul-le-mul, mul_assoc, lt_of_lt_of_le, le_of_eq, le_trans}
 use native.Mathlib.Numerals.{add-one}
 use native.Mathlib.Omega.{arith}
 use lib.Count.{ones-le}
 use lib.Dec.{leb, eqb}
-use lib.IntN.{ℤ, pos, ◌-ℤ◌}
-use lib.ListN.{length, get_or, drop}
+use lib.IntN.{pos, ◌-ℤ◌}
+use lib.ListN.{length, get_or, set, replicate}
 use lib.Pow.{pow_mono}
 use borrow.Author.Tests.{ne_eqb, le-leb, lt-leb}
 use Rattle.numbers.specs.Counts.{factorial}
@@ -28,7 +28,7 @@ use Rattle.numbers.proofs.Counts.{factorials_few}
 use Rattle.shares_claim.specs.SetBySet.{share_of, shares_by_sets}
 use Rattle.shares_claim.proofs.Types.{inside_most, inside_and_outside, outside_most}
 use Rattle.theory_sums.specs.Sums.{gathered}
-use Rattle.theory_sums.proofs.Gathering.{gathered_list_few}
+use Rattle.theory_sums.proofs.Gathering.{gathered_none, gathered_list_few, gathered_add}
 use Rattle.shares_group.proofs.Gathering.{gathered_words}
 use Rattle.shares_by_sets.specs.Inside.{weight, added_by, taken_by}
 
@@ -126,31 +126,20 @@ module _ (n : ℕ) (works : ℕ → Bool) (group : ℕ) (within : group < 2 ^ n)
 pub sets_shares : (n : ℕ) (table words : List ℕ) (group : ℕ) (adds takes : List ℕ) → n ≤ 16 → group < 2 ^ n → words ≡ words_of (in_table table)
     → adds ≡ tabulate 17 (gathered (in_words words) (inside group) (added_by n group) (2 ^ n))
     → takes ≡ tabulate 17 (gathered (in_words words) (inside group) (taken_by n group) (2 ^ n))
-    → tabulate (size group) (λ k. pos (get_or adds (size group - k) 0) -ℤ pos (get_or takes (size group - (k + 1)) 0)) ≡ shares_by_sets n (in_table table) group
+    → shares_by_sets n (in_table table) group ≡ tabulate (size group) (λ k. pos (get_or adds (size group - k) 0) -ℤ pos (get_or takes (size group - (k + 1)) 0))
 unfolding shares_by_sets
 sets_shares n table words group adds takes few within loaded is-added is-taken =
-    tabulate_same (size group) _ _ (λ k l.
+    sym (tabulate_same (size group) _ _ (λ k l.
     ap₂ (λ (x y : ℕ). pos x -ℤ pos y)
     (gathers adds (added_by n group) is-added (size group - k) (omega (arith, ones-le n group within)))
     (gathers takes (taken_by n group) is-taken (size group - (k + 1)) (omega (arith, ones-le n group within)))
-    ∙ gathered_share n (in_table table) group within k l)
+    ∙ gathered_share n (in_table table) group within k l))
   where
     gathers : (cells : List ℕ) (amount : ℕ → ℕ) → cells ≡ tabulate 17 (gathered (in_words words) (inside group) amount (2 ^ n)) → (i : ℕ) → i < 17
         → get_or cells i 0 ≡ gathered (in_table table) (inside group) amount (2 ^ n) i
     gathers cells amount is i h =
         ap (λ (xs : List ℕ). get_or xs i 0) is ∙ tabulate_at 17 (gathered (in_words words) (inside group) amount (2 ^ n)) i 0 h
         ∙ gathered_words n table words (inside group) amount few loaded i
-
--- what the shares are written as
-pub sets_written : (n : ℕ) (table words : List ℕ) (group : ℕ) (adds takes : List ℕ) → n ≤ 16 → group < 2 ^ n → words ≡ words_of (in_table table)
-    → adds ≡ tabulate 17 (gathered (in_words words) (inside group) (added_by n group) (2 ^ n))
-    → takes ≡ tabulate 17 (gathered (in_words words) (inside group) (taken_by n group) (2 ^ n))
-    → (m : ℕ) → m ≡ size group → (shares after : List ℤ)
-    → after ≡ tabulate m (λ k. pos (get_or adds (m - k) 0) -ℤ pos (get_or takes (m - (k + 1)) 0)) ++ drop m shares
-    → after ≡ shares_by_sets n (in_table table) group ++ drop (size group) shares
-sets_written n table words group adds takes few within loaded is-added is-taken m sized shares after e =
-    e ∙ ap (λ (m : ℕ). tabulate m (λ k. pos (get_or adds (m - k) 0) -ℤ pos (get_or takes (m - (k + 1)) 0)) ++ drop m shares) sized
-    ∙ ap (λ (xs : List ℤ). xs ++ drop (size group) shares) (sets_shares n table words group adds takes few within loaded is-added is-taken)
 
 pub by_sets_length : (n : ℕ) (works : ℕ → Bool) (group : ℕ) → length (shares_by_sets n works group) ≡ size group
 unfolding shares_by_sets
@@ -182,11 +171,16 @@ pub listed_weight : (n : ℕ) (weights : List ℕ) → weights ≡ tabulate 18 (
 listed_weight n weights is s t below same =
     ap (λ (l : List ℕ). get_or l s 0) is ∙ tabulate_at 18 (weight n) s 0 below ∙ ap (weight n) same
 
-pub listed_few : (n : ℕ) (weights : List ℕ) (s : ℕ) → weights ≡ tabulate 18 (weight n) → n ≤ 16 → s < 18 → get_or weights s 0 ≤ 1307674368000
-listed_few n weights s is few below = le_trans (le_of_eq (listed_weight n weights is s s below refl)) (weight_few n s few)
-
 pub listed_fits : (n : ℕ) (weights : List ℕ) (s x : ℕ) → weights ≡ tabulate 18 (weight n) → n ≤ 16 → s < 18 → x ≤ 16 → x * get_or weights s 0 ≤ 20922789888000
-listed_fits n weights s x is few below h = mul-le-mul h (listed_few n weights s is few below)
+listed_fits n weights s x is few below most =
+    mul-le-mul most (le_trans (le_of_eq (listed_weight n weights is s s below refl)) (weight_few n s few))
+
+-- the two factorials of a weight
+pub factorials_fit : (n s : ℕ) → 1 ≤ s → s ≤ n → n ≤ 16 → (factorial (n - s) ≡ factorial (n - s)) × (factorial (s - 1) * factorial (n - s) ≤ 1307674368000)
+unfolding factorial
+factorials_fit n s some most few = (refl, factorials_few (s - 1) (n - s) 15 (omega arith))
+
+-- ---- the parts of a set
 
 pub size_few : (a : ℕ) → a < 65536 → size a ≤ 16
 size_few a l = ones-le 16 a l
@@ -197,6 +191,33 @@ inside_at_most group a within l = inside_most 16 group a within l
 pub lacks_few : (group x : ℕ) → group < 65536 → size group - x ≤ 16
 lacks_few group x within = omega (arith, ones-le 16 group within)
 
-pub factorials_fit : (n s : ℕ) → 1 ≤ s → s ≤ n → n ≤ 16 → (factorial (n - s) ≡ factorial (n - s)) × (factorial (s - 1) * factorial (n - s) ≤ 1307674368000)
-unfolding factorial
-factorials_fit n s some most few = (refl, factorials_few (s - 1) (n - s) 15 (omega arith))
+-- ---- the sums over the sets
+
+pub sums_none : (test : ℕ → Bool) (class amount : ℕ → ℕ) → replicate 17 0 ≡ tabulate 17 (gathered test class amount 0)
+unfolding tabulate
+sums_none test class amount = gathered_none test class amount 17
+
+-- what a path set leaves of the sums over the sets below it
+module _ (n group a : ℕ) (words : List ℕ) (few : n ≤ 16) (within : group < 65536) (l : a < 65536) (path : in_words words a ≡ true) where
+  unfoldable sums : (ℕ → ℕ) → ℕ → List ℕ
+  sums amount t = tabulate 17 (gathered (in_words words) (inside group) amount t)
+
+  more : (amount : ℕ → ℕ) → ((b : ℕ) → b < 65536 → amount b ≤ 20922789888000)
+      → sums amount (a + 1) ≡ set (sums amount a) (inside group a) ((get_or (sums amount a) (inside group a) 0 + amount a) % 2 ^ 64)
+  unfolding sums
+  more amount few_each =
+      let low : inside group a < 17 = omega (arith, inside_few n group a few within l) in
+      sym (gathered_add (in_words words) (inside group) amount 17 a 20922789888000 (λ b h. few_each b (omega (arith, l))) (omega (arith, l)) _ _
+      (inside group a) (amount a) refl path low refl refl refl)
+
+  pub added_more : tabulate 17 (gathered (in_words words) (inside group) (added_by n group) (a + 1))
+      ≡ set (tabulate 17 (gathered (in_words words) (inside group) (added_by n group) a)) (inside group a)
+      ((get_or (tabulate 17 (gathered (in_words words) (inside group) (added_by n group) a)) (inside group a) 0 + added_by n group a) % 2 ^ 64)
+  unfolding sums
+  added_more = more (added_by n group) (λ b h. added_by_few n group b few within h)
+
+  pub taken_more : tabulate 17 (gathered (in_words words) (inside group) (taken_by n group) (a + 1))
+      ≡ set (tabulate 17 (gathered (in_words words) (inside group) (taken_by n group) a)) (inside group a)
+      ((get_or (tabulate 17 (gathered (in_words words) (inside group) (taken_by n group) a)) (inside group a) 0 + taken_by n group a) % 2 ^ 64)
+  unfolding sums
+  taken_more = more (taken_by n group) (λ b h. taken_by_few n group b few within h)

@@ -30,95 +30,89 @@ pub fn shares_by_sets(n: usize, table: &[u8], group: usize, shares: &mut [i64]) 
 }
 
 // Writes the shares of a group, set by set.
+#[tactic(auto, using(crate::proofs::Sets::added_small, crate::proofs::Sets::taken_small, crate::proofs::Sets::sets_shares))]
 fn write_by_sets(n: usize, table: &[u8], group: usize, shares: &mut [i64])
     requires n_bound { n ≤ 16 }
     requires group_bound { group < 2 ^ n }
     requires group_in_bounds { size_of group ≤ length shares.old }
     ensures { shares.new ≡ shares_by_sets n (in_table table.now) group ++ drop (size_of group) shares.old }
 {
-    let m = masks::size(group);
     let words = structure_words::load(table);
     let weights = weights(n);
-    let mut added = [0u64; 17];
-    let mut taken = [0u64; 17];
-    gather(n, &words, group, &weights, &mut added, &mut taken);
-    write_differences(m, &added, &taken, shares);
+    let scale = Scale { n, group, weights };
+    let sums = scale.gather(&words);
+    write_differences(group, &sums, shares);
+}
+
+// What the sets are weighed by: the machine's parts, the group, and the weights of all sizes.
+#[derive(Drop)]
+struct Scale {
+    n: usize,
+    group: usize,
+    weights: [u64; 18],
+    ghost n_bound: { n ≤ 16 },
+    ghost group_bound: { group < 65536 },
+    ghost weights_value: { weights ≡ tabulate 18 (weight_of n) },
 }
 
 // By the number of parts that a path set has in the group, what the path sets add to a share and what they take from one.
-#[tactic(auto, using(theory_sums::proofs::Gathering::gathered_none))]
-fn gather(
-    n: usize,
-    words: &[u64],
-    group: usize,
-    weights: &[u64; 18],
-    added: &mut [u64],
-    taken: &mut [u64],
-)
-    requires n_bound { n ≤ 16 }
-    requires group_bound { group < 2 ^ n }
-    requires weights_value { weights.now ≡ tabulate 18 (weight_of n) }
-    requires added_value { added.old ≡ tabulate 17 (λ i. 0) }
-    requires taken_value { taken.old ≡ tabulate 17 (λ i. 0) }
-    ensures added_after { added.new ≡ tabulate 17 (gathered (in_words words.now) (inside group) (added_by n group) (2 ^ n)) }
-    ensures taken_after { taken.new ≡ tabulate 17 (gathered (in_words words.now) (inside group) (taken_by n group) (2 ^ n)) }
-{
-    for a in 0..numbers::power_of_two(n) {
-        add_set(n, words, group, weights, a, added, taken);
+#[derive(Drop)]
+struct Sums {
+    added: [u64; 17],
+    taken: [u64; 17],
+}
+
+impl Scale {
+    // The sums over all path sets.
+    #[tactic(auto, using(crate::proofs::Sets::sums_none))]
+    fn gather(&self, words: &[u64]) -> Sums
+        ensures added_value { result.added ≡ tabulate 17 (gathered (in_words words.now) (inside self.now.group) (added_by self.now.n self.now.group) (2 ^ self.now.n)) }
+        ensures taken_value { result.taken ≡ tabulate 17 (gathered (in_words words.now) (inside self.now.group) (taken_by self.now.n self.now.group) (2 ^ self.now.n)) }
+    {
+        let mut sums = Sums {
+            added: [0; 17],
+            taken: [0; 17],
+        };
+        for a in 0..numbers::power_of_two(self.n) {
+            self.add_set(words, a, &mut sums);
+        }
+        sums
     }
-}
 
-// Adds the two amounts of a set, if it is a path set.
-fn add_set(
-    n: usize,
-    words: &[u64],
-    group: usize,
-    weights: &[u64; 18],
-    a: usize,
-    added: &mut [u64],
-    taken: &mut [u64],
-)
-    requires n_bound { n ≤ 16 }
-    requires group_bound { group < 65536 }
-    requires a_bound { a < 65536 }
-    requires weights_value { weights.now ≡ tabulate 18 (weight_of n) }
-    requires added_value { added.old ≡ tabulate 17 (gathered (in_words words.now) (inside group) (added_by n group) a) }
-    requires taken_value { taken.old ≡ tabulate 17 (gathered (in_words words.now) (inside group) (taken_by n group) a) }
-    ensures added_after { added.new ≡ tabulate 17 (gathered (in_words words.now) (inside group) (added_by n group) (a + 1)) }
-    ensures taken_after { taken.new ≡ tabulate 17 (gathered (in_words words.now) (inside group) (taken_by n group) (a + 1)) }
-{
-    if !structure_words::works(words, a) {
-        return;
+    // Adds the two amounts of a set, if it is a path set.
+    #[tactic(auto, using(theory_sums::proofs::Gathering::gathered_skip, crate::proofs::Sets::added_more, crate::proofs::Sets::taken_more))]
+    fn add_set(&self, words: &[u64], a: usize, sums: &mut Sums)
+        requires a_bound { a < 65536 }
+        requires added_value { sums.old.added ≡ tabulate 17 (gathered (in_words words.now) (inside self.now.group) (added_by self.now.n self.now.group) a) }
+        requires taken_value { sums.old.taken ≡ tabulate 17 (gathered (in_words words.now) (inside self.now.group) (taken_by self.now.n self.now.group) a) }
+        ensures added_after { sums.new.added ≡ tabulate 17 (gathered (in_words words.now) (inside self.now.group) (added_by self.now.n self.now.group) (a + 1)) }
+        ensures taken_after { sums.new.taken ≡ tabulate 17 (gathered (in_words words.now) (inside self.now.group) (taken_by self.now.n self.now.group) (a + 1)) }
+    {
+        if structure_words::works(words, a) {
+            let inside = masks::size(a & self.group);
+            shares_group::add(&mut sums.added, inside, self.added(a));
+            shares_group::add(&mut sums.taken, inside, self.taken(a));
+        }
     }
-    let inside = masks::size(a & group);
-    let gain = amount_added(n, group, weights, a);
-    let loss = amount_taken(n, group, weights, a);
-    shares_group::add(added, inside, gain);
-    shares_group::add(taken, inside, loss);
-}
 
-// What a path set adds to the share for k = m - i + 1, where i of its parts are in the group.
-#[tactic(auto, using(crate::proofs::Sets::inside_few, crate::proofs::Sets::listed_fits, crate::proofs::Sets::listed_weight, crate::proofs::Sets::size_few), unfolding(crate::specs::Inside::added_by))]
-fn amount_added(n: usize, group: usize, weights: &[u64; 18], a: usize) -> u64
-    requires n_bound { n ≤ 16 }
-    requires group_bound { group < 65536 }
-    requires a_bound { a < 65536 }
-    requires weights_value { weights.now ≡ tabulate 18 (weight_of n) }
-    ensures { result ≡ added_by n group a }
-{
-    masks::size(a & group) as u64 * weights[masks::size(a)]
-}
+    // What a path set adds to the share for k = m - i + 1, where i of its parts are in the group.
+    #[tactic(auto, using(crate::proofs::Sets::inside_few, crate::proofs::Sets::listed_fits, crate::proofs::Sets::listed_weight, crate::proofs::Sets::size_few), unfolding(crate::specs::Inside::added_by))]
+    fn added(&self, a: usize) -> u64
+        requires { a < 65536 }
+        ensures { result ≡ added_by self.now.n self.now.group a }
+    {
+        masks::size(a & self.group) as u64 * self.weights[masks::size(a)]
+    }
 
-// What a path set takes from the share for k = m - i, where i of its parts are in the group.
-#[tactic(auto, using(crate::proofs::Sets::lacks_few, crate::proofs::Sets::inside_at_most, crate::proofs::Sets::listed_fits, crate::proofs::Sets::listed_weight, crate::proofs::Sets::size_few), unfolding(crate::specs::Inside::taken_by))]
-fn amount_taken(n: usize, group: usize, weights: &[u64; 18], a: usize) -> u64
-    requires n_bound { n ≤ 16 }
-    requires group_bound { group < 65536 }
-    requires a_bound { a < 65536 }
-    requires weights_value { weights.now ≡ tabulate 18 (weight_of n) }
-    ensures { result ≡ taken_by n group a }
-{
-    (masks::size(group) - masks::size(a & group)) as u64 * weights[masks::size(a) + 1]
+    // What a path set takes from the share for k = m - i, where i of its parts are in the group.
+    #[tactic(auto, using(crate::proofs::Sets::lacks_few, crate::proofs::Sets::inside_at_most, crate::proofs::Sets::listed_fits, crate::proofs::Sets::listed_weight, crate::proofs::Sets::size_few), unfolding(crate::specs::Inside::taken_by))]
+    fn taken(&self, a: usize) -> u64
+        requires { a < 65536 }
+        ensures { result ≡ taken_by self.now.n self.now.group a }
+    {
+        let lacking = masks::size(self.group) - masks::size(a & self.group);
+        lacking as u64 * self.weights[masks::size(a) + 1]
+    }
 }
 
 // The weights of all sizes, from 0 on.
@@ -146,18 +140,19 @@ fn weight(n: usize, s: usize) -> u64
     numbers::factorial(s - 1) * numbers::factorial(n - s)
 }
 
-// Writes the shares by what the path sets add and take.
+// Writes the shares of a group by what the path sets add and take.
 #[tactic(auto, using(numbers::proofs::Tables::filled_none, numbers::proofs::Tables::filled_again, integers::proofs::Differences::difference_small))]
-fn write_differences(m: usize, added: &[u64], taken: &[u64], shares: &mut [i64])
-    requires m_in_bounds { m ≤ length shares.old }
-    requires by_index { (i : ℕ) → get_or added.now i 0 < 2 ^ 62 }
-    requires by_index_2 { (i : ℕ) → get_or taken.now i 0 < 2 ^ 62 }
-    ensures { shares.new ≡ tabulate m (λ k. pos (get_or added.now (m - k) 0) -ℤ pos (get_or taken.now (m - (k + 1)) 0)) ++ drop m shares.old }
+fn write_differences(group: usize, sums: &Sums, shares: &mut [i64])
+    requires group_in_bounds { size_of group ≤ length shares.old }
+    requires by_index { (i : ℕ) → get_or sums.now.added i 0 < 2 ^ 62 }
+    requires by_index_2 { (i : ℕ) → get_or sums.now.taken i 0 < 2 ^ 62 }
+    ensures { shares.new ≡ tabulate (size_of group) (λ k. pos (get_or sums.now.added (size_of group - k) 0) -ℤ pos (get_or sums.now.taken (size_of group - (k + 1)) 0)) ++ drop (size_of group) shares.old }
 {
+    let m = masks::size(group);
     for (k, share) in shares[..m].iter_mut().enumerate() {
         *share = integers::difference(
-            numbers::cell(added, m - k),
-            numbers::cell(taken, m - (k + 1)),
+            numbers::cell(&sums.added, m - k),
+            numbers::cell(&sums.taken, m - (k + 1)),
         );
     }
 }

@@ -34,6 +34,6 @@ pub fn add(sums: &mut [u64], at: usize, amount: u64)
     ensures { sums.new ≡ slice_set sums.old at ((slice_index sums.old at + amount) % 2 ^ 64) }
 {
     if at < sums.len() {
-        sums[at] = std::num::wrapping_add_u64(sums[at], amount);
+        sums[at] = sums[at].wrapping_add(amount);
     }
 }

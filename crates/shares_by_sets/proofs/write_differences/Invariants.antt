@@ -6,6 +6,7 @@ use Prim.Native.Nat.{ℕ, ◌+◌, ◌-◌}
 use lib.IntN.{ℤ, pos, ◌-ℤ◌}
 use lib.ListN.{get_or}
 use Rattle.numbers.proofs.Tables.{filled}
+use Rattle.theory_sets.specs.Masks.{size}
 use Rattle.shares_by_sets.proofs.write_differences.Given as goal
 
 -- the share in cell k
@@ -13,4 +14,4 @@ abbrev pub share : ℕ → List ℕ → List ℕ → ℕ → ℤ
 share m added taken k = pos (get_or added (m - k) 0) -ℤ pos (get_or taken (m - (k + 1)) 0)
 
 abbrev pub invariant-loop-k : goal.invariant-loop-k
-invariant-loop-k l = l.share-items ≡ filled (share l.m l.added l.taken) l.initial.share-items l.k
+invariant-loop-k l = l.share-items ≡ filled (share (size l.group) l.sums.added l.sums.taken) l.initial.share-items l.k

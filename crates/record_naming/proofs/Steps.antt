@@ -1,8 +1,7 @@
--- What one number more on a list does to the position found, to the test of all, to the test for repeats and to
--- the mask.
+-- What one number more on a list does to the position found and to the mask, and the test of all.
 -- Assumes nothing.
 use mathlib.Core.Path.{◌≡◌, refl, sym, ap, ◌∙◌}
-use mathlib.Core.Bool.{Bool, true, false, cond, ◌&&◌, ◌||◌}
+use mathlib.Core.Bool.{Bool, true, false, cond}
 use mathlib.Core.List.{List, [], ◌∷◌}
 use Prim.Native.Nat.{ℕ, suc, ◌+◌, ◌*◌, ◌^◌, ◌≤◌, ◌<◌}
 use native.Mathlib.Nat.{pow-succ'}
@@ -10,9 +9,9 @@ use native.Mathlib.Omega.{arith}
 use borrow.Author.Tests.{eq-eqb, ne_eqb}
 use lib.ListN.{length, drop, get_or, drop_of_length-le, length-drop}
 use lib.Pow.{pow_mono}
+use Rattle.std.specs.List.{list_all}
 use Rattle.record_numbers.proofs.Names.{from_here}
 use Rattle.record_lines.specs.Changes.{every}
-use Rattle.record_lines.specs.Names.{repeated}
 use Rattle.record_numbers.specs.Numbering.{names}
 use Rattle.record_naming.specs.Naming.{position_from, mask_of}
 
@@ -25,12 +24,6 @@ module _ (numbers : List ℕ) (i : ℕ) (inside : i < length numbers) where
   unfolding position_from
   position_past first number e = ap (position_from first number) (from_here numbers i inside) ∙ rw (ne_eqb number (get_or numbers i 0) (λ same. e (sym same))) refl
 
-  pub every_here : (test : ℕ → Bool) → every test (drop i numbers) ≡ test (get_or numbers i 0) && every test (drop (i + 1) numbers)
-  every_here test = ap (every test) (from_here numbers i inside)
-
-  pub repeats_here : repeated (drop i numbers) ≡ names (get_or numbers i 0) (drop (i + 1) numbers) || repeated (drop (i + 1) numbers)
-  repeats_here = ap repeated (from_here numbers i inside)
-
   pub mask_here : (wanted : List ℕ) → mask_of (drop i numbers) wanted ≡ cond (names (get_or numbers i 0) wanted) 1 0 + 2 * mask_of (drop (i + 1) numbers) wanted
   unfolding mask_of
   mask_here wanted = ap (λ (rest : List ℕ). mask_of rest wanted) (from_here numbers i inside)
@@ -40,12 +33,6 @@ module _ (numbers : List ℕ) (i : ℕ) (end : length numbers ≤ i) where
   pub position_end : (first number : ℕ) → position_from first number (drop i numbers) ≡ 0
   unfolding position_from
   position_end first number = ap (position_from first number) (drop_of_length-le numbers end)
-
-  pub every_end : (test : ℕ → Bool) → every test (drop i numbers) ≡ true
-  every_end test = ap (every test) (drop_of_length-le numbers end)
-
-  pub repeats_end : repeated (drop i numbers) ≡ false
-  repeats_end = ap repeated (drop_of_length-le numbers end)
 
   pub mask_end : (wanted : List ℕ) → mask_of (drop i numbers) wanted ≡ 0
   unfolding mask_of
@@ -65,3 +52,8 @@ pub mask_small : (numbers : List ℕ) (i : ℕ) (wanted : List ℕ) → length n
 mask_small numbers i wanted few =
     let room : 2 ^ length (drop i numbers) ≤ 2 ^ 16 = pow_mono {i = length (drop i numbers)} {j = 16} (omega (arith, length-drop i numbers)) in
     omega (arith, mask_below (drop i numbers) wanted)
+
+-- what `all` answers
+pub every_tried : (test : ℕ → Bool) (numbers : List ℕ) → list_all test numbers ≡ every test numbers
+every_tried test [] = refl
+every_tried test (n ∷ ns) = rw (every_tried test ns)

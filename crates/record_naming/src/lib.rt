@@ -78,18 +78,15 @@ fn wanted_verdict(numbers: &[u64], wanted: &[u64]) -> Verdict
     Verdict::Accepted
 }
 
-// The mask of the wanted among up to 16 numbers, from the last position down.
+// The mask of the wanted among up to 16 numbers.
 fn mask(numbers: &[u64], wanted: &[u64]) -> usize
     requires { length numbers.now ≤ most_parts }
     ensures { result ≡ mask_of numbers.now wanted.now }
 {
     let mut mask = 0;
-    let mut index = numbers.len();
-    while 0 < index {
-        index -= 1;
-        mask *= 2;
-        if record_numbers::stands(numbers[index], wanted) {
-            mask += 1;
+    for (at, number) in numbers.iter().enumerate() {
+        if record_numbers::stands(*number, wanted) {
+            mask += 1 << at;
         }
     }
     mask
@@ -99,20 +96,17 @@ fn mask(numbers: &[u64], wanted: &[u64]) -> usize
 fn all_stand(wanted: &[u64], numbers: &[u64]) -> bool
     ensures { result ≡ every (λ number. names number numbers.now) wanted.now }
 {
-    for i in 0..wanted.len() {
-        if !record_numbers::stands(wanted[i], numbers) {
-            return false;
-        }
-    }
-    true
+    wanted
+        .iter()
+        .all(|number| record_numbers::stands(*number, numbers))
 }
 
 // Whether some number stands twice.
 fn repeats(numbers: &[u64]) -> bool
     ensures { result ≡ repeated numbers.now }
 {
-    for i in 0..numbers.len() {
-        if record_numbers::stands(numbers[i], &numbers[i + 1..]) {
+    for (at, number) in numbers.iter().enumerate() {
+        if record_numbers::stands(*number, &numbers[at + 1..]) {
             return true;
         }
     }

@@ -1,59 +1,58 @@
--- `record_naming::mask` meets its contract. The loop's invariant: the mask so far is that of the positions passed, counted from the first of them.
+-- `record_naming::mask` meets its contract.
 -- Assumes nothing.
-use mathlib.Core.Path.{◌≡◌, refl, sym, ap, ◌∙◌}
-use mathlib.Core.Bool.{true, false, cond}
+use mathlib.Core.Path.{◌≡◌, sym, ◌∙◌}
+use mathlib.Core.Bool.{Bool, true, false, cond}
 use mathlib.Core.List.{List}
-use Prim.Native.Nat.{ℕ, ◌+◌, ◌*◌, ◌-◌, ◌≤◌, ◌<◌}
+use Prim.Native.Nat.{ℕ, ◌+◌, ◌*◌, ◌%◌, ◌^◌, ◌≤◌, ◌<◌}
+use native.Mathlib.Nat.{pow-succ'}
+use native.Mathlib.Numerals.{add-one}
 use native.Mathlib.Omega.{arith}
 use lib.ListN.{length, drop, get_or}
+use lib.Pow.{pow_mono}
 use Rattle.record_numbers.specs.Numbering.{names}
 use Rattle.record_naming.specs.Naming.{mask_of}
 use Rattle.record_naming.proofs.Steps.{mask_here, mask_end, mask_small}
 use Rattle.record_naming.proofs.mask.Goals as goal
+use Rattle.record_naming.proofs.mask.Goals.{then-stands, else-stands}
 
--- one position more in front
-module _ (numbers wanted : List ℕ) (index mask : ℕ) (any : 0 < index) (inside : index ≤ length numbers) (so_far : mask ≡ mask_of (drop index numbers) wanted) where
-  doubled : mask_of (drop (index - 1) numbers) wanted ≡ cond (names (get_or numbers (index - 1) 0) wanted) 1 0 + 2 * mask
-  doubled =
-      let back : index - 1 + 1 ≡ index = omega arith in
-      mask_here numbers (index - 1) (omega arith) wanted
-      ∙ ap (λ (m : ℕ). cond (names (get_or numbers (index - 1) 0) wanted) 1 0 + 2 * m) (ap (λ (k : ℕ). mask_of (drop k numbers) wanted) back ∙ sym so_far)
+-- one position more
+module _ (numbers wanted : List ℕ) (few : length numbers ≤ 16) (at mask : ℕ) (inside : at < length numbers) (so_far : mask + 2 ^ at * mask_of (drop at numbers) wanted ≡ mask_of numbers wanted) where
+  more : (p : Bool) → names (get_or numbers at 0) wanted ≡ p → mask + 2 ^ at * (cond p 1 0 + 2 * mask_of (drop (at + 1) numbers) wanted) ≡ mask_of numbers wanted
+  more p e = let here : mask_of (drop at numbers) wanted ≡ cond p 1 0 + 2 * mask_of (drop (at + 1) numbers) wanted = mask_here numbers at inside wanted ∙ rw e in rw here at so_far
 
-  with_one : names (get_or numbers (index - 1) 0) wanted ≡ true → mask * 2 + 1 ≡ mask_of (drop (index - 1) numbers) wanted
-  with_one e = let d : mask_of (drop (index - 1) numbers) wanted ≡ 1 + 2 * mask = doubled ∙ rw e refl in omega (arith, d)
+  bit : 1 * 2 ^ at % 18446744073709551616 ≡ 2 ^ at
+  bit = let room : 2 ^ at ≤ 2 ^ 16 = pow_mono {i = at} {j = 16} (omega arith) in omega arith
 
-  without_one : names (get_or numbers (index - 1) 0) wanted ≡ false → mask * 2 ≡ mask_of (drop (index - 1) numbers) wanted
-  without_one e = let d : mask_of (drop (index - 1) numbers) wanted ≡ 0 + 2 * mask = doubled ∙ rw e refl in omega (arith, d)
+  next : 2 ^ (at + 1) ≡ 2 ^ at * 2
+  next = rw (add-one at) (omega (arith, pow-succ' 2 at))
 
-pub loop-index-init : goal.loop-index-init
-loop-index-init c =
-    let a = c.args in
-    (omega arith, sym (mask_end a.numbers.now (length a.numbers.now) (omega arith) a.wanted.now))
+  fits : names (get_or numbers at 0) wanted ≡ true → mask + 1 * 2 ^ at % 18446744073709551616 < 65536
+  fits e = omega (arith, bit, more true e, mask_small numbers 0 wanted few)
 
-pub overflow_mul-mask : goal.overflow_mul-mask
-overflow_mul-mask c =
-    let a = c.args in
-    omega (arith, c.loop-index.invariant.1, mask_small a.numbers.now c.loop-index.index a.wanted.now c.requires)
+  with_one : names (get_or numbers at 0) wanted ≡ true → mask + 1 * 2 ^ at % 18446744073709551616 + 2 ^ (at + 1) * mask_of (drop (at + 1) numbers) wanted ≡ mask_of numbers wanted
+  with_one e = rw next (omega (arith, bit, more true e))
+
+  without_one : names (get_or numbers at 0) wanted ≡ false → mask + 2 ^ (at + 1) * mask_of (drop (at + 1) numbers) wanted ≡ mask_of numbers wanted
+  without_one e = rw next (omega (arith, more false e))
 
 pub overflow_add-mask : goal.overflow_add-mask
 overflow_add-mask c =
     let a = c.args in
-    omega (arith, c.loop-index.invariant.1, mask_small a.numbers.now c.loop-index.index a.wanted.now c.requires)
+    omega (arith, fits a.numbers.now a.wanted.now c.requires c.loop-at.at c.loop-at.mask (omega arith) c.loop-at.invariant (sym c.stands.ensures ∙ c.if-stands.true))
 
-pub loop-index-preserved-then-stands : goal.loop-index-preserved-then-stands
-loop-index-preserved-then-stands c =
+pub loop-at-preserved : goal.loop-at-preserved
+loop-at-preserved c =
     let a = c.args in
-    let here : names (get_or a.numbers.now (c.loop-index.index - 1) 0) a.wanted.now ≡ true = sym c.stands.ensures ∙ c.if-stands.true in
-    (omega arith, with_one a.numbers.now a.wanted.now c.loop-index.index c.loop-index.mask (omega arith) c.loop-index.invariant.0 c.loop-index.invariant.1 here)
-
-pub loop-index-preserved : goal.loop-index-preserved
-loop-index-preserved c =
-    let a = c.args in
-    let none : names (get_or a.numbers.now (c.loop-index.index - 1) 0) a.wanted.now ≡ false = sym c.stands.ensures ∙ c.if-stands.false in
-    (omega arith, without_one a.numbers.now a.wanted.now c.loop-index.index c.loop-index.mask (omega arith) c.loop-index.invariant.0 c.loop-index.invariant.1 none)
+    elim c.if-stands.branch [
+      | then-stands w ↦
+          rw w.mask-is (with_one a.numbers.now a.wanted.now c.requires c.loop-at.at c.loop-at.mask (omega arith) c.loop-at.invariant (sym c.stands.ensures ∙ w.if-stands.true))
+      | else-stands w ↦
+          rw w.mask-is (without_one a.numbers.now a.wanted.now c.requires c.loop-at.at c.loop-at.mask (omega arith) c.loop-at.invariant (sym c.stands.ensures ∙ w.if-stands.false))
+    ]
 
 pub returns : goal.returns
 returns c =
     let a = c.args in
-    let none : c.loop-index.index ≡ 0 = omega arith in
-    c.loop-index.invariant.1 ∙ ap (λ (k : ℕ). mask_of (drop k a.numbers.now) a.wanted.now) none
+    let none : mask_of (drop c.loop-at.at a.numbers.now) a.wanted.now ≡ 0 = mask_end a.numbers.now c.loop-at.at (omega arith) a.wanted.now in
+    let whole : c.loop-at.mask + 2 ^ c.loop-at.at * 0 ≡ mask_of a.numbers.now a.wanted.now = rw none at c.loop-at.invariant in
+    omega arith

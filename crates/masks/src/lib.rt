@@ -12,10 +12,11 @@ use answer::Verdict;
 pub fn size(mask: usize) -> usize
     ensures { result ≡ size_of mask }
 {
-    u64::count_ones(mask as u64) as usize
+    mask.count_ones() as usize
 }
 
 // Whether a set has some part of a group.
+#[tactic(auto, unfolding(crate::specs::Groups::meets))]
 pub fn meets(set: u16, group: usize) -> bool
     ensures { result ≡ meets group set }
 {

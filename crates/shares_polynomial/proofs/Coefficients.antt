@@ -1,16 +1,16 @@
 -- The coefficients of h by the counts of path sets by type: the counts are those of the definition, every term stays in range, and the signed terms
 -- add up to the coefficient. Assumes nothing.
 use mathlib.Core.Path.{◌≡◌, refl, sym, ap, ap₂, ◌∙◌}
-use mathlib.Core.Bool.{Bool, cond, ◌&&◌}
-use mathlib.Core.List.{List, ◌++◌}
+use mathlib.Core.Bool.{Bool, true, cond, ◌&&◌}
+use mathlib.Core.List.{List}
 use Prim.Native.Nat.{ℕ, zero, suc, ◌+◌, ◌-◌, ◌*◌, ◌/◌, ◌%◌, ◌^◌, ◌≤◌, ◌<◌}
-use native.Mathlib.Nat.{le_of_eq, mul-le-mul}
+use native.Mathlib.Nat.{le_of_eq, mul-le-mul, add-zero}
 use native.Mathlib.Numerals.{add-one}
 use native.Mathlib.Omega.{arith}
 use lib.Count.{ones-le}
 use lib.Dec.{eqb}
 use lib.IntN.{ℤ, pos, negsuc, neg_ℤ, ◌-ℤ◌, ◌*ℤ◌, pow, one, +ℤ_idl, pos-*ℤ-pos}
-use lib.ListN.{length, get_or, drop}
+use lib.ListN.{length, get_or, set, replicate}
 use lib.Pow.{pow_mono}
 use borrow.Author.Tests.{eqb-true, eq-eqb}
 use Rattle.numbers.specs.Counts.{choose}
@@ -28,13 +28,13 @@ use Rattle.theory_figures.specs.Figures.{sign, domination}
 use Rattle.theory_figures.proofs.Signs.{sign_even, sign_odd}
 use Rattle.shares_claim.specs.Polynomials.{row_length}
 use Rattle.shares_claim.specs.Reliability.{reliability, reliability_cells}
-use Rattle.shares_claim.proofs.Types.{type_count, inside_most, outside_most}
+use Rattle.shares_claim.proofs.Types.{type_count, inside_and_outside, inside_most, outside_most}
 use Rattle.numbers.proofs.Counts.{choose_small}
 use Rattle.shares_claim.proofs.Reliability.{reliability_by_type}
-use Rattle.theory_sums.proofs.Gathering.{gathered_list_few}
+use Rattle.theory_sums.proofs.Gathering.{gathered_none, gathered_list_few, gathered_add}
 use Rattle.shares_group.proofs.Gathering.{gathered_words}
 use Rattle.shares_polynomial.specs.Inside.{type_of, type_term, coefficient_of}
-use Rattle.shares_claim.proofs.Sums.{row_below, place_below, grid_sum}
+use Rattle.shares_claim.proofs.Sums.{row_below, place_below, grid_sum, carried_more}
 
 -- ---- counts by type
 
@@ -91,18 +91,41 @@ module _ (n : ℕ) (table words : List ℕ) (group : ℕ) (few : n ≤ 16) (with
       ∙ sym (reliability_by_type n (in_table table) group within i j h l)
 
   -- what the cells are written as
-  pub coefficients_written : (m : ℕ) → m ≡ size group → (cells after : List ℤ)
-      → after ≡ tabulate ((m + 1) * row_length n m) (λ c. coefficient_of n m counts (c / row_length n m) (c % row_length n m)) ++ drop ((m + 1) * row_length n m) cells
-      → after ≡ reliability_cells n (in_table table) group ++ drop ((size group + 1) * row_length n (size group)) cells
+  pub coefficients_are : (m : ℕ) → m ≡ size group
+      → reliability_cells n (in_table table) group ≡ tabulate ((m + 1) * row_length n m) (λ c. coefficient_of n m counts (c / row_length n m) (c % row_length n m))
   unfolding reliability_cells
-  coefficients_written m sized cells after e =
-      e
-      ∙ ap (λ (m : ℕ). tabulate ((m + 1) * row_length n m) (λ c. coefficient_of n m counts (c / row_length n m) (c % row_length n m)) ++ drop ((m + 1) * row_length n m) cells) sized
-      ∙ ap (λ (xs : List ℤ). xs ++ drop ((size group + 1) * row_length n (size group)) cells)
-      (tabulate_same ((size group + 1) * row_length n (size group)) _ _ (λ c l.
+  coefficients_are m sized =
+      sym (ap (λ (m : ℕ). tabulate ((m + 1) * row_length n m) (λ c. coefficient_of n m counts (c / row_length n m) (c % row_length n m))) sized
+      ∙ tabulate_same ((size group + 1) * row_length n (size group)) _ _ (λ c l.
       let row = row_below c (size group + 1) (row_length n (size group)) (omega arith) l in
       let place = place_below c (row_length n (size group)) (omega arith) in
       coefficient_is (c / row_length n (size group)) (c % row_length n (size group)) (omega arith) (omega arith)))
+
+pub size_few : (n group : ℕ) → group < 2 ^ n → size group ≤ n
+size_few n group within = ones-le n group within
+
+pub inside_less : (group a : ℕ) → group < 65536 → a < 65536 → inside group a ≤ size a
+inside_less group a within l = omega (arith, inside_and_outside 16 group a within l)
+
+pub types_none : (test : ℕ → Bool) (class amount : ℕ → ℕ) → replicate 289 0 ≡ tabulate 289 (gathered test class amount 0)
+unfolding tabulate
+types_none test class amount = gathered_none test class amount 289
+
+-- what a path set leaves of the counts of the sets below it
+pub type_more : (words : List ℕ) (group a : ℕ) → group < 65536 → a < 65536 → in_words words a ≡ true
+    → tabulate 289 (gathered (in_words words) (type_of group) (λ b. 1) (a + 1))
+    ≡ set (tabulate 289 (gathered (in_words words) (type_of group) (λ b. 1) a)) (type_of group a)
+    ((get_or (tabulate 289 (gathered (in_words words) (type_of group) (λ b. 1) a)) (type_of group a) 0 + 1) % 2 ^ 64)
+type_more words group a within l path =
+    sym (gathered_add (in_words words) (type_of group) (λ b. 1) 289 a 1 (λ b h. le_of_eq refl) (omega (arith, l)) _ _ (type_of group a) 1 refl path
+    (type_few group a within l) refl refl refl)
+
+-- the factors of a term
+pub binomials_few : (n k m j : ℕ) → n ≤ 16 → m ≤ 16 → choose n k * choose m j ≤ 2 ^ 32
+binomials_few n k m j few low = mul-le-mul (choose_small n k few) (choose_small m j low)
+
+pub counted_few : (counts : List ℕ) (t x : ℕ) → NoneOver 65536 counts → x ≤ 2 ^ 32 → x * get_or counts t 0 ≤ 2 ^ 48
+counted_few counts t x few low = mul-le-mul low (few t)
 
 -- there are at most 17 × 17 cells
 pub cells_few : (n m : ℕ) → n ≤ 16 → m ≤ n → (m + 1) * row_length n m ≤ 289
@@ -121,6 +144,13 @@ pub type_term_few : (n m : ℕ) (counts : List ℕ) (i j b a : ℕ) → n ≤ 16
 unfolding type_term
 type_term_few n m counts i j b a most within few =
     mul-le-mul (mul-le-mul (choose_small (m - a) (i - a) (omega arith)) (choose_small (n - m - b) (j - b) (omega arith))) (few (a * 17 + b))
+
+-- there are at most 17 × 17 terms
+pub terms_few : (n m i j : ℕ) → n ≤ 16 → m ≤ n → i ≤ m → j ≤ n - m → (j + 1) * (i + 1) ≤ 289
+terms_few n m i j most h k l =
+    let rows : j + 1 ≤ 17 = omega arith in
+    let row : i + 1 ≤ 17 = omega arith in
+    mul-le-mul rows row
 
 -- ---- signs
 
@@ -158,11 +188,25 @@ module _ (n m : ℕ) (counts : List ℕ) (i j : ℕ) where
       (ap (λ (u : ℤ). u *ℤ pos (get_or counts (a * 17 + b) 0)) (pos-*ℤ-pos (choose (m - a) (i - a)) (choose (n - m - b) (j - b)))
       ∙ pos-*ℤ-pos (choose (m - a) (i - a) * choose (n - m - b) (j - b)) (get_or counts (a * 17 + b) 0))
 
-  pub term_added : (b a term : ℕ) → term ≡ type_term n m counts i j b a → (i - a + (j - b)) % 2 ≡ 0 → signed_term n m counts i j b a ≡ pos term -ℤ pos 0
-  term_added b a term is even =
-      term_sign b a ∙ ap₂ (λ (u : ℤ) (x : ℕ). u *ℤ pos x) (sign_even (i - a + (j - b)) even) (sym is) ∙ unit-*ℤ (pos term) ∙ simp ring
+  -- the sum of the terms so far with one term more
+  module _ (t added taken x : ℕ)
+      (before : pos added -ℤ pos taken ≡ sum_belowℤ (λ t. signed_term n m counts i j (t / (i + 1)) (t % (i + 1))) t)
+      (is : x ≡ type_term n m counts i j (t / (i + 1)) (t % (i + 1))) where
+    pub terms_added : (i - t % (i + 1) + (j - t / (i + 1))) % 2 ≡ 0
+        → sum_belowℤ (λ t. signed_term n m counts i j (t / (i + 1)) (t % (i + 1))) (t + 1) ≡ pos (added + x) -ℤ pos taken
+    terms_added even =
+        let b : ℕ = t / (i + 1) in
+        let a : ℕ = t % (i + 1) in
+        sym (ap (λ (z : ℕ). pos (added + x) -ℤ pos z) (sym (add-zero taken))
+        ∙ carried_more _ t added taken x 0 before
+        (term_sign b a ∙ ap₂ (λ (u : ℤ) (y : ℕ). u *ℤ pos y) (sign_even (i - a + (j - b)) even) (sym is) ∙ unit-*ℤ (pos x) ∙ simp ring))
 
-  pub term_taken : (b a term : ℕ) → term ≡ type_term n m counts i j b a → (i - a + (j - b)) % 2 ≡ 1 → signed_term n m counts i j b a ≡ pos 0 -ℤ pos term
-  term_taken b a term is odd =
-      term_sign b a ∙ ap₂ (λ (u : ℤ) (x : ℕ). u *ℤ pos x) (sign_odd (i - a + (j - b)) odd) (sym is) ∙ negℤ-*ℤ (pos 1) (pos term)
-      ∙ ap neg_ℤ (unit-*ℤ (pos term)) ∙ sym (+ℤ_idl (neg_ℤ (pos term)))
+    pub terms_taken : ((i - t % (i + 1) + (j - t / (i + 1))) % 2 ≡ 0 → ⊥)
+        → sum_belowℤ (λ t. signed_term n m counts i j (t / (i + 1)) (t % (i + 1))) (t + 1) ≡ pos added -ℤ pos (taken + x)
+    terms_taken odd =
+        let b : ℕ = t / (i + 1) in
+        let a : ℕ = t % (i + 1) in
+        sym (ap (λ (z : ℕ). pos z -ℤ pos (taken + x)) (sym (add-zero added))
+        ∙ carried_more _ t added taken 0 x before
+        (term_sign b a ∙ ap₂ (λ (u : ℤ) (y : ℕ). u *ℤ pos y) (sign_odd (i - a + (j - b)) (omega (arith, odd))) (sym is) ∙ negℤ-*ℤ (pos 1) (pos x)
+        ∙ ap neg_ℤ (unit-*ℤ (pos x)) ∙ sym (+ℤ_idl (neg_ℤ (pos x)))))

@@ -32,113 +32,122 @@ pub fn reliability(n: usize, table: &[u8], group: usize, cells: &mut [i64]) -> W
 }
 
 // How many coefficients h has for a group, where the machine has at most 16 parts and the group no more than these; else 0.
+#[tactic(auto, using(crate::proofs::Coefficients::cells_few))]
 fn cells_needed(n: usize, group: usize) -> usize
     ensures { n ≤ 16 → size_of group ≤ n → result ≡ (size_of group + 1) * row_length n (size_of group) }
 {
     let m = masks::size(group);
-    if 16 < n {
-        return 0;
-    }
-    if n < m {
+    if 16 < n || n < m {
         return 0;
     }
     (m + 1) * (n - m + 1)
 }
 
 // Writes the coefficients of h.
+#[tactic(auto, using(crate::proofs::Coefficients::counts_few, crate::proofs::Coefficients::size_few, crate::proofs::Coefficients::coefficients_are))]
 fn write_reliability(n: usize, table: &[u8], group: usize, cells: &mut [i64])
     requires n_bound { n ≤ 16 }
     requires group_bound { group < 2 ^ n }
     requires group_in_bounds { (size_of group + 1) * row_length n (size_of group) ≤ length cells.old }
     ensures { cells.new ≡ reliability_cells n (in_table table.now) group ++ drop ((size_of group + 1) * row_length n (size_of group)) cells.old }
 {
-    let m = masks::size(group);
     let words = structure_words::load(table);
     let counts = count_types(n, &words, group);
-    write_coefficients(n, m, &counts, cells);
+    let types = Types {
+        n,
+        m: masks::size(group),
+        counts,
+    };
+    types.write_coefficients(cells);
 }
 
 // How many path sets there are of each type.
+#[tactic(auto, using(crate::proofs::Coefficients::types_none))]
 fn count_types(n: usize, words: &[u64], group: usize) -> [u64; 289]
     requires n_bound { n ≤ 16 }
     requires group_bound { group < 2 ^ n }
     ensures { result ≡ tabulate 289 (gathered (in_words words.now) (type_of group) (λ a. 1) (2 ^ n)) }
 {
-    let mut counts = [0u64; 289];
-    let end = numbers::power_of_two(n);
-    for a in 0..end {
+    let mut counts = [0; 289];
+    for a in 0..numbers::power_of_two(n) {
         add_type(words, group, a, &mut counts);
     }
     counts
 }
 
 // Counts a set by its type, if it is a path set.
+#[tactic(auto, using(crate::proofs::Coefficients::type_few, crate::proofs::Coefficients::type_more, theory_sums::proofs::Gathering::gathered_skip, crate::proofs::Coefficients::inside_less))]
 fn add_type(words: &[u64], group: usize, a: usize, counts: &mut [u64])
     requires group_bound { group < 65536 }
     requires a_bound { a < 65536 }
     requires counts_value { counts.old ≡ tabulate 289 (gathered (in_words words.now) (type_of group) (λ b. 1) a) }
     ensures { counts.new ≡ tabulate 289 (gathered (in_words words.now) (type_of group) (λ b. 1) (a + 1)) }
 {
-    if !structure_words::works(words, a) {
-        return;
-    }
-    let inside = masks::size(a & group);
-    let outside = masks::size(a) - inside;
-    shares_group::add(counts, inside * 17 + outside, 1);
-}
-
-// Writes the coefficients of h by the counts of path sets by type.
-fn write_coefficients(n: usize, m: usize, counts: &[u64], cells: &mut [i64])
-    requires n_bound { n ≤ 16 }
-    requires m_le_n { m ≤ n }
-    requires none_over { NoneOver 65536 counts.now }
-    requires m_in_bounds { (m + 1) * row_length n m ≤ length cells.old }
-    ensures { cells.new ≡ tabulate ((m + 1) * row_length n m) (λ c. coefficient_of n m counts.now (c / row_length n m) (c % row_length n m)) ++ drop ((m + 1) * row_length n m) cells.old }
-{
-    let row = n - m + 1;
-    let end = (m + 1) * row;
-    for c in 0..end {
-        cells[c] = coefficient(n, m, counts, c / row, c % row);
+    if structure_words::works(words, a) {
+        let inside = masks::size(a & group);
+        let outside = masks::size(a) - inside;
+        shares_group::add(counts, inside * 17 + outside, 1);
     }
 }
 
-// The coefficient of x^i z^j by the counts of path sets by type: the terms of either sign are added up, and subtracted once.
-fn coefficient(n: usize, m: usize, counts: &[u64], i: usize, j: usize) -> i64
-    requires n_bound { n ≤ 16 }
-    requires m_le_n { m ≤ n }
-    requires i_le_m { i ≤ m }
-    requires j_bound { j ≤ n - m }
-    requires none_over { NoneOver 65536 counts.now }
-    ensures { result ≡ coefficient_of n m counts.now i j }
-{
-    let mut added: u64 = 0;
-    let mut taken: u64 = 0;
-    let end = (j + 1) * (i + 1);
-    for t in 0..end {
-        let b = t / (i + 1);
-        let a = t % (i + 1);
-        let term = type_term(n, m, counts, i, j, b, a);
-        if (i - a + (j - b)) % 2 == 0 {
-            added += term;
-        } else {
-            taken += term;
+// A machine's path sets by their type in a group with m of its n parts.
+#[derive(Drop)]
+struct Types {
+    n: usize,
+    m: usize,
+    counts: [u64; 289],
+    ghost n_bound: { n ≤ 16 },
+    ghost m_le_n: { m ≤ n },
+    ghost none_over: { NoneOver 65536 counts },
+}
+
+impl Types {
+    // Writes the coefficients of h.
+    #[tactic(auto, using(numbers::proofs::Tables::filled_none, numbers::proofs::Tables::filled_again, crate::proofs::Coefficients::cells_few, shares_claim::proofs::Sums::row_below, shares_claim::proofs::Sums::place_below))]
+    fn write_coefficients(&self, cells: &mut [i64])
+        requires { (self.now.m + 1) * row_length self.now.n self.now.m ≤ length cells.old }
+        ensures { cells.new ≡ tabulate ((self.now.m + 1) * row_length self.now.n self.now.m) (λ c. coefficient_of self.now.n self.now.m self.now.counts (c / row_length self.now.n self.now.m) (c % row_length self.now.n self.now.m)) ++ drop ((self.now.m + 1) * row_length self.now.n self.now.m) cells.old }
+    {
+        let row = self.n - self.m + 1;
+        let end = (self.m + 1) * row;
+        for (c, cell) in cells[..end].iter_mut().enumerate() {
+            *cell = self.coefficient(c / row, c % row);
         }
     }
-    integers::difference(added, taken)
-}
 
-// The term of the type a, b in the coefficient of x^i z^j, without its sign.
-fn type_term(n: usize, m: usize, counts: &[u64], i: usize, j: usize, b: usize, a: usize) -> u64
-    requires n_bound { n ≤ 16 }
-    requires m_le_n { m ≤ n }
-    requires i_le_m { i ≤ m }
-    requires j_bound { j ≤ n - m }
-    requires a_le_i { a ≤ i }
-    requires b_le_j { b ≤ j }
-    requires none_over { NoneOver 65536 counts.now }
-    ensures { result ≡ type_term n m counts.now i j b a }
-{
-    numbers::binomial(m - a, i - a) as u64
-        * numbers::binomial(n - m - b, j - b) as u64
-        * numbers::cell(counts, a * 17 + b)
+    // The coefficient of x^i z^j: the terms of either sign are added up, and subtracted once.
+    #[tactic(auto, using(shares_claim::proofs::Sums::carried_none, crate::proofs::Coefficients::terms_few, crate::proofs::Coefficients::type_term_few, shares_claim::proofs::Sums::row_below, shares_claim::proofs::Sums::place_below, integers::proofs::Differences::difference_small, crate::proofs::Coefficients::coefficient_terms, crate::proofs::Coefficients::terms_added, crate::proofs::Coefficients::terms_taken))]
+    fn coefficient(&self, i: usize, j: usize) -> i64
+        requires i_le_m { i ≤ self.now.m }
+        requires j_bound { j ≤ self.now.n - self.now.m }
+        ensures { result ≡ coefficient_of self.now.n self.now.m self.now.counts i j }
+    {
+        let mut added = 0;
+        let mut taken = 0;
+        for t in 0..(j + 1) * (i + 1) {
+            let b = t / (i + 1);
+            let a = t % (i + 1);
+            let term = self.term(i, j, b, a);
+            if (i - a + (j - b)) % 2 == 0 {
+                added += term;
+            } else {
+                taken += term;
+            }
+        }
+        integers::difference(added, taken)
+    }
+
+    // The term of the type a, b in the coefficient of x^i z^j, without its sign.
+    #[tactic(auto, using(numbers::proofs::Counts::up_to_16_given, numbers::proofs::Counts::choose_small, crate::proofs::Coefficients::binomials_few, crate::proofs::Coefficients::counted_few), unfolding(crate::specs::Inside::type_term))]
+    fn term(&self, i: usize, j: usize, b: usize, a: usize) -> u64
+        requires i_le_m { i ≤ self.now.m }
+        requires j_bound { j ≤ self.now.n - self.now.m }
+        requires a_le_i { a ≤ i }
+        requires b_le_j { b ≤ j }
+        ensures { result ≡ type_term self.now.n self.now.m self.now.counts i j b a }
+    {
+        numbers::binomial(self.m - a, i - a) as u64
+            * numbers::binomial(self.n - self.m - b, j - b) as u64
+            * numbers::cell(&self.counts, a * 17 + b)
+    }
 }

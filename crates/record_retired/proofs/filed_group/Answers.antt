@@ -1,7 +1,7 @@
 -- `record_retired::filed_group` meets its contract. The loop's invariant: the numbers of the group among those left, filed after those that are
 -- filed, come to what all of the group come to.
 -- Assumes nothing.
-use mathlib.Core.Path.{◌≡◌, refl, sym, ap, ◌∙◌}
+use mathlib.Core.Path.{◌≡◌, sym, ap, ◌∙◌}
 use mathlib.Core.List.{List, ◌∷◌}
 use Prim.Native.Nat.{ℕ, ◌+◌, ◌/◌, ◌%◌, ◌≤◌, ◌<◌}
 use native.Mathlib.Numerals.{add-one}
@@ -11,8 +11,7 @@ use lib.Seq.{drop-cons}
 use Rattle.theory_sets.proofs.Masks.{has_odd, has_even}
 use Rattle.record_numbers.specs.Numbering.{named}
 use Rattle.record_retired.specs.declared.Retired.{Retired}
-use Rattle.record_retired.specs.Retired.{most_retired, kept, filed, filed_all, retired_of}
-use Rattle.record_retired.proofs.Kept.{kept_most}
+use Rattle.record_retired.specs.Retired.{filed, filed_all, retired_of}
 use Rattle.record_retired.proofs.Cells.{numbers_back}
 use Rattle.record_retired.proofs.Filing.{filed_most}
 use Rattle.record_retired.proofs.filed_group.Invariants.{Filing}
@@ -30,9 +29,6 @@ module _ (numbers : List ℕ) (left i : ℕ) (inside : i < length numbers) where
   named_past even = rw (drop-cons numbers i 0 inside, has_even left (omega arith), add-one i)
 
 module _ (numbers : List ℕ) (filing : Retired) (left i : ℕ) (result : List ℕ) (f : Filing numbers filing left i result) where
-  room : filing.count ≤ most_retired
-  room = omega (arith, f.few, ap (λ (r : Retired). r.count) f.stands)
-
   -- a number of the group is filed
   more : i < length numbers → left % 2 ≡ 1 → (new : Retired) → new ≡ retired_of (filed (get_or numbers i 0) (take filing.count filing.numbers))
       → Filing numbers new (left / 2) (i + 1) result
@@ -64,23 +60,14 @@ module _ (numbers : List ℕ) (filing : Retired) (left i : ℕ) (result : List �
   end over =
       f.stands ∙ ap retired_of (sym (ap (λ (l : List ℕ). filed_all (named l left) f.list) (drop_of_length-le numbers over)) ∙ f.comes)
 
-pub loop-i-init : goal.loop-i-init
-loop-i-init c =
-    let a = c.args in
-    (omega arith, record { list = kept a.retired.now; few = kept_most a.retired.now; stands = c.latest-filing.ensures; comes = refl })
-
-pub file-filing-requires : goal.file-filing-requires
-file-filing-requires c = room _ _ _ _ _ c.loop-i.invariant.1
-
-pub loop-i-preserved : goal.loop-i-preserved
-loop-i-preserved c =
-    let f = c.loop-i.invariant.1 in (
-      omega arith,
-      elim c.if-left-eq1.branch [
-        | then-left-eq1 w ↦ more _ _ _ _ _ f (omega arith) w.if-left-eq1.true c.if-left-eq1.filing (w.filing-is ∙ w.file-filing.ensures)
-        | else-left-eq1 w ↦ past _ _ _ _ _ f (omega arith) w.if-left-eq1.false c.if-left-eq1.filing w.filing-is
-      ],
-    )
+pub loop-number-preserved : goal.loop-number-preserved
+loop-number-preserved c =
+    let f = c.loop-number.invariant in
+    let inside = c.loop-number-test.true in
+    elim c.if-left-eq1.branch [
+      | then-left-eq1 w ↦ more _ _ _ _ _ f inside w.if-left-eq1.true c.if-left-eq1.filing (w.filing-is ∙ w.file-filing.ensures)
+      | else-left-eq1 w ↦ past _ _ _ _ _ f inside w.if-left-eq1.false c.if-left-eq1.filing w.filing-is
+    ]
 
 pub returns : goal.returns
-returns c = end _ _ _ _ _ c.loop-i.invariant.1 (omega arith)
+returns c = end _ _ _ _ _ c.loop-number.invariant c.loop-number-test.false

@@ -3,7 +3,7 @@
 -- Assumes nothing.
 use mathlib.Core.Path.{◌≡◌}
 use mathlib.Core.List.{List}
-use Prim.Native.Nat.{ℕ, ◌-◌, ◌≤◌}
+use Prim.Native.Nat.{ℕ, ◌≤◌}
 use lib.ListN.{length, drop}
 use Rattle.record_numbers.specs.Numbering.{named}
 use Rattle.record_retired.specs.declared.Retired.{Retired}
@@ -21,8 +21,5 @@ pub record Filing (numbers : List ℕ) (filing : Retired) (left i : ℕ) (result
   pub stands : filing ≡ retired_of list
   pub comes : filed_all (named (drop i numbers) left) list ≡ result
 
-abbrev pub invariant-loop-i : goal.invariant-loop-i
-invariant-loop-i l = (l.i ≤ length l.numbers) × Filing l.numbers l.filing l.left l.i (filed_all (named l.numbers l.group) (kept l.retired))
-
-abbrev pub decreases-loop-i : goal.decreases-loop-i
-decreases-loop-i l = length l.numbers - l.i
+abbrev pub invariant-loop-number : goal.invariant-loop-number
+invariant-loop-number l = Filing l.numbers l.filing l.left l.number-index (filed_all (named l.numbers l.group) (kept l.retired))

@@ -1,31 +1,31 @@
 -- Words of the sets that have a part, and words counted by size: what one word adds to the counts. Assumes nothing.
 use mathlib.Core.Path.{◌≡◌, refl, sym, ap, ap₂, ◌∙◌}
-use mathlib.Core.Bool.{Bool, true, false, cond, ◌&&◌, ◌||◌, and-true, and-false}
-use mathlib.Core.List.{List}
-use mathlib.Core.Logic.{◌⊎◌, inl, inr}
-use Prim.Native.Nat.{ℕ, zero-le, suc-le-suc, ◌+◌, ◌-◌, ◌*◌, ◌%◌, ◌^◌, ◌≤◌, ◌<◌}
-use native.Mathlib.Nat.{zero-lt-suc, le_refl, le_trans, le_of_eq, lt_of_le_of_lt, eq-or-lt_of_le, add-zero, add_assoc}
+use mathlib.Core.Bool.{Bool, true, false, cond, ◌&&◌, ◌||◌, and-false, not}
+use mathlib.Core.List.{List, ◌++◌}
+use Prim.Native.Nat.{ℕ, zero-le, ◌+◌, ◌-◌, ◌*◌, ◌%◌, ◌^◌, ◌≤◌, ◌<◌, ◌/◌}
+use native.Mathlib.Nat.{zero-lt-suc, le_refl, le_trans, le_of_eq, lt_of_le_of_lt, add-zero, add-sub_cancel_left}
 use native.Mathlib.Omega.{arith}
 use lib.Bits.{and_le_l}
 use lib.Count.{ones, ones-le, ones_cat}
-use lib.Dec.{ltb, eqb}
-use lib.ListN.{length, get_or, set}
-use lib.Seq.{get_or-set_same, get_or-set_other}
-use borrow.Author.Tests.{eqb-true, eqb-false, eq-eqb, ne_eqb, le-leb, lt-leb, lt-ltb, le-ltb}
-use Rattle.numbers.specs.Tables.{tabulate}
-use Rattle.numbers.proofs.Tables.{tabulate_unique}
+use lib.Dec.{eqb}
+use lib.ListN.{length, get_or, set, take, drop, length-take}
+use lib.Seq.{get_or-take}
+use borrow.Author.Tests.{eqb-true, eq-eqb, ne_eqb, le-leb, lt-leb}
+use Rattle.std.proofs.lemmas.List.{take-append-drop}
+use borrow.Rule.Slice.PartMut.{mid_of, put_mid, mid_len}
+use Rattle.numbers.proofs.Parts.{mid_at, part_back}
+use Rattle.numbers.specs.Tables.{tabulate, NoneOver}
+use Rattle.numbers.proofs.Tables.{tabulate_unique, tabulate_same, filled, filled_from, filled_again, filled_end, filled_rest}
 use Rattle.theory_sums.specs.Sums.{indicator, sum_below}
-use Rattle.theory_sums.proofs.Sums.{few_tests, sum_below_same, sum_below_le, sum_below_zero, sum_below_ones, sum_below_add, sum_below_append}
+use Rattle.theory_sums.proofs.Sums.{sum_below_same, sum_below_le, sum_below_zero, sum_below_ones, sum_below_append}
 use Rattle.theory_sets.specs.Masks.{has, size, meet}
 use Rattle.theory_sets.specs.Tables.{packed}
-use Rattle.numbers.proofs.Bools.{true_or_false}
-use Rattle.theory_sets.proofs.Masks.{has_full, has_above, has_low, has_block, has_meet}
-use Rattle.numbers.proofs.Bounds.{below_or_above}
-use Rattle.theory_sets.proofs.Tables.{packed_same, has_packed}
+use Rattle.numbers.proofs.Bools.{same_test, not_not}
+use Rattle.theory_sets.proofs.Masks.{has_full, has_above, has_low, has_block, has_meet, has_complement, has_empty, bit_of_odd, bit_of_even}
+use Rattle.theory_sets.proofs.Tables.{has_packed, packed_below, packed_unique}
 use Rattle.theory_orders.specs.Formulas.{path_count}
-use Rattle.theory_orders.proofs.Orders.{eqb_comm}
 use Rattle.theory_orders.proofs.Sizes.{size_bits}
-use Rattle.structure_words.specs.Words.{word_of}
+use Rattle.structure_words.specs.Words.{word_of, lacks}
 use Rattle.structure_words.proofs.Words.{word_of_unique}
 use Rattle.figures_counts.specs.Rows.{has_part}
 use Rattle.figures_counts.specs.Inside.{in_word}
@@ -34,12 +34,14 @@ use Rattle.figures_counts.specs.Inside.{in_word}
 
 module _ (at part : ℕ) where
   -- a part of the index within a word
-  pub having_low : (w : ℕ) → part < 6 → w ≡ packed 64 (λ k. has k part) → w ≡ word_of (has_part part) at
+  pub having_low : (lacking : ℕ) → part < 6 → lacking ≡ lacks part → 2 ^ 64 - 1 - lacking ≡ word_of (has_part part) at
   unfolding word_of has_part
-  having_low w l e =
-      e ∙ packed_same 64 (λ k. has k part) (λ k. has_part part (64 * at + k)) (λ k h.
+  having_low lacking l e =
+      ap (λ (w : ℕ). 2 ^ 64 - 1 - w) e
+      ∙ packed_unique 64 (λ k. has_part part (64 * at + k)) (2 ^ 64 - 1 - lacks part) (omega arith) (λ k h.
       let within : (64 * at + k) % 64 ≡ k = omega arith in
-      sym (ap (λ (b : Bool). b || has (64 * at + k) part) (lt-leb 16 part (omega arith)) ∙ sym (has_low (64 * at + k) 6 part l)
+      has_complement 64 (lacks part) (packed_below 64 (λ k. not (has k part))) k h ∙ ap not (has_packed 64 (λ k. not (has k part)) k h) ∙ not_not (has k part)
+      ∙ sym (ap (λ (b : Bool). b || has (64 * at + k) part) (lt-leb 16 part (omega arith)) ∙ sym (has_low (64 * at + k) 6 part l)
       ∙ ap (λ (x : ℕ). has x part) within))
 
   -- a part of the word's index
@@ -51,12 +53,13 @@ module _ (at part : ℕ) where
         let split : part ≡ 6 + (part - 6) = omega arith in
         ap (λ (b : Bool). b || has (64 * at + k) part) (lt-leb 16 part high) ∙ ap₂ has turned split ∙ has_block at 6 k (part - 6) h
 
-    pub having_all : has at (part - 6) ≡ true → 2 ^ 64 - 1 ≡ word_of (has_part part) at
-    having_all h = word_of_unique (has_part part) at (2 ^ 64 - 1) (omega arith) (λ k l. has_full 64 k l ∙ sym (has_index k l ∙ h))
+    pub having_all : at / 2 ^ (part - 6) % 2 ≡ 1 → 2 ^ 64 - 1 ≡ word_of (has_part part) at
+    having_all h =
+        word_of_unique (has_part part) at (2 ^ 64 - 1) (omega arith) (λ k l. has_full 64 k l ∙ sym (has_index k l ∙ bit_of_odd at (part - 6) h))
 
-    pub having_none : has at (part - 6) ≡ false → 0 ≡ word_of (has_part part) at
+    pub having_none : (at / 2 ^ (part - 6) % 2 ≡ 1 → ⊥) → 0 ≡ word_of (has_part part) at
     having_none h =
-        word_of_unique (has_part part) at 0 (omega arith) (λ k l. has_above 0 0 k (zero-lt-suc 0) zero-le ∙ sym (has_index k l ∙ h))
+        word_of_unique (has_part part) at 0 (omega arith) (λ k l. has_empty k ∙ sym (has_index k l ∙ bit_of_even at (part - 6) (omega arith)))
 
   -- no part at all
   pub having_every : 16 ≤ part → 2 ^ 64 - 1 ≡ word_of (has_part part) at
@@ -71,15 +74,7 @@ module _ (at part : ℕ) where
 unfoldable pub of_size : ℕ → ℕ → ℕ
 of_size word k = sum_below (λ m. indicator (has word m && eqb (size m) k)) 64
 
--- how many have size s and an index within the word of fewer than k parts
-unfoldable pub smaller : ℕ → ℕ → ℕ → ℕ → ℕ
-smaller word base k s = sum_below (λ m. indicator (has word m && eqb (base + size m) s && ltb (size m) k)) 64
-
 module _ (word : ℕ) where
-  pub of_size_few : (k : ℕ) → of_size word k ≤ 64
-  unfolding of_size
-  of_size_few k = few_tests (λ m. has word m && eqb (size m) k) 64
-
   pub of_size_ones : (k : ℕ) → word < 2 ^ 64 → ones (meet word (packed 64 (λ m. eqb (size m) k))) ≡ of_size word k
   unfolding of_size
   of_size_ones k h =
@@ -87,99 +82,73 @@ module _ (word : ℕ) where
       ∙ sum_below_same _ _ 64 (λ m l.
       ap indicator (has_meet word (packed 64 (λ m. eqb (size m) k)) m ∙ ap (λ (b : Bool). has word m && b) (has_packed 64 (λ m. eqb (size m) k) m l)))
 
-module _ (word base : ℕ) where
-  pub smaller_few : (k s : ℕ) → smaller word base k s ≤ 64
-  unfolding smaller
-  smaller_few k s = few_tests (λ m. has word m && eqb (base + size m) s && ltb (size m) k) 64
+  -- counts of sizes with the sets of the first k sizes added, and those of one size more
+  abbrev pub added : List ℕ → ℕ → List ℕ
+  added counts k = filled (λ i. get_or counts i 0 + of_size word i) counts k
 
-  pub smaller_none : (s : ℕ) → smaller word base 0 s ≡ 0
-  unfolding smaller
-  smaller_none s =
+  pub added_turn : (counts now : List ℕ) (k : ℕ) → now ≡ added counts k → get_or now k 0 ≡ get_or counts k 0
+  added_turn counts now k e =
+      ap (λ (xs : List ℕ). get_or xs k 0) e ∙ filled_from (λ i. get_or counts i 0 + of_size word i) counts k k 0 (le_refl k)
+
+  pub added_more : (counts now : List ℕ) (k sets : ℕ) → now ≡ added counts k → k < length counts → word < 2 ^ 64 → sets ≡ packed 64 (λ m. eqb (size m) k)
+      → set now k (get_or now k 0 + ones (meet word sets)) ≡ added counts (k + 1)
+  added_more counts now k sets e h fits is =
+      filled_again (λ i. get_or counts i 0 + of_size word i) counts k (get_or now k 0 + ones (meet word sets)) now e h
+      (ap₂ (λ (u v : ℕ). u + v) (added_turn counts now k e) (ap (λ (x : ℕ). ones (meet word x)) is ∙ of_size_ones k fits))
+
+module _ (word base : ℕ) where
+  -- a word adds its sets of k parts to the count of base + k, and nothing to any other
+  in_word_here : (k : ℕ) → in_word word base (base + k) ≡ of_size word k
+  unfolding in_word of_size
+  in_word_here k =
+      sum_below_same _ _ 64 (λ m l.
+      ap (λ (b : Bool). indicator (has word m && b))
+      (same_test (eqb (base + size m) (base + k)) (eqb (size m) k) (λ t. eq-eqb (size m) k (omega (arith, eqb-true (base + size m) (base + k) t)))
+      (λ t. eq-eqb (base + size m) (base + k) (omega (arith, eqb-true (size m) k t)))))
+
+  in_word_other : (s : ℕ) → ((m : ℕ) → m < 64 → base + size m ≡ s → ⊥) → in_word word base s ≡ 0
+  unfolding in_word
+  in_word_other s other =
       sum_below_same _ (λ m. 0) 64 (λ m l.
-      ap indicator (ap (λ (b : Bool). has word m && eqb (base + size m) s && b) (le-ltb (size m) 0 zero-le) ∙ and-false (has word m && eqb (base + size m) s)))
+      ap (λ (b : Bool). indicator (has word m && b)) (ne_eqb (base + size m) s (other m l)) ∙ ap indicator (and-false (has word m)))
       ∙ sum_below_zero 64
 
-  pub smaller_all : (s : ℕ) → smaller word base 7 s ≡ in_word word base s
-  unfolding smaller in_word
-  smaller_all s =
-      sum_below_same _ _ 64 (λ m l.
-      ap indicator (ap (λ (b : Bool). has word m && eqb (base + size m) s && b) (lt-ltb (size m) 7 (suc-le-suc (ones-le 6 m l)))
-      ∙ and-true (has word m && eqb (base + size m) s)))
+  module _ (counts now : List ℕ) (k : ℕ) (len : length counts ≡ 17) (low : base ≤ 10) where
+    abbrev seven : List ℕ
+    seven = mid_of base (base + 7 - base) counts
 
-  -- one size more
-  pub smaller_more : (k s : ℕ) → smaller word base (k + 1) s ≡ smaller word base k s + cond (eqb s (base + k)) (of_size word k) 0
-  unfolding smaller of_size
-  smaller_more k s =
-      sum_below_same _ (λ m. indicator (has word m && eqb (base + size m) s && ltb (size m) k)
-      + cond (eqb s (base + k)) (indicator (has word m && eqb (size m) k)) 0) 64 (λ m l. one (has word m) (size m) (order (size m)))
-      ∙ sum_below_add _ _ 64
-      ∙ ap (λ (u : ℕ). smaller word base k s + u) (chosen (eqb s (base + k)))
-    where
-      chosen : (t : Bool) → sum_below (λ m. cond t (indicator (has word m && eqb (size m) k)) 0) 64
-          ≡ cond t (sum_below (λ m. indicator (has word m && eqb (size m) k)) 64) 0
-      chosen true = refl
-      chosen false = sum_below_zero 64
+    seven_long : length seven ≡ 7
+    seven_long = mid_len base (base + 7) counts (omega arith) ∙ add-sub_cancel_left base 7
 
-      order : (x : ℕ) → (x < k) ⊎ ((x ≡ k) ⊎ (k < x))
-      order x = elim (below_or_above x k) [ inl l ↦ inl l | inr l ↦ inr (elim (eq-or-lt_of_le l) [ inl e ↦ inl (sym e) | inr m ↦ inr m ]) ]
+    -- a count that has its turn is what it was
+    pub added_few : now ≡ added word seven k → k < length seven → NoneOver 65536 counts → get_or now k 0 ≤ 65536
+    added_few e h few =
+        le_trans (le_of_eq (added_turn word seven now k e ∙ mid_at base (base + 7 - base) counts k (omega (arith, seven_long)))) (few (base + k))
 
-      before : (h e f : Bool) → indicator (h && e && true) ≡ indicator (h && e && true) + cond f (indicator (h && false)) 0
-      before true e true = omega arith
-      before true e false = omega arith
-      before false e true = refl
-      before false e false = refl
+    pub added_all : now ≡ added word seven k → k ≤ length seven → length seven ≤ k
+        → put_mid base (base + 7 - base) counts now ≡ tabulate 17 (λ s. get_or counts s 0 + in_word word base s)
+    added_all e up down =
+        part_back f counts counts base 7 before (omega arith) now
+        (filled_end g seven k 7 now e (omega (arith, seven_long)) (omega (arith, seven_long)) seven_long
+        ∙ tabulate_same 7 g (λ s. f (base + s)) (λ s h.
+        ap₂ (λ (u v : ℕ). u + v) (mid_at base (base + 7 - base) counts s (omega arith)) (sym (in_word_here s))))
+        ∙ filled_rest f counts (base + 7) 17 len (omega arith) (λ j above below. kept j (λ m l same. omega (arith, ones-le 6 m l)))
+      where
+        f : ℕ → ℕ
+        f s = get_or counts s 0 + in_word word base s
 
-      here : (h e : Bool) → indicator (h && e && true) ≡ indicator (h && e && false) + cond e (indicator (h && true)) 0
-      here true true = refl
-      here true false = refl
-      here false true = refl
-      here false false = refl
+        g : ℕ → ℕ
+        g i = get_or seven i 0 + of_size word i
 
-      after : (h e f : Bool) → indicator (h && e && false) ≡ indicator (h && e && false) + cond f (indicator (h && false)) 0
-      after true true true = refl
-      after true true false = refl
-      after true false true = refl
-      after true false false = refl
-      after false e true = refl
-      after false e false = refl
+        kept : (j : ℕ) → ((m : ℕ) → m < 64 → base + size m ≡ j → ⊥) → f j ≡ get_or counts j 0
+        kept j other = ap (λ (u : ℕ). get_or counts j 0 + u) (in_word_other j other) ∙ add-zero (get_or counts j 0)
 
-      one : (h : Bool) (x : ℕ) → (x < k) ⊎ ((x ≡ k) ⊎ (k < x))
-          → indicator (h && eqb (base + x) s && ltb x (k + 1)) ≡ indicator (h && eqb (base + x) s && ltb x k) + cond (eqb s (base + k)) (indicator (h && eqb x k)) 0
-      one h x (inl l) =
-          rw (lt-ltb x (k + 1) (omega arith), lt-ltb x k l, ne_eqb x k (λ e. omega arith)) (before h (eqb (base + x) s) (eqb s (base + k)))
-      one h x (inr (inl e)) =
-          rw (e, lt-ltb k (k + 1) (omega arith), le-ltb k k (le_refl k), eq-eqb k k refl, eqb_comm s (base + k)) (here h (eqb (base + k) s))
-      one h x (inr (inr l)) =
-          rw (le-ltb x (k + 1) (omega arith), le-ltb x k (omega arith), ne_eqb x k (λ e. omega arith)) (after h (eqb (base + x) s) (eqb s (base + k)))
-
-  -- what the counts are after a turn: the sets of the sizes below k are added
-  abbrev pub Added : List ℕ → List ℕ → ℕ → Type 0
-  Added before now k = (s : ℕ) → s < 17 → get_or now s 0 ≡ get_or before s 0 + smaller word base k s
-
-  pub added_none : (counts : List ℕ) → Added counts counts 0
-  added_none counts s h = sym (ap (λ (u : ℕ). get_or counts s 0 + u) (smaller_none s) ∙ add-zero (get_or counts s 0))
-
-  pub added_more : (before now : List ℕ) (k v : ℕ) → length now ≡ 17 → base + k < 17 → Added before now k
-      → v ≡ get_or now (base + k) 0 + of_size word k → Added before (set now (base + k) v) (k + 1)
-  added_more before now k v len room h e s l = cases (eq_or_not s (base + k))
-    where
-      eq_or_not : (x y : ℕ) → (x ≡ y) ⊎ (x ≡ y → ⊥)
-      eq_or_not x y = elim (true_or_false (eqb x y)) [ inl t ↦ inl (eqb-true x y t) | inr t ↦ inr (eqb-false x y t) ]
-
-      cases : (s ≡ base + k) ⊎ (s ≡ base + k → ⊥) → get_or (set now (base + k) v) s 0 ≡ get_or before s 0 + smaller word base (k + 1) s
-      cases (inl same) =
-          ap (λ (i : ℕ). get_or (set now (base + k) v) i 0) same ∙ get_or-set_same now (base + k) v 0 (rw len room) ∙ e
-          ∙ ap (λ (i : ℕ). get_or now i 0 + of_size word k) (sym same) ∙ ap (λ (u : ℕ). u + of_size word k) (h s l)
-          ∙ sym (ap (λ (u : ℕ). get_or before s 0 + u) (smaller_more k s ∙ ap (λ (b : Bool). smaller word base k s + cond b (of_size word k) 0) (eq-eqb s (base + k) same))
-          ∙ sym (add_assoc (get_or before s 0) (smaller word base k s) (of_size word k)))
-      cases (inr other) =
-          get_or-set_other now (base + k) s v 0 other ∙ h s l
-          ∙ sym (ap (λ (u : ℕ). get_or before s 0 + u) (smaller_more k s ∙ ap (λ (b : Bool). smaller word base k s + cond b (of_size word k) 0) (ne_eqb s (base + k) other)
-          ∙ add-zero (smaller word base k s)))
-
-  pub added_all : (before now : List ℕ) → length now ≡ 17 → Added before now 7 → now ≡ tabulate 17 (λ s. get_or before s 0 + in_word word base s)
-  added_all before now len h =
-      tabulate_unique 17 (λ s. get_or before s 0 + in_word word base s) now 0 len (λ s l. h s l ∙ ap (λ (u : ℕ). get_or before s 0 + u) (smaller_all s))
+        before : counts ≡ filled f counts base
+        before =
+            sym (take-append-drop base counts)
+            ∙ ap (λ (front : List ℕ). front ++ drop base counts)
+            (tabulate_unique base f (take base counts) 0 (length-take base counts ∙ omega arith) (λ j h.
+            get_or-take base counts j 0 h ∙ sym (kept j (λ m l same. omega arith))))
 
 -- an empty word adds nothing
 pub in_word_none : (counts : List ℕ) (word base : ℕ) → length counts ≡ 17 → word ≡ 0 → counts ≡ tabulate 17 (λ s. get_or counts s 0 + in_word word base s)

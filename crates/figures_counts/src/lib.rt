@@ -17,7 +17,7 @@ pub fn counts_by_size(words: &[u64]) -> [u64; 17]
     let mut counts = [0u64; 17];
     for at in 0..1024 {
         let word = numbers::cell(words, at);
-        add_word(&mut counts, word, u64::count_ones(at as u64) as usize);
+        add_word(&mut counts, word, at.count_ones() as usize);
     }
     counts
 }
@@ -41,19 +41,15 @@ fn add_rows(rows: &mut [u64], word: u64, at: usize)
     requires at_bound { at < 1024 }
     ensures { rows.new ≡ tabulate 289 (λ i. get_or rows.old i 0 + in_word (meet word (word_of (has_part (i / 17)) at)) (size at) (i % 17)) }
 {
+    let base = at.count_ones() as usize;
     for part in 0..17 {
         let start = 17 * part;
-        let end = start + 17;
-        let chosen = word & having(at, part);
-        add_word(
-            &mut rows[start..end],
-            chosen,
-            u64::count_ones(at as u64) as usize,
-        );
+        add_word(&mut rows[start..start + 17], word & having(at, part), base);
     }
 }
 
 // Adds to the counts the sets of a word, whose sizes begin at `base`.
+#[tactic(auto, using(crate::proofs::Words::added_more, crate::proofs::Words::added_all, numbers::proofs::Tables::filled_none))]
 fn add_word(counts: &mut [u64], word: u64, base: usize)
     requires counts_len { length counts.old ≡ 17 }
     requires none_over { NoneOver 65536 counts.old }
@@ -63,8 +59,8 @@ fn add_word(counts: &mut [u64], word: u64, base: usize)
     if word == 0 {
         return;
     }
-    for k in 0..7 {
-        counts[base + k] += u64::count_ones(word & of_size(k)) as u64;
+    for (k, count) in counts[base..base + 7].iter_mut().enumerate() {
+        *count += u64::from((word & of_size(k)).count_ones());
     }
 }
 
@@ -85,23 +81,17 @@ fn of_size(k: usize) -> u64
 }
 
 // Word `at` of the sets that have the part, or of all where the part is 16.
+#[tactic(auto, using(crate::proofs::Words::having_low, crate::proofs::Words::having_all, crate::proofs::Words::having_none, crate::proofs::Words::having_every))]
 fn having(at: usize, part: usize) -> u64
     ensures { result ≡ word_of (has_part part) at }
 {
-    if 16 <= part {
-        return 0xFFFF_FFFF_FFFF_FFFF;
-    }
     match part {
-        0 => 0xAAAA_AAAA_AAAA_AAAA,
-        1 => 0xCCCC_CCCC_CCCC_CCCC,
-        2 => 0xF0F0_F0F0_F0F0_F0F0,
-        3 => 0xFF00_FF00_FF00_FF00,
-        4 => 0xFFFF_0000_FFFF_0000,
-        5 => 0xFFFF_FFFF_0000_0000,
-        _ => if (at >> (part - 6)) % 2 == 1 {
-            0xFFFF_FFFF_FFFF_FFFF
+        0..6 => !structure_words::lacking(part),
+        6..16 => if (at >> (part - 6)) % 2 == 1 {
+            u64::MAX
         } else {
             0
         },
+        _ => u64::MAX,
     }
 }

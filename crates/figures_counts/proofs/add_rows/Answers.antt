@@ -20,7 +20,7 @@ use Rattle.figures_counts.proofs.add_rows.Goals.{At-loop-part, In-loop-part}
 pub loop-part-init : goal.loop-part-init
 loop-part-init c =
     let a = c.args in
-    (omega arith, filled_none (more a.rows.now a.word a.at) a.rows.now)
+    filled_none (more a.rows.now a.word a.at) a.rows.now
 
 -- there is room for the row
 room : (c : In-loop-part) → 17 * c.loop-part.part + 17 ≤ length c.args.rows.now
@@ -30,14 +30,11 @@ long : (c : At-loop-part) → length c.loop-part.rows ≡ length c.args.rows.now
 long c =
     let start = c in
     let a = start.args in
-    ap length c.loop-part.invariant.1
-    ∙ filled_length (more a.rows.now a.word a.at) a.rows.now (17 * c.loop-part.part) (omega (arith, c.loop-part.invariant.0, start.requires.rows_len))
+    ap length c.loop-part.invariant
+    ∙ filled_length (more a.rows.now a.word a.at) a.rows.now (17 * c.loop-part.part) (omega (arith, start.requires.rows_len))
 
 pub slice_bounds-add_word-end : goal.slice_bounds-add_word-end
 slice_bounds-add_word-end c = le_trans (room (goal.at.slice_bounds-add_word-end c).In-loop-part) (le_of_eq (sym (long (goal.at.slice_bounds-add_word-end c).At-loop-part)))
-
-pub overflow_cast-at : goal.overflow_cast-at
-overflow_cast-at c = omega (arith, ones-le 10 c.args.at c.requires.at_bound)
 
 pub add_word-requires : goal.add_word-requires
 add_word-requires c =
@@ -45,8 +42,8 @@ add_word-requires c =
     let from : ℕ = 17 * c.loop-part.part in
     let f = more a.rows.now a.word a.at in
     record {
-      counts_len = part_length f a.rows.now c.loop-part.rows from 17 c.loop-part.invariant.1 (room (goal.at.add_word-requires c).In-loop-part);
-      none_over = part_few f a.rows.now c.loop-part.rows from 17 c.loop-part.invariant.1 (room (goal.at.add_word-requires c).In-loop-part) 65536 c.requires.none_over;
+      counts_len = part_length f a.rows.now c.loop-part.rows from 17 c.loop-part.invariant (room (goal.at.add_word-requires c).In-loop-part);
+      none_over = part_few f a.rows.now c.loop-part.rows from 17 c.loop-part.invariant (room (goal.at.add_word-requires c).In-loop-part) 65536 c.requires.none_over;
       base_bound = ones-le 10 a.at c.requires.at_bound;
     }
 
@@ -57,18 +54,16 @@ loop-part-preserved c =
     let part = c.loop-part.part in
     let from : ℕ = 17 * part in
     let next : from + 17 ≡ 17 * (part + 1) = omega arith in
-    let f = more a.rows.now a.word a.at in (
-      omega arith,
-      part_back f a.rows.now c.loop-part.rows from 17 c.loop-part.invariant.1 (room (goal.at.loop-part-preserved c).In-loop-part) c.add_word.new.counts
-          (c.add_word.ensures
-          ∙ tabulate_same 17 _ (λ s. f (from + s)) (λ s h.
-          let row : (from + s) / 17 ≡ part = omega arith in
-          let column : (from + s) % 17 ≡ s = omega arith in
-          ap₂ (λ (x y : ℕ). x + y) (part_old f a.rows.now c.loop-part.rows from 17 c.loop-part.invariant.1 (room (goal.at.loop-part-preserved c).In-loop-part) s h)
-          (ap (λ (w : ℕ). in_word (meet a.word w) (size a.at) s) c.having.ensures
-          ∙ sym (ap₂ (λ (p x : ℕ). in_word (meet a.word (word_of (has_part p) a.at)) (size a.at) x) row column))))
-          ∙ ap (filled f a.rows.now) next,
-    )
+    let f = more a.rows.now a.word a.at in
+    part_back f a.rows.now c.loop-part.rows from 17 c.loop-part.invariant (room (goal.at.loop-part-preserved c).In-loop-part) c.add_word.new.counts
+    (c.add_word.ensures
+    ∙ tabulate_same 17 _ (λ s. f (from + s)) (λ s h.
+    let row : (from + s) / 17 ≡ part = omega arith in
+    let column : (from + s) % 17 ≡ s = omega arith in
+    ap₂ (λ (x y : ℕ). x + y) (part_old f a.rows.now c.loop-part.rows from 17 c.loop-part.invariant (room (goal.at.loop-part-preserved c).In-loop-part) s h)
+    (ap (λ (w : ℕ). in_word (meet a.word w) (size a.at) s) c.having.ensures
+    ∙ sym (ap₂ (λ (p x : ℕ). in_word (meet a.word (word_of (has_part p) a.at)) (size a.at) x) row column))))
+    ∙ ap (filled f a.rows.now) next
 
 pub shape_of-rows : goal.shape_of-rows
 shape_of-rows c = long (goal.at.shape_of-rows c).At-loop-part
@@ -77,6 +72,6 @@ pub returns : goal.returns
 unfolding more
 returns c =
     let a = c.args in
-    let done : 17 * c.loop-part.part ≡ 289 = omega (arith, c.loop-part.invariant.0, c.loop-part-test.false) in
-    c.loop-part.invariant.1 ∙ ap (filled (more a.rows.now a.word a.at) a.rows.now) done
+    let done : 17 * c.loop-part.part ≡ 289 = omega arith in
+    c.loop-part.invariant ∙ ap (filled (more a.rows.now a.word a.at) a.rows.now) done
     ∙ filled_all (more a.rows.now a.word a.at) a.rows.now 289 (le_of_eq c.requires.rows_len)

@@ -2,7 +2,7 @@
 -- Assumes nothing.
 use mathlib.Core.Path.{◌≡◌}
 use mathlib.Core.List.{List}
-use Prim.Native.Nat.{ℕ, ◌+◌, ◌-◌, ◌*◌, ◌/◌, ◌%◌, ◌≤◌}
+use Prim.Native.Nat.{ℕ, ◌+◌, ◌*◌, ◌/◌, ◌%◌}
 use lib.ListN.{get_or}
 use Rattle.numbers.proofs.Tables.{filled}
 use Rattle.theory_sets.specs.Masks.{size, meet}
@@ -16,7 +16,4 @@ unfoldable pub more : List ℕ → ℕ → ℕ → ℕ → ℕ
 more rows word at i = get_or rows i 0 + in_word (meet word (word_of (has_part (i / 17)) at)) (size at) (i % 17)
 
 abbrev pub invariant-loop-part : goal.invariant-loop-part
-invariant-loop-part l = (l.part ≤ 17) × (l.rows ≡ filled (more l.initial.rows l.word l.at) l.initial.rows (17 * l.part))
-
-abbrev pub decreases-loop-part : goal.decreases-loop-part
-decreases-loop-part l = 17 - l.part
+invariant-loop-part l = l.rows ≡ filled (more l.initial.rows l.word l.at) l.initial.rows (17 * l.part)

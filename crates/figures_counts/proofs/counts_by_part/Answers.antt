@@ -23,10 +23,10 @@ use Rattle.figures_counts.proofs.counts_by_part.Goals.{At-loop-at}
 
 pub loop-at-init : goal.loop-at-init
 unfolding tabulate count_at sizes sum_below
-loop-at-init c = (omega arith, refl)
+loop-at-init c = refl
 
 long : (c : At-loop-at) → length c.loop-at.rows ≡ 289
-long c = ap length c.loop-at.invariant.1 ∙ tabulate_length 289 (count_at c.args.words.now c.loop-at.at)
+long c = ap length c.loop-at.invariant ∙ tabulate_length 289 (count_at c.args.words.now c.loop-at.at)
 
 pub slice_bounds-add_rows-end : goal.slice_bounds-add_rows-end
 slice_bounds-add_rows-end c = sym (long (goal.at.slice_bounds-add_rows-end c).At-loop-at)
@@ -37,8 +37,8 @@ add_rows-requires c =
     let words = c.args.words.now in
     record {
       rows_len = long (goal.at.add_rows-requires c).At-loop-at;
-      none_over = subst (λ (rows : List ℕ). NoneOver 65536 rows) (sym c.loop-at.invariant.1)
-          (tabulate_few 289 (count_at words c.loop-at.at) 65536 (λ i. sizes_most (chosen words (i / 17)) c.loop-at.at (i % 17) c.loop-at.invariant.0));
+      none_over = subst (λ (rows : List ℕ). NoneOver 65536 rows) (sym c.loop-at.invariant)
+          (tabulate_few 289 (count_at words c.loop-at.at) 65536 (λ i. sizes_most (chosen words (i / 17)) c.loop-at.at (i % 17) (omega arith)));
       at_bound = c.loop-at-test.true;
     }
 
@@ -47,23 +47,21 @@ unfolding count_at chosen
 loop-at-preserved c =
     let words = c.args.words.now in
     let at = c.loop-at.at in
-    let word = c.cell-sets.result in (
-      omega arith,
-      c.add_rows.ensures
-          ∙ tabulate_same 289 _ (count_at words (at + 1)) (λ i h.
-          let masked : ℕ = meet word (word_of (has_part (i / 17)) at) in
-          ap (λ (rows : List ℕ). get_or rows i 0 + in_word masked (size at) (i % 17)) c.loop-at.invariant.1
-          ∙ ap (λ (x : ℕ). x + in_word masked (size at) (i % 17)) (tabulate_at 289 (count_at words at) i 0 h)
-          ∙ sizes_next (chosen words (i / 17)) at masked (i % 17) (λ k l.
-          has_meet word (word_of (has_part (i / 17)) at) k
-          ∙ ap₂ (λ (p q : Bool). p && q) (ap (λ (w : ℕ). has w k) c.cell-sets.ensures ∙ sym (in_words_at words at k l))
-          (has_word_of (has_part (i / 17)) at k l))),
-    )
+    let word = c.cell-sets.result in
+    c.add_rows.ensures
+    ∙ tabulate_same 289 _ (count_at words (at + 1)) (λ i h.
+    let masked : ℕ = meet word (word_of (has_part (i / 17)) at) in
+    ap (λ (rows : List ℕ). get_or rows i 0 + in_word masked (size at) (i % 17)) c.loop-at.invariant
+    ∙ ap (λ (x : ℕ). x + in_word masked (size at) (i % 17)) (tabulate_at 289 (count_at words at) i 0 h)
+    ∙ sizes_next (chosen words (i / 17)) at masked (i % 17) (λ k l.
+    has_meet word (word_of (has_part (i / 17)) at) k
+    ∙ ap₂ (λ (p q : Bool). p && q) (ap (λ (w : ℕ). has w k) c.cell-sets.ensures ∙ sym (in_words_at words at k l))
+    (has_word_of (has_part (i / 17)) at k l)))
 
 pub returns : goal.returns
 unfolding count_at chosen rows_of
 returns c =
     let words = c.args.words.now in
     let done : c.loop-at.at ≡ 1024 = omega arith in
-    c.loop-at.invariant.1 ∙ ap (λ (at : ℕ). tabulate 289 (count_at words at)) done
+    c.loop-at.invariant ∙ ap (λ (at : ℕ). tabulate 289 (count_at words at)) done
     ∙ tabulate_same 289 (count_at words 1024) _ (λ i h. sizes_all (chosen words (i / 17)) (i % 17))

@@ -3,7 +3,7 @@
 use mathlib.Core.Path.{◌≡◌}
 use mathlib.Core.Bool.{Bool, ◌&&◌}
 use mathlib.Core.List.{List}
-use Prim.Native.Nat.{ℕ, ◌-◌, ◌/◌, ◌%◌, ◌≤◌}
+use Prim.Native.Nat.{ℕ, ◌/◌, ◌%◌}
 use Rattle.numbers.specs.Tables.{tabulate}
 use Rattle.structure_words.specs.Words.{in_words}
 use Rattle.figures_counts.specs.Rows.{has_part}
@@ -19,7 +19,4 @@ unfoldable pub count_at : List ℕ → ℕ → ℕ → ℕ
 count_at words at i = sizes (chosen words (i / 17)) at (i % 17)
 
 abbrev pub invariant-loop-at : goal.invariant-loop-at
-invariant-loop-at l = (l.at ≤ 1024) × (l.rows ≡ tabulate 289 (count_at l.words l.at))
-
-abbrev pub decreases-loop-at : goal.decreases-loop-at
-decreases-loop-at l = 1024 - l.at
+invariant-loop-at l = l.rows ≡ tabulate 289 (count_at l.words l.at)

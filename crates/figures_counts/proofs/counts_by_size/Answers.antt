@@ -21,24 +21,21 @@ use Rattle.figures_counts.proofs.counts_by_size.Goals.{At-loop-at}
 
 pub loop-at-init : goal.loop-at-init
 unfolding tabulate sizes sum_below
-loop-at-init c = (omega arith, refl)
+loop-at-init c = refl
 
 long : (c : At-loop-at) → length c.loop-at.counts ≡ 17
-long c = ap length c.loop-at.invariant.1 ∙ tabulate_length 17 (sizes (in_words c.args.words.now) c.loop-at.at)
+long c = ap length c.loop-at.invariant ∙ tabulate_length 17 (sizes (in_words c.args.words.now) c.loop-at.at)
 
 pub slice_bounds-add_word-end : goal.slice_bounds-add_word-end
 slice_bounds-add_word-end c = sym (long (goal.at.slice_bounds-add_word-end c).At-loop-at)
-
-pub overflow_cast-at : goal.overflow_cast-at
-overflow_cast-at c = omega (arith, ones-le 10 c.loop-at.at (omega arith))
 
 pub add_word-requires : goal.add_word-requires
 add_word-requires c =
     let test = in_words c.args.words.now in
     record {
       counts_len = long (goal.at.add_word-requires c).At-loop-at;
-      none_over = subst (λ (counts : List ℕ). NoneOver 65536 counts) (sym c.loop-at.invariant.1)
-          (tabulate_few 17 (sizes test c.loop-at.at) 65536 (λ s. sizes_most test c.loop-at.at s c.loop-at.invariant.0));
+      none_over = subst (λ (counts : List ℕ). NoneOver 65536 counts) (sym c.loop-at.invariant)
+          (tabulate_few 17 (sizes test c.loop-at.at) 65536 (λ s. sizes_most test c.loop-at.at s (omega arith)));
       base_bound = ones-le 10 c.loop-at.at (omega arith);
     }
 
@@ -46,18 +43,16 @@ pub loop-at-preserved : goal.loop-at-preserved
 loop-at-preserved c =
     let words = c.args.words.now in
     let at = c.loop-at.at in
-    let word = c.cell-word.result in (
-      omega arith,
-      c.add_word.ensures
-          ∙ tabulate_same 17 _ (sizes (in_words words) (at + 1)) (λ s h.
-          ap (λ (counts : List ℕ). get_or counts s 0 + in_word word (size at) s) c.loop-at.invariant.1
-          ∙ ap (λ (x : ℕ). x + in_word word (size at) s) (tabulate_at 17 (sizes (in_words words) at) s 0 h)
-          ∙ sizes_next (in_words words) at word s (λ k l. ap (λ (w : ℕ). has w k) c.cell-word.ensures ∙ sym (in_words_at words at k l))),
-    )
+    let word = c.cell-word.result in
+    c.add_word.ensures
+    ∙ tabulate_same 17 _ (sizes (in_words words) (at + 1)) (λ s h.
+    ap (λ (counts : List ℕ). get_or counts s 0 + in_word word (size at) s) c.loop-at.invariant
+    ∙ ap (λ (x : ℕ). x + in_word word (size at) s) (tabulate_at 17 (sizes (in_words words) at) s 0 h)
+    ∙ sizes_next (in_words words) at word s (λ k l. ap (λ (w : ℕ). has w k) c.cell-word.ensures ∙ sym (in_words_at words at k l)))
 
 pub returns : goal.returns
 returns c =
     let test = in_words c.args.words.now in
     let done : c.loop-at.at ≡ 1024 = omega arith in
-    c.loop-at.invariant.1 ∙ ap (λ (at : ℕ). tabulate 17 (sizes test at)) done
+    c.loop-at.invariant ∙ ap (λ (at : ℕ). tabulate 17 (sizes test at)) done
     ∙ tabulate_same 17 (sizes test 1024) (path_count 16 test) (λ s h. sizes_all test s)

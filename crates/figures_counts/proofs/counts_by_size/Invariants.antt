@@ -1,14 +1,10 @@
 -- `figures_counts::counts_by_size` meets its contract: each word adds its sets to the counts of their sizes.
 -- Assumes nothing.
 use mathlib.Core.Path.{◌≡◌}
-use Prim.Native.Nat.{◌-◌, ◌≤◌}
 use Rattle.numbers.specs.Tables.{tabulate}
 use Rattle.structure_words.specs.Words.{in_words}
 use Rattle.figures_counts.proofs.Words.{sizes}
 use Rattle.figures_counts.proofs.counts_by_size.Given as goal
 
 abbrev pub invariant-loop-at : goal.invariant-loop-at
-invariant-loop-at l = (l.at ≤ 1024) × (l.counts ≡ tabulate 17 (sizes (in_words l.words) l.at))
-
-abbrev pub decreases-loop-at : goal.decreases-loop-at
-decreases-loop-at l = 1024 - l.at
+invariant-loop-at l = l.counts ≡ tabulate 17 (sizes (in_words l.words) l.at)

@@ -75,9 +75,8 @@ fn marked_with(list: &[u16], set: u16) -> [u64; 1024]
     ensures { result ≡ words_of (among (list.now ++ (set ∷ []))) }
 {
     let mut marks = structure_words::marked(list);
-    let value = set as usize;
-    let at = value / 64;
-    marks[at] = marks[at] | (1 << (value % 64));
+    let value = usize::from(set);
+    marks[value / 64] |= 1 << (value % 64);
     marks
 }
 
@@ -94,13 +93,9 @@ fn minimal_of_marks(n: usize, marks: &[u64], sets: &mut [u16]) -> Written
 fn left_without(sets: &[u16], group: usize) -> usize
     ensures { result ≡ length (sets_without group sets.now) }
 {
-    let mut left = 0;
-    for i in 0..sets.len() {
-        if !masks::meets(sets[i], group) {
-            left += 1;
-        }
-    }
-    left
+    sets.iter()
+        .filter(|set| !masks::meets(**set, group))
+        .count()
 }
 
 // Stores these sets, squeezed, where there is room for all of them, and answers how many they are.
@@ -109,8 +104,7 @@ fn keep_without(sets: &[u16], group: usize, kept: &mut [u16]) -> usize
     ensures { outcome (Written.Length result) kept.new ≡ delivered Verdict.Accepted (sets_without group sets.now) kept.old }
 {
     let mut next = 0;
-    for i in 0..sets.len() {
-        let set = sets[i];
+    for &set in sets {
         if !masks::meets(set, group) {
             kept[next] = masks::squeezed(set, group);
             next += 1;

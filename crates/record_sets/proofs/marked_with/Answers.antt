@@ -13,5 +13,6 @@ pub returns : goal.returns
 returns c =
     let a = c.args in
     let value : ℕ = a.set in
-    ap (λ (ws : List ℕ). set ws (value / 64) (join (get_or ws (value / 64) 0) (1 * 2 ^ (value % 64) % 2 ^ 64))) c.marked-marks.ensures
-    ∙ marked_one a.list.now value (omega arith)
+    rw c.from-value.ensures
+    (ap (λ (ws : List ℕ). set ws (value / 64) (join (get_or ws (value / 64) 0) (1 * 2 ^ (value % 64) % 2 ^ 64))) c.marked-marks.ensures
+    ∙ marked_one a.list.now value (omega arith))

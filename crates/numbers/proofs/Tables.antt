@@ -82,6 +82,9 @@ module _ {A : Type 0} (f : ℕ → A) (xs : List A) where
   filled_length n h =
       length-append (tabulate n f) (drop n xs) ∙ ap₂ (λ (a b : ℕ). a + b) (tabulate_length n f) (length-drop n xs) ∙ add-sub_of_le h
 
+-- for a loop that writes one entry after the other
+pub ruleset filling = (filled_none, filled_again, filled_end)
+
 -- a list is decided by its length and its entries
 pub tabulate_unique : {A : Type 0} (n : ℕ) (f : ℕ → A) (xs : List A) (d : A) → length xs ≡ n → ((j : ℕ) → j < n → get_or xs j d ≡ f j) → xs ≡ tabulate n f
 tabulate_unique n f xs d len same =

@@ -4,10 +4,11 @@ use mathlib.Core.Path.{◌≡◌, sym, ap, ap₂, ◌∙◌}
 use mathlib.Core.Bool.{Bool, false, not, ◌&&◌}
 use Prim.Native.Nat.{ℕ, ◌+◌, ◌-◌, ◌*◌, ◌/◌, ◌^◌, ◌≤◌, ◌<◌}
 use native.Mathlib.Nat.{add-sub_of_le, lt_of_le_of_lt, mul-mod_left, sub-le}
+use native.Mathlib.Omega.{arith}
 use lib.Pow.{pow-add, shl-shr}
 use Rattle.theory_sets.specs.Masks.{has, meet}
-use Rattle.theory_sets.proofs.Masks.{has_empty, has_meet, has_shift, has_low}
-use Rattle.theory_sets.proofs.Tables.{has_packed}
+use Rattle.theory_sets.proofs.Masks.{has_above, has_empty, has_full, has_meet, has_shift, has_low}
+use Rattle.theory_sets.proofs.Tables.{has_packed, packed_unique}
 use Rattle.structure_words.specs.Words.{lacks}
 
 -- a shift to the left by s clears the s lowest bits
@@ -33,6 +34,11 @@ module _ (word part k : ℕ) (h : k < 64) where
       ap (has (meet word (lacks part) * 2 ^ (2 ^ part))) (sym (add-sub_of_le large)) ∙ has_shl (meet word (lacks part)) (2 ^ part) t
       ∙ has_meet word (lacks part) t
       ∙ ap (λ (q : Bool). has word t && q) (has_packed 64 (λ k. not (has k part)) t (lt_of_le_of_lt (sub-le k (2 ^ part)) h))
+
+-- no index below 64 has a part from the seventh on
+pub lacks_beyond : (part : ℕ) → 6 ≤ part → lacks part ≡ 2 ^ 64 - 1
+lacks_beyond part h =
+    sym (packed_unique 64 (λ k. not (has k part)) (2 ^ 64 - 1) (omega arith) (λ k l. has_full 64 k l ∙ sym (ap not (has_above k 6 part l h))))
 
 -- a part from the seventh on makes a step of whole words
 pub whole_words : (part step : ℕ) → 6 ≤ part → step ≡ 2 ^ (part - 6) → 2 ^ part ≡ 64 * step

@@ -1,38 +1,35 @@
--- Runs of bits: a byte of a word, the lowest bit that is set, and how many sets a word adds to those before it.
+-- Runs of bits: the lowest bit that is set, and how many sets a word adds to those before it.
 -- Assumes nothing.
-use mathlib.Core.Path.{◌≡◌, sym, ap, ap₂, ◌∙◌, subst}
+use mathlib.Core.Path.{◌≡◌, refl, sym, ap, ap₂, ◌∙◌, subst}
 use mathlib.Core.Bool.{Bool, true, false, cond}
 use mathlib.Core.List.{List, [], ◌∷◌, ◌++◌}
 use mathlib.Core.Logic.{◌⊎◌, inl, inr, ⊎_elim}
 use Prim.Native.Nat.{ℕ, zero, suc, ◌+◌, ◌-◌, ◌*◌, ◌/◌, ◌%◌, ◌^◌, ◌≤◌, ◌<◌, zero-le, suc-le-suc}
 use native.Mathlib.Decide.{ℕ_discrete}
-use native.Mathlib.Nat.{not-suc-le-zero, le_of_suc-le-suc, le_of_lt, le_refl, zero-lt-suc, mod-lt, pow-succ', add-zero, add-suc, add_comm, add_assoc, mod-one, zero-add, add-sub_of_le, sub_self, div-one}
+use native.Mathlib.Nat.{mod-eq_of_lt, not-suc-le-zero, le_of_suc-le-suc, le_of_lt, le_refl, zero-lt-suc, mod-lt, pow-succ', add-zero, add-suc, add_comm, add_assoc, mod-one, zero-add, add-sub_of_le, sub_self, div-one}
 use native.Mathlib.Numerals.{one-add, add-one}
 use native.Mathlib.Omega.{arith}
-use lib.Count.{ones, ones_cat, count_trailing_zeros, under}
-use lib.ListN.{length, get_or, set, length-append}
-use lib.Pow.{pow_pos, pow-add, mod-pow-add, shr-shr}
+use lib.Count.{ones, ones_cat, ones-le, count_trailing_zeros, under}
+use lib.ListN.{length, get_or, set, take, length-append, length-take, get_or-eq_default}
+use lib.Seq.{get_or-take}
+use mir.Syntax.{w64}
+use mir.Val.{Fits}
+use Rattle.std.proofs.lemmas.Grind.{get_or_default_zero}
+use lib.Pow.{pow_pos, mod-pow-add, shr-shr}
 use Rattle.answer.proofs.Outcomes.{InFront, in_front_none, in_front_one}
 use Rattle.theory_sets.specs.Masks.{has, those, least}
-use Rattle.theory_sets.specs.Tables.{packed, in_table}
 use Rattle.numbers.proofs.Bools.{true_or_false, clash}
-use Rattle.theory_sets.proofs.Masks.{odd, even, has_suc, has_low, has_above, has_empty, has_block, has_shift, quotient_odd, quotient_even}
+use Rattle.theory_sets.proofs.Masks.{odd, even, has_suc, has_above, has_empty, has_shift, quotient_odd, quotient_even}
 use Rattle.numbers.proofs.Bounds.{below_or_above}
 use Rattle.theory_sets.proofs.Ranges.{least_none, least_found, those_skip, those_take, those_fewer}
-use Rattle.theory_sets.proofs.Tables.{packed_unique, packed_same, in_table_at}
-use Rattle.structure_words.specs.Words.{in_words, word_of}
-use Rattle.structure_words.proofs.Words.{in_words_at, word_of_unique}
+use Rattle.structure_words.specs.Words.{in_words}
+use Rattle.structure_words.proofs.Words.{in_words_at}
 
 -- bit i is the lowest that is set, of 64
 pub record Lowest (word i : ℕ) : Type 0 where
   pub within : i < 64
   pub stands : has word i ≡ true
   pub clear : (k : ℕ) → k < i → has word k ≡ false
-
-pub byte_of : (w i : ℕ) → w / 2 ^ (8 * i) % 256 ≡ packed 8 (λ k. has w (8 * i + k))
-byte_of w i =
-    packed_unique 8 (λ k. has w (8 * i + k)) (w / 2 ^ (8 * i) % 2 ^ 8) (mod-lt (w / 2 ^ (8 * i)) (pow_pos 8))
-    (λ k h. has_low (w / 2 ^ (8 * i)) 8 k h ∙ has_shift w (8 * i) k)
 
 -- ---- the lowest bit that is set
 
@@ -127,44 +124,6 @@ module _ (words : List ℕ) (at : ℕ) where
           cases (inl t) = rw (t, quotient_odd w k t)
           cases (inr f) = rw (f, quotient_even w k f)
 
--- ---- a word of a table, from its highest byte down
-
-module _ (table : List ℕ) (at : ℕ) where
-  -- the word so far is the i highest bytes
-  abbrev pub Loaded : ℕ → ℕ → Type 0
-  Loaded i word = (word < 2 ^ (8 * i)) × ((k : ℕ) → k < 8 * i → has word k ≡ in_table table (8 * (8 * at + (8 - i)) + k))
-
-  pub loaded_none : Loaded 0 0
-  loaded_none = (zero-lt-suc 0, λ k h. absurd (not-suc-le-zero h))
-
-  pub loaded_more : (i word byte : ℕ) → i < 8 → byte < 256 → byte ≡ get_or table (8 * at + (7 - i)) 0 → Loaded i word → Loaded (i + 1) (word * 256 + byte)
-  loaded_more i word byte hi hb e so =
-      let grows : 2 ^ (8 * (i + 1)) ≡ 2 ^ 8 * 2 ^ (8 * i) = ap (λ (x : ℕ). 2 ^ x) (omega arith) ∙ pow-add 2 8 (8 * i) in
-      (omega (arith, grows, so.0), λ k h. cases k h (below_or_above k 8))
-    where
-      cases : (k : ℕ) → k < 8 * (i + 1) → (k < 8) ⊎ (8 ≤ k) → has (word * 256 + byte) k ≡ in_table table (8 * (8 * at + (8 - (i + 1))) + k)
-      cases k h (inl low) =
-          sym (has_low (word * 256 + byte) 8 k low)
-          ∙ ap (λ (x : ℕ). has x k) (omega arith ∙ e ∙ ap (λ (x : ℕ). get_or table x 0) (omega arith))
-          ∙ sym (in_table_at table (8 * at + (8 - (i + 1))) k low)
-      cases k h (inr high) =
-          let j : ℕ = k - 8 in
-          ap (has (word * 256 + byte)) (sym (add-sub_of_le high)) ∙ has_block word 8 byte j hb
-          ∙ so.1 j (omega arith) ∙ ap (in_table table) (omega arith)
-
-  pub loaded_all : (word : ℕ) → Loaded 8 word → word ≡ word_of (in_table table) at
-  loaded_all word so =
-      word_of_unique (in_table table) at word so.0 (λ k h. so.1 k h ∙ ap (in_table table) (omega arith))
-
--- a byte of the words is a byte of the table
-pub byte_at : (words : List ℕ) (b : ℕ) → packed 8 (λ k. has (get_or words (b / 8) 0) (8 * (b % 8) + k)) ≡ packed 8 (λ k. in_words words (8 * b + k))
-unfolding in_words
-byte_at words b =
-    packed_same 8 (λ k. has (get_or words (b / 8) 0) (8 * (b % 8) + k)) (λ k. in_words words (8 * b + k)) (λ k h.
-    let word : (8 * b + k) / 64 ≡ b / 8 = omega arith in
-    let bit : (8 * b + k) % 64 ≡ 8 * (b % 8) + k = omega arith in
-    sym (rw (word, bit)))
-
 -- ---- the sets that a full walk of the words counts
 
 pub those_few : (test : ℕ → Bool) (k : ℕ) → length (those test k) ≤ k
@@ -176,6 +135,41 @@ those_few test (suc k) =
     cases : (p : Bool) → length (those test k) ≤ k → cond p 1 0 + length (those test k) ≤ suc k
     cases true h = omega arith
     cases false h = omega arith
+
+module _ (words : List ℕ) where
+  pub count_none : 0 ≡ length (those (in_words words) 0)
+  unfolding those
+  count_none = refl
+
+  module _ (n sum : ℕ) (so : sum ≡ length (those (in_words words) (64 * n))) where
+    -- the next of the first 1,024 words
+    module _ (w : ℕ) (next : (n < length (take 1024 words)) × (w ≡ get_or (take 1024 words) n w)) (fits : Fits w64 (get_or words n 0)) where
+      few : (n < 1024) × (n < length words)
+      few = let l = next.0 in (omega (arith, length-take 1024 words), omega (arith, length-take 1024 words))
+
+      read : w ≡ get_or words n 0
+      read = next.1 ∙ get_or-take 1024 words n w few.0 ∙ get_or_default_zero words n w few.1
+
+      below : w < 2 ^ 64
+      below = omega (arith, read, fits.fits)
+
+      pub count_more : (m : ℕ) → m ≡ n + 1 → sum + ones w ≡ length (those (in_words words) (64 * m))
+      count_more m more =
+          let whole : get_or words n 0 % 2 ^ 64 ≡ w = ap (λ (x : ℕ). x % 2 ^ 64) (sym read) ∙ mod-eq_of_lt below in
+          add_comm sum (ones w) ∙ ap₂ (λ (x y : ℕ). ones x + y) (sym whole) so ∙ sym (those_count words n 64 (le_refl 64))
+          ∙ ap (λ (k : ℕ). length (those (in_words words) k)) (omega arith)
+
+      pub count_small : sum + ones w < 2 ^ 64
+      count_small = let l = few.0 in omega (arith, so, those_few (in_words words) (64 * n), ones-le 64 w below)
+
+    -- the words that are lacking have no set
+    pub count_all : n ≡ length (take 1024 words) → sum ≡ length (those (in_words words) 65536)
+    unfolding in_words
+    count_all e =
+        let most : n ≤ 1024 = omega (arith, length-take 1024 words) in
+        let whole : 64 * n + (65536 - 64 * n) ≡ 65536 = omega arith in
+        so ∙ ap length (sym (ap (those (in_words words)) (sym whole) ∙ those_skip (in_words words) (64 * n) (65536 - 64 * n) (λ i l u.
+        ap (λ (x : ℕ). has x (i % 64)) (get_or-eq_default words 0 (omega (arith, length-take 1024 words, whole))) ∙ has_empty (i % 64))))
 
 -- ---- the list of the sets, written bit by bit
 

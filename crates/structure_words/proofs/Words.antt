@@ -1,11 +1,11 @@
 -- Laws of words: what bit of which word a mask is, and that the machine's operations on words are those on set functions.
 -- Assumes nothing.
-use mathlib.Core.Path.{◌≡◌, sym, ap, ap₂, ◌∙◌, subst}
+use mathlib.Core.Path.{◌≡◌, refl, sym, ap, ap₂, ◌∙◌, subst}
 use mathlib.Core.Bool.{Bool, false, not, ◌&&◌, ◌||◌}
 use mathlib.Core.List.{List}
 use Prim.Native.Nat.{ℕ, ◌+◌, ◌-◌, ◌*◌, ◌/◌, ◌%◌, ◌^◌, ◌≤◌, ◌<◌}
 use native.Mathlib.Decide.{ℕ_discrete}
-use native.Mathlib.Nat.{mod-lt, div-add-mod, zero-lt-suc, lt_of_lt_of_le}
+use native.Mathlib.Nat.{one-mul, mod-eq_of_lt, mod-lt, div-add-mod, zero-lt-suc, lt_of_lt_of_le}
 use native.Mathlib.Numerals.{add-one}
 use native.Mathlib.Omega.{arith}
 use lib.Bits.{or_lt, and_lt}
@@ -144,6 +144,25 @@ module _ (f : ℕ → Bool) (m : ℕ) (h : m < 65536) where
       cases j l inside (no other) =
           get_or-set_other (words_of f) (m / 64) j (join (get_or (words_of f) (m / 64) 0) (2 ^ (m % 64))) 0 other
           ∙ tabulate_at 1024 (word_of f) j 0 l ∙ miss j other
+
+-- the mask a is one of the first of the list
+abbrev pub among_first : List ℕ → ℕ → ℕ → Bool
+among_first list i a = any (λ k. eqb (get_or list k 0) a) i
+
+pub marked_none : (list : List ℕ) → replicate 1024 0 ≡ words_of (among_first list 0)
+unfolding any
+marked_none list = words_of_none (among_first list 0) (λ a. refl)
+
+-- the next set of the list is marked, as the machine does it
+pub marked_next : (list marks : List ℕ) (i m : ℕ) → marks ≡ words_of (among_first list i) → m ≡ get_or list i 0 → m < 65536
+    → set marks (m / 64) (join (get_or marks (m / 64) 0) (1 * 2 ^ (m % 64) % 2 ^ 64)) ≡ words_of (among_first list (i + 1))
+unfolding any
+marked_next list marks i m so is small =
+    let f : ℕ → Bool = among_first list i in
+    let bit : 1 * 2 ^ (m % 64) % 2 ^ 64 ≡ 2 ^ (m % 64) =
+    ap (λ (x : ℕ). x % 2 ^ 64) (one-mul (2 ^ (m % 64))) ∙ mod-eq_of_lt (pow-lt (mod-lt m (zero-lt-suc 63))) in
+    ap₂ (λ (now : List ℕ) (b : ℕ). set now (m / 64) (join (get_or now (m / 64) 0) b)) so bit ∙ marked_more f m small
+    ∙ ap (λ (x : ℕ). words_of (λ a. f a || eqb x a)) is ∙ ap (λ (k : ℕ). words_of (among_first list k)) (sym (add-one i))
 
 -- ---- some of a family of set functions, joined one after the other
 

@@ -2,7 +2,7 @@
 // set with mask a whether it works. A word that a slice lacks is 0.
 #![tactic(auto)]
 
-ghost use Rattle.std.specs.Prelude.{◌≡◌, ◌+◌, ◌*◌, ◌<◌, length, get_or};
+ghost use Rattle.std.specs.Prelude.{◌≡◌, ◌+◌, ◌*◌, ◌<◌, length};
 ghost use Rattle.answer.specs.Outcome.{outcome, delivered};
 ghost use Rattle.theory_sets.specs.Masks.{has, those, least};
 ghost use Rattle.theory_sets.specs.Tables.{packed, in_table};
@@ -11,30 +11,32 @@ ghost use Rattle.structure_words.specs.Words.{in_words, word_of, words_of, lacks
 use answer::{Verdict, Written};
 
 // The set function of a table.
+#[tactic(auto, using(numbers::proofs::Tables::filling))]
 pub fn load(table: &[u8]) -> [u64; 1024]
     ensures { result ≡ words_of (in_table table.now) }
 {
     let mut words = [0u64; 1024];
-    for at in 0..1024 {
-        words[at] = load_word(table, at);
+    for (at, word) in words.iter_mut().enumerate() {
+        *word = load_word(table, at);
     }
     words
 }
 
 // The set function of a list: the listed sets alone.
+#[tactic(auto, using(crate::proofs::Words::marked_none, crate::proofs::Words::marked_next))]
 pub fn marked(list: &[u16]) -> [u64; 1024]
     ensures { result ≡ words_of (among list.now) }
 {
     let mut marks = [0u64; 1024];
-    for i in 0..list.len() {
-        let mask = list[i] as usize;
-        let at = mask / 64;
-        marks[at] = marks[at] | (1 << (mask % 64));
+    for &set in list {
+        let mask = usize::from(set);
+        marks[mask / 64] |= 1 << (mask % 64);
     }
     marks
 }
 
 // Whether the set works.
+#[tactic(auto, unfolding(crate::specs::Words::in_words, theory_sets::specs::Masks::has))]
 pub fn works(words: &[u64], mask: usize) -> bool
     ensures { result ≡ in_words words.now mask }
 {
@@ -45,9 +47,9 @@ pub fn works(words: &[u64], mask: usize) -> bool
 pub fn count(words: &[u64]) -> usize
     ensures { result ≡ length (those (in_words words.now) 65536) }
 {
-    let mut sum: usize = 0;
-    for at in 0..1024 {
-        sum += u64::count_ones(numbers::cell(words, at)) as usize;
+    let mut sum = 0;
+    for word in words.iter().take(1024) {
+        sum += word.count_ones() as usize;
     }
     sum
 }
@@ -82,49 +84,38 @@ pub fn list(words: &[u64], sets: &mut [u16]) -> Written
 }
 
 // The table's bytes, as many as the table has.
+#[tactic(auto, using(numbers::proofs::Tables::filling))]
 pub fn store(words: &[u64], table: &mut [u8])
     ensures { table.new ≡ bytes_in (length table.old) words.now }
 {
-    for b in 0..table.len() {
-        table[b] = byte_of(numbers::cell(words, b / 8), b % 8);
+    for (at, byte) in table.iter_mut().enumerate() {
+        *byte = numbers::cell(words, at / 8).to_le_bytes()[at % 8];
     }
 }
 
-// Byte `i` of a word, from the lowest.
-fn byte_of(word: u64, i: usize) -> u8
-    requires { i < 8 }
-    ensures { result ≡ packed 8 (λ k. has word (8 * i + k)) }
-{
-    ((word >> (8 * i)) % 256) as u8
-}
-
 // Word `at` of a table, from its highest byte down.
+#[tactic(auto, using(crate::proofs::Bytes::loaded_none, crate::proofs::Bytes::loaded_more, crate::proofs::Bytes::loaded_room, crate::proofs::Bytes::loaded_all))]
 fn load_word(table: &[u8], at: usize) -> u64
     requires { at < 1024 }
     ensures { result ≡ word_of (in_table table.now) at }
 {
-    let mut word: u64 = 0;
-    for i in 0..8 {
-        word = word * 256 + byte(table, 8 * at + (7 - i)) as u64;
+    let mut word = 0;
+    for i in (0..8).rev() {
+        word = word * 256 + u64::from(table.get(8 * at + i).copied().unwrap_or(0));
     }
     word
 }
 
-// The byte at an index, and 0 beyond the last.
-fn byte(table: &[u8], at: usize) -> u8
-    ensures { result ≡ get_or table.now at 0 }
-{
-    if at < table.len() { table[at] } else { 0 }
-}
-
 // The lowest bit of a word that is set; 64 where there is none.
+#[tactic(auto, using(crate::proofs::Runs::lowest_least))]
 pub fn lowest(word: u64) -> usize
     ensures { result ≡ least (has word) 64 }
 {
-    wide(u64::trailing_zeros(word))
+    word.trailing_zeros() as usize
 }
 
 // The bits of a word whose index lacks the part: an index within a word has six parts, so it lacks every further one.
+#[tactic(auto, using(crate::proofs::Bits::lacks_beyond), unfolding(theory_sets::specs::Tables::packed, theory_sets::specs::Masks::has))]
 pub fn lacking(part: usize) -> u64
     ensures { result ≡ lacks part }
 {
@@ -137,10 +128,4 @@ pub fn lacking(part: usize) -> u64
         5 => 0x0000_0000_FFFF_FFFF,
         _ => 0xFFFF_FFFF_FFFF_FFFF,
     }
-}
-
-fn wide(count: u32) -> usize
-    ensures { result ≡ count }
-{
-    count as usize
 }

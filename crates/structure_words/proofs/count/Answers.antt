@@ -1,40 +1,27 @@
--- `structure_words::count` meets its contract: each word adds as many sets as it has bits set.
--- Assumes nothing.
-use mathlib.Core.Path.{◌≡◌, refl, sym, ap, ap₂, ◌∙◌}
-use Prim.Native.Nat.{ℕ, ◌+◌, ◌*◌, ◌%◌, ◌^◌}
-use native.Mathlib.Nat.{add_comm, mod-eq_of_lt, le_refl}
-use native.Mathlib.Omega.{arith}
-use lib.Count.{ones, ones-le}
-use lib.ListN.{length, get_or}
-use Rattle.theory_sets.specs.Masks.{those}
-use Rattle.structure_words.specs.Words.{in_words}
-use Rattle.structure_words.proofs.Runs.{those_count, those_few}
+-- `structure_words::count` meets its contract: each word adds as many sets as it has bits set, and a word that is lacking adds none.
+use Rattle.std.proofs.lemmas.Iterator.{YieldsList-from_slice, YieldsList-from_take}
+use Rattle.std.proofs.lemmas.Iterator.Consumers.{YieldsList-turn, YieldsList-end}
+use Rattle.std.proofs.lemmas.List.{length_push}
+use Rattle.structure_words.proofs.Runs.{count_none, count_more, count_small, count_all}
 use Rattle.structure_words.proofs.count.Goals as goal
 
-pub loop-at-init : goal.loop-at-init
-unfolding those
-loop-at-init c = (omega arith, refl)
-
-pub overflow_cast-sum : goal.overflow_cast-sum
-overflow_cast-sum c = omega (arith, ones-le 64 c.cell.result (omega (arith, c.cell.type_inv)))
+pub loop-word-init : goal.loop-word-init
+loop-word-init c = count_none c.args.words.now
 
 pub overflow_add-sum : goal.overflow_add-sum
 overflow_add-sum c =
-    omega (arith, ones-le 64 c.cell.result (omega (arith, c.cell.type_inv)), those_few (in_words c.args.words.now) (64 * c.loop-at.at), c.loop-at.invariant.1)
+    let items = YieldsList-from_take 1024 (YieldsList-from_slice c.args.words.now (cc)) (cc) in
+    let next = YieldsList-turn items c.loop-word.yielded _ c.loop-word.yielded_by _ _ c.in-Some.word c.in-Some.is c.next.ensures.steps in
+    record { fits = count_small c.args.words.now _ _ c.loop-word.invariant _ next (c.type_inv.words _) }
 
-pub loop-at-preserved : goal.loop-at-preserved
-loop-at-preserved c =
-    let words = c.args.words.now in
-    let at = c.loop-at.at in
-    let whole : get_or words at 0 % 2 ^ 64 ≡ c.cell.result =
-    ap (λ (w : ℕ). w % 2 ^ 64) (sym c.cell.ensures) ∙ mod-eq_of_lt (omega (arith, c.cell.type_inv)) in (
-      omega arith,
-      add_comm c.loop-at.sum (ones c.cell.result)
-          ∙ ap₂ (λ (x y : ℕ). ones x + y) (sym whole) c.loop-at.invariant.1 ∙ sym (those_count words at 64 (le_refl 64))
-          ∙ ap (λ (k : ℕ). length (those (in_words words) k)) (omega arith),
-    )
+pub loop-word-preserved : goal.loop-word-preserved
+loop-word-preserved c =
+    let items = YieldsList-from_take 1024 (YieldsList-from_slice c.args.words.now (cc)) (cc) in
+    let next = YieldsList-turn items c.loop-word.yielded _ c.loop-word.yielded_by _ _ c.in-Some.word c.in-Some.is c.next.ensures.steps in
+    count_more c.args.words.now _ _ c.loop-word.invariant _ next (c.type_inv.words _) _ (length_push c.loop-word.yielded c.in-Some.word)
 
 pub returns : goal.returns
 returns c =
-    let words = c.args.words.now in
-    c.loop-at.invariant.1 ∙ ap (λ (k : ℕ). length (those (in_words words) k)) (omega arith)
+    let items = YieldsList-from_take 1024 (YieldsList-from_slice c.args.words.now (cc)) (cc) in
+    count_all c.args.words.now _ _ c.loop-word.invariant
+    (YieldsList-end items c.loop-word.yielded _ c.loop-word.yielded_by _ _ c.in-None.is c.next.ensures.steps).1

@@ -1,21 +1,8 @@
--- `structure_words::marked` meets its contract: each listed set turns on its own bit.
--- Assumes nothing.
-use mathlib.Core.Path.{◌≡◌}
-use mathlib.Core.Bool.{Bool}
-use mathlib.Core.List.{List}
-use Prim.Native.Nat.{ℕ, ◌-◌, ◌≤◌}
-use lib.Dec.{eqb}
-use lib.ListN.{length, get_or}
-use Rattle.theory_sets.specs.Masks.{any}
+-- `structure_words::marked` meets its contract: so far each set of the first of the list has its bit.
+use Rattle.std.proofs.Common.{◌≡◌}
 use Rattle.structure_words.specs.Words.{words_of}
+use Rattle.structure_words.proofs.Words.{among_first}
 use Rattle.structure_words.proofs.marked.Given as goal
 
--- the mask is one of the first i of the list
-abbrev pub first : List ℕ → ℕ → ℕ → Bool
-first list i a = any (λ k. eqb (get_or list k 0) a) i
-
-abbrev pub invariant-loop-i : goal.invariant-loop-i
-invariant-loop-i l = (l.i ≤ length l.list) × (l.marks ≡ words_of (first l.list l.i))
-
-abbrev pub decreases-loop-i : goal.decreases-loop-i
-decreases-loop-i l = length l.list - l.i
+abbrev pub invariant-loop-set : goal.invariant-loop-set
+invariant-loop-set l = l.marks ≡ words_of (among_first l.list l.set-index)

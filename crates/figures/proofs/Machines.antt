@@ -1,6 +1,6 @@
 -- An accepted table in words: the words say what the table says, the sets of each size in the words are its path counts, and so for the sets
 -- with a part, from which its importance comes. Assumes nothing.
-use mathlib.Core.Path.{◌≡◌, sym, ap, ap₂, ◌∙◌, fun_ext}
+use mathlib.Core.Path.{◌≡◌, sym, ap, ap₂, subst, ◌∙◌, fun_ext}
 use mathlib.Core.Bool.{Bool, false, ◌&&◌, ◌||◌, and-true}
 use mathlib.Core.List.{List}
 use mathlib.Core.Logic.{◌⊎◌, inl, inr}
@@ -166,3 +166,21 @@ module _ (n : ℕ) (table : List ℕ) (accepted : AcceptedTable n table) where
 pub part_weight_few : (n s : ℕ) → n ≤ 16 → s < n → part_weight n s ≤ 1307674368000
 unfolding part_weight factorial
 part_weight_few n s few h = factorials_few s (n - suc s) 15 (omega arith)
+
+-- ---- the rows of the parts, as they are lent
+
+module _ (n : ℕ) (rows : List ℕ) (i : ℕ) where
+  abbrev lent : List ℕ
+  lent = take (17 * i + 17 - 17 * i) (drop (17 * i) rows)
+
+  lent_row : row i rows ≡ lent
+  lent_row = ap (λ (k : ℕ). take k (drop (17 * i) rows)) (sym (add-sub_cancel_left (17 * i) 17))
+
+  pub lent_parted : Rows n rows → i < n → Parted n (row 16 rows) lent
+  lent_parted r h = subst (Parted n (row 16 rows)) lent_row (r.parted i h)
+
+  -- what is left of what was added
+  pub lent_importance : (result : ℕ) → result + taken_sets n (row 16 rows) lent n ≡ added_sets n lent n → result ≡ importance_by n rows i
+  unfolding importance_by
+  lent_importance result e =
+      subst (λ (with : List ℕ). result ≡ added_sets n with n - taken_sets n (row 16 rows) with n) (sym lent_row) (omega arith)

@@ -119,13 +119,14 @@ fn rows_of(table: &[u8]) -> [u64; 289]
 }
 
 // Path counts as entries.
+#[tactic(auto, using(numbers::proofs::Tables::filled_none, numbers::proofs::Tables::filled_again, numbers::proofs::Tables::filled_end))]
 fn signed(counts: &[u64]) -> [i64; 17]
     requires { NoneOver 65536 counts.now }
     ensures { result ≡ entries_of counts.now }
 {
     let mut entries = [0i64; 17];
-    for s in 0..17 {
-        entries[s] = numbers::cell(counts, s) as i64;
+    for (s, entry) in entries.iter_mut().enumerate() {
+        *entry = numbers::cell(counts, s) as i64;
     }
     entries
 }
@@ -228,8 +229,8 @@ fn part_importance(n: usize, counts: &[u64], with: &[u64]) -> u64
     requires { Parted n counts.now with.now }
     ensures { result + taken_sets n counts.now with.now n ≡ added_sets n with.now n }
 {
-    let mut added: u64 = 0;
-    let mut taken: u64 = 0;
+    let mut added = 0;
+    let mut taken = 0;
     for s in 0..n {
         let weight = part_weight(n, s);
         added += numbers::cell(with, s + 1) * weight;
@@ -239,15 +240,15 @@ fn part_importance(n: usize, counts: &[u64], with: &[u64]) -> u64
 }
 
 // The importances of all parts by the rows of counts, from the front.
+#[tactic(auto, using(numbers::proofs::Tables::filled_none, numbers::proofs::Tables::filled_end))]
 fn part_importances(n: usize, rows: &[u64]) -> [u64; 16]
     requires { Rows n rows.now }
     ensures { result ≡ front (tabulate n (importance_by n rows.now)) (replicate 16 0) }
 {
     let mut cells = [0u64; 16];
-    for i in 0..n {
+    for (i, cell) in cells[..n].iter_mut().enumerate() {
         let start = 17 * i;
-        let end = start + 17;
-        cells[i] = part_importance(n, &rows[272..289], &rows[start..end]);
+        *cell = part_importance(n, &rows[272..289], &rows[start..start + 17]);
     }
     cells
 }

@@ -16,7 +16,7 @@ use Rattle.figures.proofs.part_importance.Goals.{After-loop-s}
 
 pub loop-s-init : goal.loop-s-init
 unfolding added_sets taken_sets sum_below
-loop-s-init c = record { within = omega arith; few_added = omega arith; few_taken = omega arith; is-added = refl; is-taken = refl }
+loop-s-init c = record { few_added = omega arith; few_taken = omega arith; is-added = refl; is-taken = refl }
 
 pub part_weight-weight-requires : goal.part_weight-weight-requires
 part_weight-weight-requires c = record { n_bound = c.requires.most; s_lt_n = c.loop-s-test.true }
@@ -68,7 +68,6 @@ loop-s-preserved c =
     let carried = c.loop-s.invariant in
     let weighed = c.part_weight-weight in
     record {
-      within = omega arith;
       few_added = omega (arith, added-few _ _ _ c.requires.most c.loop-s-test.true c.part_weight-weight.ensures _ _ _ c.requires c.cell.ensures, carried.few_added);
       few_taken = omega (arith, taken-few _ _ _ c.requires.most c.loop-s-test.true c.part_weight-weight.ensures _ _ _ c.cell-in-loop-s-2.result c.requires c.cell-in-loop-s.ensures, carried.few_taken);
       is-added = ap₂ (λ (x y : ℕ). x + y) carried.is-added
@@ -81,7 +80,7 @@ loop-s-preserved c =
 
 -- both sums are whole
 done : (c : After-loop-s) → c.loop-s.s ≡ c.args.n
-done c = omega (arith, c.loop-s.invariant.within)
+done c = omega arith
 
 all-added : (c : After-loop-s)
     → c.loop-s.added ≡ added_sets c.args.n c.args.with.now c.args.n

@@ -3,12 +3,11 @@
 -- Assumes nothing.
 use mathlib.Core.Path.{◌≡◌}
 use mathlib.Core.List.{List}
-use Prim.Native.Nat.{ℕ, ◌-◌, ◌*◌, ◌≤◌}
+use Prim.Native.Nat.{ℕ, ◌*◌, ◌≤◌}
 use Rattle.figures.specs.Inside.{added_sets, taken_sets}
 use Rattle.figures.proofs.part_importance.Given as goal
 
 pub record Carried (n : ℕ) (counts with : List ℕ) (added taken s : ℕ) : Type 0 where
-  pub within : s ≤ n
   pub few_added : added ≤ s * (65536 * 1307674368000)
   pub few_taken : taken ≤ s * (65536 * 1307674368000)
   pub is-added : added ≡ added_sets n with s
@@ -16,6 +15,3 @@ pub record Carried (n : ℕ) (counts with : List ℕ) (added taken s : ℕ) : Ty
 
 abbrev pub invariant-loop-s : goal.invariant-loop-s
 invariant-loop-s l = Carried l.n l.counts l.with l.added l.taken l.s
-
-abbrev pub decreases-loop-s : goal.decreases-loop-s
-decreases-loop-s l = l.n - l.s

@@ -13,15 +13,15 @@ use lib.Pow.{pow_mono}
 use lib.Seq.{get_or-take, length-take-le}
 use borrow.Author.Tests.{lt-leb}
 use Rattle.numbers.specs.Tables.{tabulate, NoneOver}
-use Rattle.numbers.proofs.Tables.{tabulate_at, tabulate_length, tabulate_unique}
+use Rattle.numbers.proofs.Tables.{tabulate_few, tabulate_at, tabulate_length, tabulate_unique}
 use Rattle.theory_sums.specs.Sums.{sum_below}
 use Rattle.theory_sets.specs.Masks.{has}
 use Rattle.theory_sets.specs.Tables.{in_table}
 use Rattle.theory_sets.proofs.Masks.{has_above}
 use Rattle.numbers.proofs.Bounds.{below_or_above}
 use Rattle.theory_orders.specs.Formulas.{path_count}
-use Rattle.numbers.specs.Counts.{factorial}
-use Rattle.numbers.proofs.Counts.{factorials_few}
+use Rattle.numbers.specs.Counts.{factorial, up_to_16}
+use Rattle.numbers.proofs.Counts.{factorials_few, up_to_16_given}
 use Rattle.structure_words.specs.Words.{in_words, word_of, words_of}
 use Rattle.structure_words.proofs.Words.{in_words_words_of}
 use Rattle.structure.specs.Accepted.{AcceptedTable}
@@ -71,6 +71,11 @@ counted : (n : ℕ) (test : ℕ → Bool) → n ≤ 16 → ((a : ℕ) → 2 ^ n 
     → counts_of counts ≡ path_count n test
 counted n test few beyond counts is =
     ap counts_of (is ∙ ap (tabulate 17) (fun_ext (path_count_near n test few beyond))) ∙ counts_function n test few
+
+-- counts of 16 parts are at most as many as there are sets
+pub sized_few : (test : ℕ → Bool) (counts : List ℕ) → counts ≡ tabulate 17 (path_count 16 test) → NoneOver 65536 counts
+sized_few test counts is =
+    subst (λ (xs : List ℕ). NoneOver 65536 xs) (sym is) (tabulate_few 17 (path_count 16 test) 65536 (path_count_few 16 test))
 
 -- ---- an accepted table
 
@@ -166,6 +171,12 @@ module _ (n : ℕ) (table : List ℕ) (accepted : AcceptedTable n table) where
 pub part_weight_few : (n s : ℕ) → n ≤ 16 → s < n → part_weight n s ≤ 1307674368000
 unfolding part_weight factorial
 part_weight_few n s few h = factorials_few s (n - suc s) 15 (omega arith)
+
+pub product_few : (a b n s : ℕ) → a ≡ up_to_16 s (factorial s) → b ≡ up_to_16 (n - (s + 1)) (factorial (n - (s + 1))) → n ≤ 16 → s < n → a * b ≤ 1307674368000
+unfolding factorial
+product_few a b n s ea eb few h =
+    rw (ea, eb, up_to_16_given s (factorial s) (omega arith), up_to_16_given (n - (s + 1)) (factorial (n - (s + 1))) (omega arith))
+    (factorials_few s (n - (s + 1)) 15 (omega arith))
 
 -- ---- the rows of the parts, as they are lent
 

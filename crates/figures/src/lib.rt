@@ -102,6 +102,7 @@ fn vector(kind: Kind, n: usize, table: &[u8], cells: &mut [i64]) -> Written
 }
 
 // The path counts of a table as entries.
+#[tactic(auto, using(crate::proofs::Machines::sized_few))]
 fn entries_of(table: &[u8]) -> [i64; 17]
     ensures { result ≡ entries_of (sized_in table.now) }
 {
@@ -216,6 +217,7 @@ fn write_vectors(
 }
 
 // s! × (n-s-1)!, the weight of a set of size s in the importance of a part that it lacks.
+#[tactic(auto, using(numbers::proofs::Counts::up_to_16_given, crate::proofs::Machines::product_few), unfolding(crate::specs::Inside::part_weight))]
 fn part_weight(n: usize, s: usize) -> u64
     requires n_bound { n ≤ 16 }
     requires s_lt_n { s < n }

@@ -4,7 +4,7 @@
 use mathlib.Core.Path.{◌≡◌, refl, sym, ap, ap₂, ◌∙◌}
 use mathlib.Core.List.{List}
 use Prim.Native.Nat.{ℕ, ◌+◌, ◌-◌, ◌*◌, ◌≤◌, ◌<◌}
-use native.Mathlib.Nat.{le_trans, le_of_eq, mul-le-mul, sub-add_cancel}
+use native.Mathlib.Nat.{le_trans, le_of_eq, mul-le-mul}
 use native.Mathlib.Numerals.{add-one}
 use native.Mathlib.Omega.{arith}
 use lib.ListN.{get_or}
@@ -17,12 +17,6 @@ use Rattle.figures.proofs.part_importance.Goals.{After-loop-s}
 pub loop-s-init : goal.loop-s-init
 unfolding added_sets taken_sets sum_below
 loop-s-init c = record { few_added = omega arith; few_taken = omega arith; is-added = refl; is-taken = refl }
-
-pub part_weight-weight-requires : goal.part_weight-weight-requires
-part_weight-weight-requires c = record { n_bound = c.requires.most; s_lt_n = c.loop-s-test.true }
-
-pub overflow_add-s : goal.overflow_add-s
-overflow_add-s c = omega (arith, c.requires.most)
 
 module _ (n s weight : ℕ) (small : n ≤ 16) (below : s < n) (is : weight ≡ part_weight n s) where
   -- the weight of a set
@@ -45,18 +39,12 @@ overflow_mul-added c = omega (arith, added-few _ _ _ c.requires.most c.loop-s-te
 pub overflow_add-added : goal.overflow_add-added
 overflow_add-added c = omega (arith, added-few _ _ _ c.requires.most c.loop-s-test.true c.part_weight-weight.ensures _ _ _ c.requires c.cell.ensures, c.loop-s.invariant.few_added, c.requires.most)
 
-pub overflow_sub-taken : goal.overflow_sub-taken
-overflow_sub-taken c = le_trans (le_of_eq c.cell-in-loop-s-2.ensures) (le_trans (c.requires.fewer c.loop-s.s) (le_of_eq (sym c.cell-in-loop-s.ensures)))
-
 pub overflow_mul-taken : goal.overflow_mul-taken
 overflow_mul-taken c = omega (arith, taken-few _ _ _ c.requires.most c.loop-s-test.true c.part_weight-weight.ensures _ _ _ c.cell-in-loop-s-2.result c.requires c.cell-in-loop-s.ensures)
 
 pub overflow_add-taken : goal.overflow_add-taken
 overflow_add-taken c =
     omega (arith, taken-few _ _ _ c.requires.most c.loop-s-test.true c.part_weight-weight.ensures _ _ _ c.cell-in-loop-s-2.result c.requires c.cell-in-loop-s.ensures, c.loop-s.invariant.few_taken, c.requires.most)
-
-pub overflow_step-s : goal.overflow_step-s
-overflow_step-s c = omega (arith, c.requires.most)
 
 pub loop-s-preserved : goal.loop-s-preserved
 unfolding added_sets taken_sets sum_below
@@ -77,28 +65,3 @@ loop-s-preserved c =
           (ap₂ (λ (x y : ℕ). x * y) (ap₂ (λ (x y : ℕ). x - y) c.cell-in-loop-s.ensures c.cell-in-loop-s-2.ensures) weighed.ensures)
           ∙ ap (taken_sets n counts with) (sym (add-one s));
     }
-
--- both sums are whole
-done : (c : After-loop-s) → c.loop-s.s ≡ c.args.n
-done c = omega arith
-
-all-added : (c : After-loop-s)
-    → c.loop-s.added ≡ added_sets c.args.n c.args.with.now c.args.n
-all-added c =
-    let a = c.args in
-    c.loop-s.invariant.is-added ∙ ap (added_sets a.n a.with.now) (done c)
-
-all-taken : (c : After-loop-s)
-    → c.loop-s.taken ≡ taken_sets c.args.n c.args.counts.now
-    c.args.with.now c.args.n
-all-taken c =
-    let a = c.args in
-    c.loop-s.invariant.is-taken ∙ ap (taken_sets a.n a.counts.now a.with.now) (done c)
-
-pub overflow_sub-result : goal.overflow_sub-result
-overflow_sub-result c =
-    le_trans (le_of_eq (all-taken (goal.at.overflow_sub-result c).After-loop-s)) (le_trans c.requires.enough (le_of_eq (sym (all-added (goal.at.overflow_sub-result c).After-loop-s))))
-
-pub returns : goal.returns
-returns c =
-    ap (λ (x : ℕ). c.loop-s.added - c.loop-s.taken + x) (sym (all-taken (goal.at.returns c).After-loop-s)) ∙ sub-add_cancel (overflow_sub-result c) ∙ all-added (goal.at.returns c).After-loop-s

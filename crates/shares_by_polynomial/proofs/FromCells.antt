@@ -4,7 +4,8 @@ use mathlib.Core.Path.{◌≡◌, refl, sym, ap, ap₂, ◌∙◌}
 use mathlib.Core.Bool.{Bool, false, not}
 use mathlib.Core.List.{List}
 use Prim.Native.Nat.{ℕ, zero, suc, ◌+◌, ◌-◌, ◌*◌, ◌/◌, ◌%◌, ◌^◌, ◌≤◌, ◌<◌}
-use native.Mathlib.Nat.{le_trans, le_of_eq, mul-le-mul, le_of_mul-le-mul_right, div-le_self, mul-zero, mul_comm, mul-add, mul-sub, div-add-mod', add-zero}
+use native.Mathlib.Nat.{le_antisymm, le_trans, le_of_eq, mul-le-mul, le_of_mul-le-mul_right, div-le_self, mul-zero, mul_comm, mul-add, mul-sub, div-add-mod', add-zero}
+use native.Mathlib.Numerals.{add-one}
 use native.Mathlib.Omega.{arith}
 use lib.Dec.{leb}
 use lib.IntN.{ℤ, pos, negsuc, nat_abs, ◌+ℤ◌, ◌-ℤ◌, ◌*ℤ◌, *ℤ_comm, pos-*ℤ-pos, pos-+ℤ-pos}
@@ -12,7 +13,7 @@ use lib.ListN.{get_or}
 use borrow.Author.Tests.{leb-true}
 use Rattle.numbers.specs.Counts.{factorial, choose}
 use Rattle.theory_sums.specs.Sums.{sum_below, sum_belowℤ}
-use Rattle.theory_sums.proofs.Sums.{sum_below_same, sum_below_exchange, sum_below_mul}
+use Rattle.theory_sums.proofs.Sums.{sum_below_same, sum_below_exchange, sum_below_mul, sum_below_prefix}
 use Rattle.theory_sums.proofs.Integers.{ring}
 use Rattle.theory_sums.proofs.IntegerSums.{sum_belowℤ_same, sum_belowℤ_mul, sum_belowℤ_exchange}
 use Rattle.theory_sets.specs.Masks.{any}
@@ -23,9 +24,9 @@ use Rattle.shares_claim.specs.Inside.{common, power_weight, Bounded}
 use Rattle.shares_claim.proofs.Magnitudes.{nat_abs_product}
 use Rattle.shares_claim.proofs.Regrouped.{power_term, power_sum, regrouped, power_weight_whole, share_regrouped}
 use Rattle.shares_claim.proofs.Terms.{terms_most, limit_few}
-use Rattle.shares_by_polynomial.specs.Inside.{above, below, cell_weight}
-use Rattle.shares_claim.proofs.Sums.{grid_sum, grid_sumℕ}
-use Rattle.numbers.proofs.Counts.{factorial_rises, choose_small}
+use Rattle.shares_by_polynomial.specs.Inside.{above, below, cell_weight, InRange, share_of_cells}
+use Rattle.shares_claim.proofs.Sums.{row_below, place_below, grid_sum, grid_sumℕ, carried_more}
+use Rattle.numbers.proofs.Counts.{factorial_rises, choose_small, up_to_16_given}
 
 -- ---- by computing
 
@@ -71,7 +72,7 @@ module _ (n m k j : ℕ) (few : n ≤ 16) (some : 1 ≤ k) (most : k ≤ m) (wit
   pub divisor_few : k * choose (m + j) k ≤ 16 * 65536
   divisor_few = let low : k ≤ 16 = omega arith in mul-le-mul low (choose_small (m + j) k (omega arith))
 
-  power_weight_few : power_weight n m k j ≤ 720720
+  pub power_weight_few : power_weight n m k j ≤ 720720
   unfolding power_weight
   power_weight_few = le_trans (div-le_self (common n) (k * choose (m + j) k)) (common_few n few)
 
@@ -190,3 +191,81 @@ next_row n m cells c =
     let place : c + row_length n m ≡ (c / row_length n m + 1) * row_length n m + c % row_length n m
     = omega (arith, div-add-mod' c (row_length n m)) in
     ap (λ (i : ℕ). get_or cells i (pos 0)) place
+
+pub end_few : (n m : ℕ) → n ≤ 16 → m ≤ n → m * row_length n m ≤ 289
+end_few n m most h =
+    let rows : m ≤ 17 = omega arith in
+    let row : row_length n m ≤ 17 = omega arith in
+    mul-le-mul rows row
+
+pub factors_fit : (n k i : ℕ) → n ≤ 16 → i ≤ 16 → choose n k * i ≤ 65536 * 16
+factors_fit n k i few low = mul-le-mul (choose_small n k few) low
+
+-- ---- what a loop over the cells carries
+
+module _ (n m k : ℕ) (cells : List ℤ) where
+  pub terms_none : sum_belowℤ (cell_term n m k (in_cells n m cells)) 0 ≡ pos 0 -ℤ pos 0
+  unfolding sum_belowℤ
+  terms_none = refl
+
+  pub sizes_none : sum_below (cell_size n m k (in_cells n m cells)) 0 ≡ 0
+  unfolding sum_below
+  sizes_none = refl
+
+  module _ (c weight : ℕ) (weighs : weight ≡ cell_weight n m k (c / row_length n m) (c % row_length n m)) where
+    pub terms_more : (added taken : ℕ) → pos added -ℤ pos taken ≡ sum_belowℤ (cell_term n m k (in_cells n m cells)) c
+        → sum_belowℤ (cell_term n m k (in_cells n m cells)) (c + 1)
+        ≡ pos (added + weight * above (get_or cells (c + row_length n m) (pos 0))) -ℤ pos (taken + weight * below (get_or cells (c + row_length n m) (pos 0)))
+    terms_more added taken before =
+        let z : ℤ = get_or cells (c + row_length n m) (pos 0) in
+        sym (carried_more (cell_term n m k (in_cells n m cells)) c added taken (weight * above z) (weight * below z) before
+        (cell_apart n m k (in_cells n m cells) c weight z weighs (next_row n m cells c)))
+
+    pub sizes_more : sum_below (cell_size n m k (in_cells n m cells)) (c + 1)
+        ≡ sum_below (cell_size n m k (in_cells n m cells)) c
+        + (weight * above (get_or cells (c + row_length n m) (pos 0)) + weight * below (get_or cells (c + row_length n m) (pos 0)))
+    unfolding sum_below
+    sizes_more =
+        ap (sum_below (cell_size n m k (in_cells n m cells))) (add-one c)
+        ∙ ap (λ (x : ℕ). sum_below (cell_size n m k (in_cells n m cells)) c + x)
+        (cell_size_lem n m k (in_cells n m cells) c weight (get_or cells (c + row_length n m) (pos 0)) weighs (next_row n m cells c))
+
+  module _ (few : n ≤ 16) (some : 1 ≤ k) (most : k ≤ m) (within : m ≤ n) where
+    -- what a cell adds and what it takes, each with all before it
+    pub amounts_few : Bounded n m (in_cells n m cells) → (c weight : ℕ) → c < m * row_length n m
+        → weight ≡ cell_weight n m k (c / row_length n m) (c % row_length n m)
+        → (cell_weight n m k (c / row_length n m) (c % row_length n m) ≡ cell_weight n m k (c / row_length n m) (c % row_length n m))
+        × ((sum_below (cell_size n m k (in_cells n m cells)) c + weight * above (get_or cells (c + row_length n m) (pos 0)) ≤ 2 ^ 45)
+        × (sum_below (cell_size n m k (in_cells n m cells)) c + weight * below (get_or cells (c + row_length n m) (pos 0)) ≤ 2 ^ 45))
+    amounts_few bounded c weight inner weighs =
+        let x : ℕ = weight * above (get_or cells (c + row_length n m) (pos 0)) in
+        let y : ℕ = weight * below (get_or cells (c + row_length n m) (pos 0)) in
+        let together : sum_below (cell_size n m k (in_cells n m cells)) c + (x + y) ≤ 2 ^ 45 =
+        le_trans (le_of_eq (sym (sizes_more c weight weighs)))
+        (le_trans (sum_below_prefix (cell_size n m k (in_cells n m cells)) (c + 1) (m * row_length n m) (omega arith))
+        (cells_most n m k few some most within (in_cells n m cells) bounded)) in
+        (refl, (omega (arith, together), omega (arith, together)))
+
+    -- the whole sum, times n!/L
+    module _ (added taken c : ℕ) (total : pos added -ℤ pos taken ≡ sum_belowℤ (cell_term n m k (in_cells n m cells)) c)
+        (up : c ≤ m * row_length n m) (down : m * row_length n m ≤ c) (range : InRange n (share_of_cells n m cells k)) where
+      whole : pos added -ℤ pos taken ≡ sum_belowℤ (cell_term n m k (in_cells n m cells)) (m * row_length n m)
+      whole = total ∙ ap (sum_belowℤ (cell_term n m k (in_cells n m cells))) (le_antisymm up down)
+
+      pub fewer : (pos added -ℤ pos taken ≡ pos added -ℤ pos taken) × (taken ≤ added)
+      fewer = (refl, taken_fewer n m k few some most within (in_cells n m cells) added taken whole range.0)
+
+      pub share_is : (share_of_cells n m cells k ≡ pos ((added - taken) * (factorial n / common n))) × ((added - taken) * (factorial n / common n) ≤ 20922789888000)
+      share_is =
+          let number = share_number n m k few some most within (in_cells n m cells) added taken whole range.0 in (
+            range.0 ∙ ap pos (sym number),
+            le_trans (le_of_eq number) (le_trans range.1 (factorial_small n few)),
+          )
+
+-- ---- what search is told
+
+-- of a cell that is added, and of the whole sum
+pub ruleset sharing = (row_below, place_below, up_to_16_given, end_few, terms_none, sizes_none, terms_more, sizes_more, amounts_few, common_some, fewer, share_is)
+
+-- of a weight
+pub ruleset weighing = (up_to_16_given, factors_fit, power_weight_few, divisor_some, divisor_few)

@@ -46,6 +46,7 @@ fn write_shares(n: usize, m: usize, cells: &[i64], shares: &mut [i64]) -> Writte
 }
 
 // Writes the shares by the coefficients of h.
+#[tactic(auto, using(numbers::proofs::Tables::filled_none, numbers::proofs::Tables::filled_again), unfolding(shares_claim::specs::Polynomials::shares_from_cells))]
 fn write_from_cells(n: usize, m: usize, cells: &[i64], shares: &mut [i64])
     requires n_bound { n ≤ 16 }
     requires m_le_n { m ≤ n }
@@ -54,58 +55,72 @@ fn write_from_cells(n: usize, m: usize, cells: &[i64], shares: &mut [i64])
     requires m_in_bounds { m ≤ length shares.old }
     ensures { shares.new ≡ shares_from_cells n m cells.now ++ drop m shares.old }
 {
-    for k in 0..m {
-        shares[k] = share_from_cells(n, m, cells, k + 1);
+    for (k, share) in shares[..m].iter_mut().enumerate() {
+        *share = Place { n, m, k: k + 1 }.share(cells);
     }
 }
 
-// The share for k by the coefficients of h, n, m and k alone: n!/L is put off to the end, where L is lcm(1..n).
-fn share_from_cells(n: usize, m: usize, cells: &[i64], k: usize) -> i64
-    requires n_bound { n ≤ 16 }
-    requires m_le_n { m ≤ n }
-    requires le_k { 1 ≤ k }
-    requires k_le_m { k ≤ m }
-    requires bounded { Bounded n m (in_cells n m cells.now) }
-    requires in_range { InRange n (share_of_cells n m cells.now k) }
-    ensures { result ≡ share_of_cells n m cells.now k }
-{
-    let mut added: u64 = 0;
-    let mut taken: u64 = 0;
-    let row = n - m + 1;
-    let end = m * row;
-    for c in 0..end {
-        let weight = cell_weight(n, m, k, c / row, c % row);
-        let coefficient = entry(cells, c + row);
-        added += weight * above(coefficient);
-        taken += weight * below(coefficient);
+// Whose share is worked out: that for k in a group with m of a machine's n parts.
+#[derive(Clone, Copy)]
+struct Place {
+    n: usize,
+    m: usize,
+    k: usize,
+    ghost n_bound: { n ≤ 16 },
+    ghost m_le_n: { m ≤ n },
+    ghost le_k: { 1 ≤ k },
+    ghost k_le_m: { k ≤ m },
+}
+
+impl Place {
+    // The share by the coefficients of h, n, m and k alone: n!/L is put off to the end, where L is lcm(1..n).
+    #[tactic(auto, using(crate::proofs::FromCells::sharing))]
+    fn share(&self, cells: &[i64]) -> i64
+        requires bounded { Bounded self.now.n self.now.m (in_cells self.now.n self.now.m cells.now) }
+        requires in_range { InRange self.now.n (share_of_cells self.now.n self.now.m cells.now self.now.k) }
+        ensures { result ≡ share_of_cells self.now.n self.now.m cells.now self.now.k }
+    {
+        let mut added = 0;
+        let mut taken = 0;
+        let row = self.n - self.m + 1;
+        for c in 0..self.m * row {
+            let weight = self.cell_weight(c / row, c % row);
+            added += weight * above(cells, c + row);
+            taken += weight * below(cells, c + row);
+        }
+        ((added - taken) * (numbers::factorial(self.n) / common(self.n))) as i64
     }
-    integers::difference((added - taken) * (numbers::factorial(n) / common(n)), 0)
+
+    // What the coefficient of x^(i+1) z^j counts for in the share, without n!/L.
+    #[tactic(auto, using(crate::proofs::FromCells::weighing), unfolding(crate::specs::Inside::cell_weight))]
+    fn cell_weight(&self, i: usize, j: usize) -> u64
+        requires i_lt_m { i < self.now.m }
+        requires j_bound { self.now.m + j ≤ self.now.n }
+        ensures { result ≡ cell_weight self.now.n self.now.m self.now.k i j }
+    {
+        let (m, k) = (self.m, self.k);
+        numbers::binomial(m - 1 - i, k - 1) as u64 * (i + 1) as u64 * self.power_weight(j)
+    }
+
+    // The weight of z^j in the share: L divided by k C(m+j,k).
+    #[tactic(auto, using(crate::proofs::FromCells::weighing), unfolding(shares_claim::specs::Inside::power_weight))]
+    fn power_weight(&self, j: usize) -> u64
+        requires { self.now.m + j ≤ self.now.n }
+        ensures { result ≡ power_weight self.now.n self.now.m self.now.k j }
+    {
+        common(self.n) / (self.k as u64 * numbers::binomial(self.m + j, self.k) as u64)
+    }
 }
 
-// What the coefficient of x^(i+1) z^j counts for in the share for k, without n!/L.
-fn cell_weight(n: usize, m: usize, k: usize, i: usize, j: usize) -> u64
-    requires n_bound { n ≤ 16 }
-    requires le_k { 1 ≤ k }
-    requires k_le_m { k ≤ m }
-    requires i_lt_m { i < m }
-    requires j_bound { m + j ≤ n }
-    ensures { result ≡ cell_weight n m k i j }
+// The number at an index, and 0 beyond the last.
+fn entry(list: &[i64], at: usize) -> i64
+    ensures { result ≡ get_or list.now at (pos 0) }
 {
-    numbers::binomial(m - 1 - i, k - 1) as u64 * (i + 1) as u64 * power_weight(n, m, k, j)
-}
-
-// The weight of z^j in the share for k: L divided by k C(m+j,k).
-fn power_weight(n: usize, m: usize, k: usize, j: usize) -> u64
-    requires n_bound { n ≤ 16 }
-    requires le_k { 1 ≤ k }
-    requires k_le_m { k ≤ m }
-    requires j_bound { m + j ≤ n }
-    ensures { result ≡ power_weight n m k j }
-{
-    common(n) / (k as u64 * numbers::binomial(m + j, k) as u64)
+    list.get(at).copied().unwrap_or(0)
 }
 
 // lcm(1..n).
+#[tactic(auto, unfolding(shares_claim::specs::Inside::common))]
 fn common(n: usize) -> u64
     requires { n ≤ 16 }
     ensures { result ≡ common_of n }
@@ -113,31 +128,18 @@ fn common(n: usize) -> u64
     COMMON[n]
 }
 
-// The number at an index, and 0 beyond the last.
-fn entry(list: &[i64], at: usize) -> i64
-    ensures { result ≡ get_or list.now at (pos 0) }
+// How far the number at an index is above 0.
+#[tactic(auto, unfolding(crate::specs::Inside::above))]
+fn above(list: &[i64], at: usize) -> u64
+    ensures { result ≡ above_zero (get_or list.now at (pos 0)) }
 {
-    if at < list.len() { list[at] } else { 0 }
+    entry(list, at).max(0).unsigned_abs()
 }
 
-// How far a number is above 0.
-fn above(number: i64) -> u64
-    ensures { result ≡ above_zero number }
+// How far the number at an index is below 0.
+#[tactic(auto, unfolding(crate::specs::Inside::below))]
+fn below(list: &[i64], at: usize) -> u64
+    ensures { result ≡ below_zero (get_or list.now at (pos 0)) }
 {
-    if number < 0 {
-        0
-    } else {
-        integers::magnitude(number)
-    }
-}
-
-// How far a number is below 0.
-fn below(number: i64) -> u64
-    ensures { result ≡ below_zero number }
-{
-    if number < 0 {
-        integers::magnitude(number)
-    } else {
-        0
-    }
+    entry(list, at).min(0).unsigned_abs()
 }

@@ -24,11 +24,11 @@ use Rattle.theory_sets.specs.Tables.{in_table}
 use Rattle.numbers.proofs.Bounds.{below_or_above}
 use Rattle.theory_orders.specs.Formulas.{added, taken}
 use Rattle.structure_words.specs.Words.{in_words, words_of}
-use Rattle.numbers.proofs.Counts.{factorials_few}
+use Rattle.numbers.proofs.Counts.{factorials_few, up_to_16_given}
 use Rattle.shares_claim.specs.SetBySet.{share_of, shares_by_sets}
 use Rattle.shares_claim.proofs.Types.{inside_most, inside_and_outside, outside_most}
 use Rattle.theory_sums.specs.Sums.{gathered}
-use Rattle.theory_sums.proofs.Gathering.{gathered_none, gathered_list_few, gathered_add}
+use Rattle.theory_sums.proofs.Gathering.{gathered_none, gathered_list_few, gathered_add, gathered_skip}
 use Rattle.shares_group.proofs.Gathering.{gathered_words}
 use Rattle.shares_by_sets.specs.Inside.{weight, added_by, taken_by}
 
@@ -221,3 +221,14 @@ module _ (n group a : ℕ) (words : List ℕ) (few : n ≤ 16) (within : group <
       ((get_or (tabulate 17 (gathered (in_words words) (inside group) (taken_by n group) a)) (inside group a) 0 + taken_by n group a) % 2 ^ 64)
   unfolding sums
   taken_more = more (taken_by n group) (λ b h. taken_by_few n group b few within h)
+
+-- ---- what search is told
+
+-- of an amount
+pub ruleset amounts = (inside_few, lacks_few, inside_at_most, listed_fits, listed_weight, size_few)
+
+-- of a weight
+pub ruleset weighing = (weight_none, weight_above, weight_size, factorials_fit, up_to_16_given)
+
+-- of a set that is added
+pub ruleset adding = (gathered_skip, added_more, taken_more)

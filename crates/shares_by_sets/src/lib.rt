@@ -80,7 +80,7 @@ impl Scale {
     }
 
     // Adds the two amounts of a set, if it is a path set.
-    #[tactic(auto, using(theory_sums::proofs::Gathering::gathered_skip, crate::proofs::Sets::added_more, crate::proofs::Sets::taken_more))]
+    #[tactic(auto, using(crate::proofs::Sets::adding))]
     fn add_set(&self, words: &[u64], a: usize, sums: &mut Sums)
         requires a_bound { a < 65536 }
         requires added_value { sums.old.added ≡ tabulate 17 (gathered (in_words words.now) (inside self.now.group) (added_by self.now.n self.now.group) a) }
@@ -96,7 +96,7 @@ impl Scale {
     }
 
     // What a path set adds to the share for k = m - i + 1, where i of its parts are in the group.
-    #[tactic(auto, using(crate::proofs::Sets::inside_few, crate::proofs::Sets::listed_fits, crate::proofs::Sets::listed_weight, crate::proofs::Sets::size_few), unfolding(crate::specs::Inside::added_by))]
+    #[tactic(auto, using(crate::proofs::Sets::amounts), unfolding(crate::specs::Inside::added_by))]
     fn added(&self, a: usize) -> u64
         requires { a < 65536 }
         ensures { result ≡ added_by self.now.n self.now.group a }
@@ -105,7 +105,7 @@ impl Scale {
     }
 
     // What a path set takes from the share for k = m - i, where i of its parts are in the group.
-    #[tactic(auto, using(crate::proofs::Sets::lacks_few, crate::proofs::Sets::inside_at_most, crate::proofs::Sets::listed_fits, crate::proofs::Sets::listed_weight, crate::proofs::Sets::size_few), unfolding(crate::specs::Inside::taken_by))]
+    #[tactic(auto, using(crate::proofs::Sets::amounts), unfolding(crate::specs::Inside::taken_by))]
     fn taken(&self, a: usize) -> u64
         requires { a < 65536 }
         ensures { result ≡ taken_by self.now.n self.now.group a }
@@ -129,7 +129,7 @@ fn weights(n: usize) -> [u64; 18]
 }
 
 // (s-1)! × (n-s)! for the sizes s from 1 to n, and 0 for any other number.
-#[tactic(auto, using(crate::proofs::Sets::weight_none, crate::proofs::Sets::weight_above, crate::proofs::Sets::weight_size, crate::proofs::Sets::factorials_fit, numbers::proofs::Counts::up_to_16_given))]
+#[tactic(auto, using(crate::proofs::Sets::weighing))]
 fn weight(n: usize, s: usize) -> u64
     requires { n ≤ 16 }
     ensures { result ≡ weight_of n s }

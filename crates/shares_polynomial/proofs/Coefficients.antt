@@ -15,7 +15,8 @@ use lib.Pow.{pow_mono}
 use borrow.Author.Tests.{eqb-true, eq-eqb}
 use Rattle.numbers.specs.Counts.{choose}
 use Rattle.numbers.specs.Tables.{tabulate, NoneOver}
-use Rattle.numbers.proofs.Tables.{tabulate_at, tabulate_length, tabulate_same}
+use Rattle.integers.proofs.Differences.{difference_small}
+use Rattle.numbers.proofs.Tables.{filled_none, filled_again, tabulate_at, tabulate_length, tabulate_same}
 use Rattle.theory_sums.specs.Sums.{sum_belowℤ, gathered}
 use Rattle.theory_sums.proofs.Sums.{sum_below_same}
 use Rattle.theory_sums.proofs.Integers.{*ℤ-unit, negℤ-*ℤ, unit-*ℤ, *ℤ-assoc, ring}
@@ -29,12 +30,12 @@ use Rattle.theory_figures.proofs.Signs.{sign_even, sign_odd}
 use Rattle.shares_claim.specs.Polynomials.{row_length}
 use Rattle.shares_claim.specs.Reliability.{reliability, reliability_cells}
 use Rattle.shares_claim.proofs.Types.{type_count, inside_and_outside, inside_most, outside_most}
-use Rattle.numbers.proofs.Counts.{choose_small}
+use Rattle.numbers.proofs.Counts.{choose_small, up_to_16_given}
 use Rattle.shares_claim.proofs.Reliability.{reliability_by_type}
-use Rattle.theory_sums.proofs.Gathering.{gathered_none, gathered_list_few, gathered_add}
+use Rattle.theory_sums.proofs.Gathering.{gathered_none, gathered_list_few, gathered_add, gathered_skip}
 use Rattle.shares_group.proofs.Gathering.{gathered_words}
 use Rattle.shares_polynomial.specs.Inside.{type_of, type_term, coefficient_of}
-use Rattle.shares_claim.proofs.Sums.{row_below, place_below, grid_sum, carried_more}
+use Rattle.shares_claim.proofs.Sums.{row_below, place_below, grid_sum, carried_none, carried_more}
 
 -- ---- counts by type
 
@@ -210,3 +211,17 @@ module _ (n m : ℕ) (counts : List ℕ) (i j : ℕ) where
         ∙ carried_more _ t added taken 0 x before
         (term_sign b a ∙ ap₂ (λ (u : ℤ) (y : ℕ). u *ℤ pos y) (sign_odd (i - a + (j - b)) (omega (arith, odd))) (sym is) ∙ negℤ-*ℤ (pos 1) (pos x)
         ∙ ap neg_ℤ (unit-*ℤ (pos x)) ∙ sym (+ℤ_idl (neg_ℤ (pos x)))))
+
+-- ---- what search is told
+
+-- of a set that is counted
+pub ruleset counting = (type_few, type_more, gathered_skip, inside_less)
+
+-- of a cell that is written
+pub ruleset writing = (filled_none, filled_again, cells_few, row_below, place_below)
+
+-- of a term that is added
+pub ruleset adding = (carried_none, terms_few, type_term_few, row_below, place_below, difference_small, coefficient_terms, terms_added, terms_taken)
+
+-- of the factors of a term
+pub ruleset factors = (up_to_16_given, choose_small, binomials_few, counted_few)

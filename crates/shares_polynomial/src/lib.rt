@@ -76,7 +76,7 @@ fn count_types(n: usize, words: &[u64], group: usize) -> [u64; 289]
 }
 
 // Counts a set by its type, if it is a path set.
-#[tactic(auto, using(crate::proofs::Coefficients::type_few, crate::proofs::Coefficients::type_more, theory_sums::proofs::Gathering::gathered_skip, crate::proofs::Coefficients::inside_less))]
+#[tactic(auto, using(crate::proofs::Coefficients::counting))]
 fn add_type(words: &[u64], group: usize, a: usize, counts: &mut [u64])
     requires group_bound { group < 65536 }
     requires a_bound { a < 65536 }
@@ -103,7 +103,7 @@ struct Types {
 
 impl Types {
     // Writes the coefficients of h.
-    #[tactic(auto, using(numbers::proofs::Tables::filled_none, numbers::proofs::Tables::filled_again, crate::proofs::Coefficients::cells_few, shares_claim::proofs::Sums::row_below, shares_claim::proofs::Sums::place_below))]
+    #[tactic(auto, using(crate::proofs::Coefficients::writing))]
     fn write_coefficients(&self, cells: &mut [i64])
         requires { (self.now.m + 1) * row_length self.now.n self.now.m ≤ length cells.old }
         ensures { cells.new ≡ tabulate ((self.now.m + 1) * row_length self.now.n self.now.m) (λ c. coefficient_of self.now.n self.now.m self.now.counts (c / row_length self.now.n self.now.m) (c % row_length self.now.n self.now.m)) ++ drop ((self.now.m + 1) * row_length self.now.n self.now.m) cells.old }
@@ -116,7 +116,7 @@ impl Types {
     }
 
     // The coefficient of x^i z^j: the terms of either sign are added up, and subtracted once.
-    #[tactic(auto, using(shares_claim::proofs::Sums::carried_none, crate::proofs::Coefficients::terms_few, crate::proofs::Coefficients::type_term_few, shares_claim::proofs::Sums::row_below, shares_claim::proofs::Sums::place_below, integers::proofs::Differences::difference_small, crate::proofs::Coefficients::coefficient_terms, crate::proofs::Coefficients::terms_added, crate::proofs::Coefficients::terms_taken))]
+    #[tactic(auto, using(crate::proofs::Coefficients::adding))]
     fn coefficient(&self, i: usize, j: usize) -> i64
         requires i_le_m { i ≤ self.now.m }
         requires j_bound { j ≤ self.now.n - self.now.m }
@@ -138,7 +138,7 @@ impl Types {
     }
 
     // The term of the type a, b in the coefficient of x^i z^j, without its sign.
-    #[tactic(auto, using(numbers::proofs::Counts::up_to_16_given, numbers::proofs::Counts::choose_small, crate::proofs::Coefficients::binomials_few, crate::proofs::Coefficients::counted_few), unfolding(crate::specs::Inside::type_term))]
+    #[tactic(auto, using(crate::proofs::Coefficients::factors), unfolding(crate::specs::Inside::type_term))]
     fn term(&self, i: usize, j: usize, b: usize, a: usize) -> u64
         requires i_le_m { i ≤ self.now.m }
         requires j_bound { j ≤ self.now.n - self.now.m }

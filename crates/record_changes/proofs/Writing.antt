@@ -7,7 +7,9 @@ use Prim.Native.Nat.{ℕ, ◌+◌, ◌*◌, ◌^◌, ◌≤◌, ◌<◌}
 use native.Mathlib.Numerals.{add-one}
 use native.Mathlib.Omega.{arith}
 use lib.ListN.{length, get_or, take, drop, length-append, take-append-drop}
-use lib.Seq.{take-suc, take_all}
+use lib.Seq.{take-suc}
+use Rattle.std.specs.List.{sum_by}
+use Rattle.std.proofs.lemmas.List.Sums.{sum_by-cons}
 use Rattle.answer.specs.Outcome.{outcome, delivered}
 use Rattle.answer.specs.declared.Verdict.TheVariants.{Accepted}
 use Rattle.answer.specs.declared.Written.TheVariants.{Length}
@@ -48,9 +50,6 @@ forms_next i numbers h =
     ap (λ (k : ℕ). forms_of (take k numbers)) (add-one i) ∙ ap forms_of (take-suc numbers i 0 h) ∙ forms_append (take i numbers) (get_or numbers i 0 ∷ [])
     ∙ ap (λ (l : List ℕ). forms_of (take i numbers) ++ l) (append-nil (bytes_of (get_or numbers i 0)))
 
-pub forms_longer : (i : ℕ) (numbers : List ℕ) → i < length numbers → length (forms_of (take (i + 1) numbers)) ≡ length (forms_of (take i numbers)) + length (bytes_of (get_or numbers i 0))
-forms_longer i numbers h = ap length (forms_next i numbers h) ∙ length-append (forms_of (take i numbers)) (bytes_of (get_or numbers i 0))
-
 -- the first numbers take no more than all
 pub forms_part : (i : ℕ) (numbers : List ℕ) → length (forms_of (take i numbers)) ≤ length (forms_of numbers)
 forms_part i numbers =
@@ -73,10 +72,6 @@ module _ (numbers buffer : List ℕ) (start : ℕ) (room : start + length (forms
       let more = forms_next i numbers h in
       placed_more buffer start (forms_of (take i numbers)) entry position (bytes_of (get_or numbers i 0)) exit next (omega (arith, ap length more, forms_part (i + 1) numbers)) before wrote
       ∙ ap (placed buffer start) (sym more)
-
-  -- after the last
-  pub forms_all : (i : ℕ) → length numbers ≤ i → (exit : List ℕ) (next : ℕ) → outcome next exit ≡ placed buffer start (forms_of (take i numbers)) → outcome next exit ≡ placed buffer start (forms_of numbers)
-  forms_all i h exit next before = before ∙ ap (λ (l : List ℕ). placed buffer start (forms_of l)) (take_all i numbers h)
 
 -- ---- a record, piece by piece
 
@@ -108,6 +103,16 @@ tail_length retired counts = omega (arith, length-append (bytes_of (length retir
 pub tail_pieces : (retired counts : List ℕ) → tail_bytes retired counts ≡ bytes_of (length retired) ++ forms_of retired ++ forms_of counts
 unfolding tail_bytes
 tail_pieces retired counts = sym (append_assoc (bytes_of (length retired)) (forms_of retired) (forms_of counts))
+
+-- a number of 64 bits takes ten bytes at the most
+pub bytes_ten : (n : ℕ) → n < 18446744073709551616 → length (bytes_of n) ≤ 10
+bytes_ten n small = bytes_at_most 10 n (omega arith) (omega arith)
+
+-- the bytes of each, added up
+pub forms_summed : (numbers : List ℕ) → sum_by (λ n. length (bytes_of n)) numbers ≡ length (forms_of numbers)
+unfolding forms_of
+forms_summed [] = refl
+forms_summed (x ∷ xs) = sum_by-cons (λ n. length (bytes_of n)) x xs ∙ ap (λ (k : ℕ). length (bytes_of x) + k) (forms_summed xs) ∙ sym (length-append (bytes_of x) (forms_of xs))
 
 -- numbers of 64 bits take ten bytes each at the most
 pub forms_ten : (numbers : List ℕ) → ((i : ℕ) → get_or numbers i 0 < 128 ^ 10) → length (forms_of numbers) ≤ 10 * length numbers

@@ -2,7 +2,7 @@
 // the other edition. The whole record is checked as a reader checks it, then the change, then the new record is written in its edition.
 #![tactic(auto)]
 
-ghost use Rattle.std.specs.Prelude.{◌≡◌, [], ◌∷◌, ◌+◌, ◌≤◌, length, take};
+ghost use Rattle.std.specs.Prelude.{◌≡◌, [], ◌∷◌, ◌+◌, ◌*◌, ◌≤◌, length, take};
 ghost use Rattle.numbers.specs.Tables.{tabulate};
 ghost use Rattle.theory_sets.specs.Structures.{listed};
 ghost use Rattle.theory_orders.specs.Formulas.{path_count};
@@ -326,8 +326,7 @@ fn write_edition(buffer: &mut [u8]) -> usize
     requires { 2 ≤ length buffer.old }
     ensures { outcome result buffer.new ≡ placed buffer.old 0 (0 ∷ 2 ∷ []) }
 {
-    buffer[0] = 0;
-    buffer[1] = 2;
+    buffer[..2].copy_from_slice(&[0, 2]);
     2
 }
 
@@ -354,6 +353,7 @@ fn write_tail(buffer: &mut [u8], at: usize, retired: &[u64], counts: &[u64]) -> 
 }
 
 // How many bytes these take.
+#[tactic(auto, using(crate::proofs::Writing::tail_length, crate::proofs::Writing::bytes_ten))]
 fn tail_length(retired: &[u64], counts: &[u64]) -> usize
     requires retired_len_bound { length retired.now ≤ most_retired }
     requires counts_len_bound { length counts.now ≤ most_retired }
@@ -364,27 +364,29 @@ fn tail_length(retired: &[u64], counts: &[u64]) -> usize
 }
 
 // How many bytes that record takes.
+#[tactic(auto, using(crate::proofs::Writing::record_length, crate::proofs::Writing::bytes_ten))]
 fn record_length(mark: u64, numbers: &[u64], sets: &[u16]) -> usize
     requires numbers_len_bound { length numbers.now ≤ most_parts }
     requires sets_len_bound { length sets.now ≤ most_sets }
     ensures value { result ≡ length (record_bytes (design (list_of mark numbers.now) sets.now)) }
     ensures upper_bound { result ≤ 38800 }
 {
-    let front = codec::number_length(numbers.len() as u64) + codec::number_length(mark);
-    let head = front + numbers_length(numbers) + codec::number_length(sets.len() as u64);
-    head + sets_length(sets)
+    codec::number_length(numbers.len() as u64)
+        + codec::number_length(mark)
+        + numbers_length(numbers)
+        + codec::number_length(sets.len() as u64)
+        + sets_length(sets)
 }
 
 // How many bytes these sets take in a record.
 fn sets_length(sets: &[u16]) -> usize
     requires { length sets.now ≤ most_sets }
-    ensures { result ≡ length (forms_of sets.now) }
+    ensures value { result ≡ length (forms_of sets.now) }
+    ensures upper_bound { result ≤ 3 * length sets.now }
 {
-    let mut total = 0;
-    for i in 0..sets.len() {
-        total += codec::number_length(sets[i] as u64);
-    }
-    total
+    sets.iter()
+        .map(|&set| codec::number_length(u64::from(set)))
+        .sum()
 }
 
 // Writes these sets from a position on, where there is room for all of them, and answers the position after them.
@@ -393,8 +395,8 @@ fn write_sets(buffer: &mut [u8], at: usize, sets: &[u16]) -> usize
     ensures { outcome result buffer.new ≡ placed buffer.old at (forms_of sets.now) }
 {
     let mut next = at;
-    for i in 0..sets.len() {
-        next = codec::write_number(buffer, next, sets[i] as u64);
+    for &set in sets {
+        next = codec::write_number(buffer, next, u64::from(set));
     }
     next
 }
@@ -402,13 +404,13 @@ fn write_sets(buffer: &mut [u8], at: usize, sets: &[u16]) -> usize
 // How many bytes these numbers take in a record.
 fn numbers_length(numbers: &[u64]) -> usize
     requires { length numbers.now ≤ most_retired }
-    ensures { result ≡ length (forms_of numbers.now) }
+    ensures value { result ≡ length (forms_of numbers.now) }
+    ensures upper_bound { result ≤ 10 * length numbers.now }
 {
-    let mut total = 0;
-    for i in 0..numbers.len() {
-        total += codec::number_length(numbers[i]);
-    }
-    total
+    numbers
+        .iter()
+        .map(|&number| codec::number_length(number))
+        .sum()
 }
 
 // Writes these numbers from a position on, where there is room for all of them, and answers the position after them.
@@ -417,8 +419,8 @@ fn write_numbers(buffer: &mut [u8], at: usize, numbers: &[u64]) -> usize
     ensures { outcome result buffer.new ≡ placed buffer.old at (forms_of numbers.now) }
 {
     let mut next = at;
-    for i in 0..numbers.len() {
-        next = codec::write_number(buffer, next, numbers[i]);
+    for &number in numbers {
+        next = codec::write_number(buffer, next, number);
     }
     next
 }

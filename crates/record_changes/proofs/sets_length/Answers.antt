@@ -1,43 +1,31 @@
--- `record_changes::sets_length` meets its contract: each number's length is added to those before it, and no set takes more than three bytes.
+-- `record_changes::sets_length` meets its contract: the lengths of all are added up, and no set takes more than three bytes.
 -- Assumes nothing.
-use mathlib.Core.Path.{◌≡◌, refl, ap, ◌∙◌}
-use mathlib.Core.List.{List}
-use Prim.Native.Nat.{ℕ, ◌+◌, ◌*◌, ◌≤◌}
+use mathlib.Core.Path.{◌≡◌, ◌∙◌}
+use Prim.Native.Nat.{ℕ, ◌*◌, ◌≤◌}
 use native.Mathlib.Omega.{arith}
-use lib.ListN.{length, take}
-use lib.Seq.{take_all}
+use lib.ListN.{length}
+use Rattle.std.proofs.Common.{rules}
+use Rattle.std.proofs.lemmas.Iterator.{YieldsList-from_slice, YieldsList-from_map}
+use Rattle.std.proofs.lemmas.Iterator.Consumers.{sum_by_from_yields_List, fits_by_from_yields_list}
 use Rattle.codec.proofs.ByteForms.{bytes_at_most, forms_most}
-use Rattle.codec.specs.ByteForm.{forms_of}
-use Rattle.record_changes.proofs.Writing.{forms_longer, forms_part}
+use Rattle.codec.specs.ByteForm.{bytes_of, forms_of}
+use Rattle.record_changes.proofs.Writing.{forms_summed}
 use Rattle.record_changes.proofs.sets_length.Goals as goal
 
-pub loop-i-init : goal.loop-i-init
-unfolding forms_of
-loop-i-init c =
-    (omega arith, refl)
-
-pub overflow_cast-sets : goal.overflow_cast-sets
-overflow_cast-sets c =
-    omega (arith, c.shared_slice_known-in-loop-i-1.given c.loop-i.i)
-
-pub overflow_add-total : goal.overflow_add-total
-overflow_add-total c =
-    -- one number more
-    let longer : length (forms_of (take (c.loop-i.i + 1) c.args.sets.now)) ≡ c.loop-i.total + c.number_length-total.result =
-    forms_longer c.loop-i.i c.args.sets.now c.loop-i-test.true ∙ omega (arith, c.loop-i.invariant.1, c.number_length-total.ensures) in
+pub sum-requires-clause-fits : goal.sum-requires-clause-fits
+sum-requires-clause-fits c =
     let sets = c.args.sets.now in
-    let all : length (forms_of sets) ≤ 3 * length sets =
-    forms_most 3 sets (λ i. bytes_at_most 3 _ (omega arith) (omega (arith, c.shared_slice_known-in-loop-i-1.given i))) in
-    omega (arith, longer, forms_part (c.loop-i.i + 1) sets, c.requires)
-
-pub loop-i-preserved : goal.loop-i-preserved
-loop-i-preserved c =
-    -- one number more
-    let longer : length (forms_of (take (c.loop-i.i + 1) c.args.sets.now)) ≡ c.loop-i.total + c.number_length-total.result =
-    forms_longer c.loop-i.i c.args.sets.now c.loop-i-test.true ∙ omega (arith, c.loop-i.invariant.1, c.number_length-total.ensures) in
-    (omega arith, omega (arith, longer))
+    let few : length (forms_of sets) ≤ 3 * length sets = forms_most 3 sets (λ i. bytes_at_most 3 _ (omega arith) (omega (arith, c.type_inv.sets i))) in
+    fits_by_from_yields_list (λ (n : ℕ). length (bytes_of n)) sets _ _
+    (YieldsList-from_map _ (λ (n : ℕ). length (bytes_of n)) (YieldsList-from_slice sets cc) c.map.ensures.closure (λ x r q k. search rules))
+    (omega (arith, few, c.requires, forms_summed sets))
 
 pub returns : goal.returns
 returns c =
-    let l = c.loop-i in
-    l.invariant.1 ∙ ap (λ (l : List ℕ). length (forms_of l)) (take_all l.i c.args.sets.now c.loop-i-test.false)
+    let sets = c.args.sets.now in
+    let few : length (forms_of sets) ≤ 3 * length sets = forms_most 3 sets (λ i. bytes_at_most 3 _ (omega arith) (omega (arith, c.type_inv.sets i))) in
+    let all : c.sum.result ≡ length (forms_of sets) =
+    sum_by_from_yields_List (λ (n : ℕ). length (bytes_of n)) sets _ _ c.sum.ensures.ran
+    (YieldsList-from_map _ (λ (n : ℕ). length (bytes_of n)) (YieldsList-from_slice sets cc) c.map.ensures.closure (λ x r q k. search rules))
+    ∙ forms_summed sets in
+    record { value = all; upper_bound = omega (arith, all, few) }

@@ -1,44 +1,12 @@
 -- `record_changes::write_sets` meets its contract: each set is placed behind those before it.
 -- Assumes nothing.
-use mathlib.Core.Path.{◌≡◌}
-use native.Mathlib.Omega.{arith}
-use Rattle.answer.specs.Outcome.{outcome}
-use Rattle.answer.specs.Placed.{placed}
-use Rattle.answer.proofs.Forms.{placed_length}
-use Rattle.codec.specs.ByteForm.{forms_of}
-use Rattle.record_changes.proofs.Writing.{forms_none, forms_more, forms_all}
+use Rattle.record_changes.proofs.Writing.{forms_none, forms_more}
 use Rattle.record_changes.proofs.write_sets.Goals as goal
 
-pub loop-i-init : goal.loop-i-init
-loop-i-init c =
-    let a = c.args in
-    (omega arith, forms_none a.sets.now a.buffer.now a.at c.requires)
+pub loop-set-init : goal.loop-set-init
+loop-set-init c = forms_none c.args.sets.now c.args.buffer.now c.args.at c.requires
 
-pub overflow_cast-sets : goal.overflow_cast-sets
-overflow_cast-sets c =
-    omega (arith, c.shared_slice_known-in-loop-i-1.given c.loop-i.i)
-
-pub loop-i-preserved : goal.loop-i-preserved
-loop-i-preserved c =
-    let a = c.args in (
-      omega arith,
-      forms_more a.sets.now a.buffer.now a.at c.requires c.loop-i.i c.loop-i-test.true _ _ _ _ c.loop-i.invariant.1
-          c.write_number-next.ensures,
-    )
-
-pub shape_of-buffer : goal.shape_of-buffer
-shape_of-buffer c =
-    -- after the last set all are placed
-    let all : outcome c.loop-i.next c.loop-i.buffer ≡ placed c.args.buffer.now c.args.at (forms_of c.args.sets.now) =
+pub loop-set-preserved : goal.loop-set-preserved
+loop-set-preserved c =
     let a = c.args in
-    forms_all a.sets.now a.buffer.now a.at c.requires c.loop-i.i c.loop-i-test.false _ _ c.loop-i.invariant.1 in
-    let a = c.args in
-    placed_length a.buffer.now a.at (forms_of a.sets.now) c.requires c.loop-i.buffer c.loop-i.next all
-
-pub returns : goal.returns
-returns c =
-    -- after the last set all are placed
-    let all : outcome c.loop-i.next c.loop-i.buffer ≡ placed c.args.buffer.now c.args.at (forms_of c.args.sets.now) =
-    let a = c.args in
-    forms_all a.sets.now a.buffer.now a.at c.requires c.loop-i.i c.loop-i-test.false _ _ c.loop-i.invariant.1 in
-    all
+    forms_more a.sets.now a.buffer.now a.at c.requires c.loop-set.set-index c.loop-set-test.true _ _ _ _ c.loop-set.invariant (rw c.from.ensures at c.write_number-next.ensures)

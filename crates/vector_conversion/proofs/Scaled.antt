@@ -7,7 +7,7 @@ use Prim.Native.Nat.{ℕ, zero, suc, ◌+◌, ◌-◌, ◌*◌, ◌≤◌, ◌<�
 use native.Mathlib.Nat.{le_refl, le_step, le_of_suc-le-suc, lt-suc_self, eq-or-lt_of_le, not-suc-le-zero, mul_assoc, mul-one, sub_self, sub-zero, mul-pos}
 use native.Mathlib.Omega.{arith}
 use lib.IntN.{ℤ, pos, ◌+ℤ◌, ◌-ℤ◌, ◌*ℤ◌, pow, one, pos-+ℤ-pos}
-use lib.ListN.{length}
+use lib.ListN.{length, get_or}
 use Rattle.numbers.specs.Counts.{factorial, choose}
 use Rattle.numbers.proofs.Counts.{factorial_pos, choose_none}
 use Rattle.numbers.proofs.Tables.{tabulate_at, tabulate_unique}
@@ -18,6 +18,7 @@ use Rattle.theory_figures.specs.Figures.{tail, signature, sign, domination}
 use Rattle.theory_figures.proofs.Dominations.{path_count_back}
 use Rattle.vector_kind.specs.Kinds.{length_of}
 use Rattle.vector_conversion.specs.Vectors.{entry_at, scaled_count, unit_of, figure, vector_of}
+use Rattle.vector_conversion.specs.Inside.{cells_of}
 use Rattle.vector_kind.specs.declared.Kind.{Kind}
 use Rattle.vector_kind.specs.declared.Kind.TheVariants.{PathCounts, Tail, Signature, Domination}
 
@@ -36,6 +37,13 @@ unfolding tail
 tail_size n φ j h =
     let back : n - (n - j) ≡ j = omega arith in
     ap (λ (x : ℕ). φ x * factorial x * factorial (n - j)) back ∙ mul_assoc (φ j) (factorial j) (factorial (n - j))
+
+-- T(k) by the count of the n - k parts that are left
+pub tail_back : (n : ℕ) (counts : List ℕ) (k unit : ℕ) → k ≤ n → unit ≡ factorial (n - k) * factorial (n - (n - k))
+    → get_or counts (n - k) 0 * unit ≡ tail n (cells_of counts) k
+tail_back n counts k unit h e =
+    let back : n - (n - k) ≡ k = omega arith in
+    ap (λ (u : ℕ). get_or counts (n - k) 0 * u) e ∙ sym (tail_size n (cells_of counts) (n - k) (omega arith)) ∙ ap (tail n (cells_of counts)) back
 
 -- T(n) is 0 where φ(0) is
 pub tail_none : (n : ℕ) (φ : ℕ → ℕ) → φ 0 ≡ 0 → tail n φ n ≡ 0

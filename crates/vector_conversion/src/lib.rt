@@ -220,17 +220,12 @@ fn counted(sum: u64, taken: u64, unit: u64, n: usize, j: usize) -> Count
 }
 
 // Whether a number is no path count of size j: it is over C(n,j), not 0 for size 0, or not 1 for size n.
+#[tactic(auto, using(numbers::proofs::Counts::up_to_16_given), unfolding(crate::specs::Inside::off_range))]
 fn off_range(count: u64, n: usize, j: usize) -> bool
     requires { n ≤ 16 }
     ensures { result ≡ off_range n j count }
 {
-    if (numbers::binomial(n, j) as u64) < count {
-        return true;
-    }
-    if misses(j, 0, count, 0) {
-        return true;
-    }
-    misses(j, n, count, 1)
+    u64::from(numbers::binomial(n, j)) < count || misses(j, 0, count, 0) || misses(j, n, count, 1)
 }
 
 // Whether j is a size whose path count is fixed, and the count is another.
@@ -241,6 +236,7 @@ fn misses(j: usize, size: usize, count: u64, fixed: u64) -> bool
 }
 
 // j! × (n-j)!
+#[tactic(auto, using(numbers::proofs::Counts::up_to_16_given, crate::proofs::Fits::unit_few))]
 fn tail_unit(n: usize, j: usize) -> u64
     requires n_bound { n ≤ 16 }
     requires j_le_n { j ≤ n }
@@ -256,10 +252,10 @@ fn signed_terms(n: usize, counts: &[u64; 17], k: usize) -> Terms
     requires none_over { NoneOver 12870 counts.now }
     ensures { TermsOf n (cells_of counts.now) k result.added result.taken }
 {
-    let mut added: u64 = 0;
-    let mut taken: u64 = 0;
-    for j in 0..k {
-        let term = numbers::binomial(n - j, k - j) as u64 * counts[j];
+    let mut added = 0;
+    let mut taken = 0;
+    for (j, &count) in counts[..k].iter().enumerate() {
+        let term = u64::from(numbers::binomial(n - j, k - j)) * count;
         if (k - j) % 2 == 0 {
             added += term;
         } else {
@@ -276,8 +272,8 @@ fn first_fall(n: usize, counts: &[u64; 17]) -> usize
     ensures { FirstFall n counts.now result }
 {
     for j in 0..n {
-        let here = counts[j] * numbers::binomial(n, j + 1) as u64;
-        let next = counts[j + 1] * numbers::binomial(n, j) as u64;
+        let here = counts[j] * u64::from(numbers::binomial(n, j + 1));
+        let next = counts[j + 1] * u64::from(numbers::binomial(n, j));
         if next < here {
             return j;
         }
@@ -286,15 +282,15 @@ fn first_fall(n: usize, counts: &[u64; 17]) -> usize
 }
 
 // Writes a vector by its path counts.
+#[tactic(auto, using(numbers::proofs::Tables::filled_none, numbers::proofs::Tables::filled_again, numbers::proofs::Tables::filled_end))]
 fn write(kind: Kind, n: usize, counts: &[u64; 17], cells: &mut [i64])
     requires n_bound { n ≤ 16 }
     requires n_in_bounds { length_of kind n ≤ length cells.old }
     requires none_over { NoneOver 12870 counts.now }
     ensures { cells.new ≡ vector_of kind n (cells_of counts.now) ++ drop (length_of kind n) cells.old }
 {
-    let end = kind.entries(n);
-    for k in 0..end {
-        cells[k] = figure(kind, n, counts, k);
+    for (k, cell) in cells[..kind.entries(n)].iter_mut().enumerate() {
+        *cell = figure(kind, n, counts, k);
     }
 }
 
@@ -314,6 +310,7 @@ fn figure(kind: Kind, n: usize, counts: &[u64; 17], k: usize) -> i64
 }
 
 // T(k) by the path counts.
+#[tactic(auto, using(crate::proofs::Fits::scaled_few, crate::proofs::Scaled::tail_back))]
 fn tail(n: usize, counts: &[u64; 17], k: usize) -> u64
     requires n_bound { n ≤ 16 }
     requires k_le_n { k ≤ n }

@@ -42,17 +42,15 @@ one_more n φ j below at i h = cases (eq-or-lt_of_le (le_of_suc-le-suc (subst (�
 pub returns-then-next-here : goal.returns-then-next-here
 returns-then-next-here c =
     record {
-      within = c.loop-j.invariant.0;
-      rises = c.loop-j.invariant.1;
+      within = omega arith;
+      rises = c.loop-j.invariant;
       first = λ h.
-          falls_here c.args.n c.requires.n_bound (cells_of c.args.counts.now) c.loop-j.j _ _ c.binomial.ensures
-          c.binomial-in-loop-j.ensures c.if-next-here.true;
+          falls_here c.args.n c.requires.n_bound (cells_of c.args.counts.now) c.loop-j.j _ _ (c.from.ensures ∙ c.binomial.ensures)
+          (c.from-in-loop-j.ensures ∙ c.binomial-in-loop-j.ensures) c.if-next-here.true;
     }
 
 pub loop-j-preserved : goal.loop-j-preserved
-loop-j-preserved c = (
-  omega arith,
-  one_more c.args.n (cells_of c.args.counts.now) c.loop-j.j c.loop-j.invariant.1
-      (rises_here c.args.n c.requires.n_bound (cells_of c.args.counts.now) c.loop-j.j _ _ c.binomial.ensures
-      c.binomial-in-loop-j.ensures c.if-next-here.false),
-)
+loop-j-preserved c =
+    one_more c.args.n (cells_of c.args.counts.now) c.loop-j.j c.loop-j.invariant
+    (rises_here c.args.n c.requires.n_bound (cells_of c.args.counts.now) c.loop-j.j _ _ (c.from.ensures ∙ c.binomial.ensures)
+    (c.from-in-loop-j.ensures ∙ c.binomial-in-loop-j.ensures) c.if-next-here.false)

@@ -2,10 +2,10 @@
 -- Assumes nothing.
 use mathlib.Core.Path.{◌≡◌}
 use mathlib.Core.Bool.{false}
-use Prim.Native.Nat.{ℕ, ◌≤◌, ◌<◌}
+use Prim.Native.Nat.{ℕ, ◌<◌}
 use Rattle.vector_conversion.specs.Vectors.{falls}
 use Rattle.vector_conversion.specs.Inside.{cells_of}
 use Rattle.vector_conversion.proofs.first_fall.Given as goal
 
 abbrev pub invariant-loop-j : goal.invariant-loop-j
-invariant-loop-j l = (l.j ≤ l.n) × ((i : ℕ) → i < l.j → falls l.n (cells_of l.counts) i ≡ false)
+invariant-loop-j l = (i : ℕ) → i < l.j → falls l.n (cells_of l.counts) i ≡ false

@@ -1,9 +1,11 @@
 -- `vector_conversion::signed_terms` meets its contract: each term goes to the sum of its sign, and each sum stays far below 2^60.
 -- Assumes nothing.
-use mathlib.Core.Path.{◌≡◌, ap, ◌∙◌}
+use mathlib.Core.Path.{◌≡◌, ap, ap₂, ◌∙◌}
 use Prim.Native.Nat.{ℕ, ◌+◌, ◌-◌, ◌*◌, ◌%◌, ◌^◌, ◌≤◌, ◌<◌}
 use native.Mathlib.Nat.{mul-le-mul}
 use native.Mathlib.Omega.{arith}
+use lib.ListN.{get_or, take, length-take}
+use lib.Seq.{get_or-take}
 use Rattle.numbers.specs.Counts.{choose}
 use Rattle.numbers.proofs.Counts.{up_to_16_given}
 use Rattle.theory_figures.proofs.Signs.{terms_below, terms_none, terms_added, terms_taken}
@@ -15,7 +17,6 @@ use Rattle.vector_conversion.proofs.signed_terms.Goals.{then-k-j-eq0, else-k-j-e
 pub loop-j-init : goal.loop-j-init
 loop-j-init c =
     record {
-      within = omega arith;
       few_added = omega arith;
       few_taken = omega arith;
       terms = terms_none c.args.n (cells_of c.args.counts.now) c.args.k;
@@ -35,7 +36,6 @@ module _ (n : ℕ) (φ : ℕ → ℕ) (k added taken j term : ℕ) (carried : Ca
   carried_added : (k - j) % 2 ≡ 0 → Carried n φ k (added + term) taken (j + 1)
   carried_added even =
       record {
-        within = omega arith;
         few_added = omega (arith, carried.few_added);
         few_taken = omega (arith, carried.few_taken);
         terms = terms_added n φ k j added taken term is carried.terms even;
@@ -44,7 +44,6 @@ module _ (n : ℕ) (φ : ℕ → ℕ) (k added taken j term : ℕ) (carried : Ca
   carried_taken : ((k - j) % 2 ≡ 0 → ⊥) → Carried n φ k added (taken + term) (j + 1)
   carried_taken uneven =
       record {
-        within = omega arith;
         few_added = omega (arith, carried.few_added);
         few_taken = omega (arith, carried.few_taken);
         terms = terms_taken n φ k j added taken term is carried.terms (odd (k - j) uneven);
@@ -55,26 +54,27 @@ loop-j-preserved c =
     let a = c.args in
     let φ = cells_of a.counts.now in
     let l = c.loop-j in
-    let more = c.loop-j-test.true in
-    let term : ℕ = c.binomial.result * φ l.j in
-    let small : term ≤ 2 ^ 46 = few c.binomial.result (φ l.j) c.binomial.type_inv (c.requires.none_over l.j) in
-    let is : term ≡ choose (a.n - l.j) (a.k - l.j) * φ l.j
-    = ap (λ (x : ℕ). x * φ l.j)
-    (c.binomial.ensures ∙ up_to_16_given (a.n - l.j) (choose (a.n - l.j) (a.k - l.j)) (omega (arith, c.requires.n_bound))) in
+    let count : ℕ = get_or (take a.k a.counts.now) l.j 0 in
+    let more : l.j < a.k = omega (arith, length-take {A = ℕ}) in
+    let here : count ≡ φ l.j = get_or-take a.k a.counts.now l.j 0 more in
+    let small : c.from.result * count ≤ 2 ^ 46 = few c.from.result count (omega arith) (omega (arith, here, c.requires.none_over l.j)) in
+    let is : c.from.result * count ≡ choose (a.n - l.j) (a.k - l.j) * φ l.j
+    = ap₂ (λ (x y : ℕ). x * y)
+    (c.from.ensures ∙ c.binomial.ensures ∙ up_to_16_given (a.n - l.j) (choose (a.n - l.j) (a.k - l.j)) (omega arith)) here in
     elim c.if-k-j-eq0.branch [
       | then-k-j-eq0 w ↦ rw (w.added-is, w.taken-is)
-          (carried_added a.n φ a.k l.added l.taken l.j term l.invariant more small is w.if-k-j-eq0.true)
+          (carried_added a.n φ a.k l.added l.taken l.j (c.from.result * count) l.invariant more small is w.if-k-j-eq0.true)
       | else-k-j-eq0 w ↦ rw (w.added-is, w.taken-is)
-          (carried_taken a.n φ a.k l.added l.taken l.j term l.invariant more small is w.if-k-j-eq0.false)
+          (carried_taken a.n φ a.k l.added l.taken l.j (c.from.result * count) l.invariant more small is w.if-k-j-eq0.false)
     ]
 
 pub returns : goal.returns
 unfolding terms_below
 returns c =
     let a = c.args in
-    let all : c.loop-j.j ≡ a.k = omega (arith, c.loop-j.invariant.within) in
+    let all : c.loop-j.j ≡ a.k = omega (arith, length-take {A = ℕ}) in
     record {
-      few_added = omega (arith, c.loop-j.invariant.few_added, c.requires.n_bound, c.requires.k_le_n);
-      few_taken = omega (arith, c.loop-j.invariant.few_taken, c.requires.n_bound, c.requires.k_le_n);
+      few_added = omega (arith, c.loop-j.invariant.few_added);
+      few_taken = omega (arith, c.loop-j.invariant.few_taken);
       sums = c.loop-j.invariant.terms ∙ ap (terms_below a.n (cells_of a.counts.now) a.k) all;
     }

@@ -9,7 +9,6 @@ use Rattle.vector_conversion.proofs.signed_terms.Given as goal
 
 -- what is carried: the terms so far, and sums of at most 2^46 a term
 pub record Carried (n : ℕ) (φ : ℕ → ℕ) (k added taken j : ℕ) : Type 0 where
-  pub within : j ≤ k
   pub few_added : added ≤ j * 2 ^ 46
   pub few_taken : taken ≤ j * 2 ^ 46
   pub terms : pos added -ℤ pos taken ≡ terms_below n φ k j

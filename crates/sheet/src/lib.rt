@@ -98,8 +98,7 @@ fn saved_kind(kind: Kind) -> Kind
 {
     match kind {
         Kind::PathCounts => Kind::PathCounts,
-        Kind::Tail => Kind::Signature,
-        Kind::Signature => Kind::Signature,
+        Kind::Tail | Kind::Signature => Kind::Signature,
         Kind::Domination => Kind::Domination,
     }
 }
@@ -141,10 +140,10 @@ fn write_numbers(kind: Kind, n: usize, entries: &[i64], buffer: &mut [u8]) -> us
     requires { length (sheet_bytes kind n entries.now) ≤ length buffer.old }
     ensures { outcome (Written.Length result) buffer.new ≡ delivered Verdict.Accepted (sheet_bytes kind n entries.now) buffer.old }
 {
-    let start = codec::write_number(buffer, 0, kind.number() as u64);
+    let start = codec::write_number(buffer, 0, u64::from(kind.number()));
     let mut next = codec::write_number(buffer, start, n as u64);
-    for i in 0..entries.len() {
-        next = codec::write_number(buffer, next, code(kind, entries[i]));
+    for entry in entries {
+        next = codec::write_number(buffer, next, code(kind, *entry));
     }
     next
 }
@@ -154,9 +153,7 @@ fn code(kind: Kind, entry: i64) -> u64
     ensures { result ≡ coded kind entry }
 {
     match kind {
-        Kind::PathCounts => integers::magnitude(entry),
-        Kind::Tail => integers::magnitude(entry),
-        Kind::Signature => integers::magnitude(entry),
+        Kind::PathCounts | Kind::Tail | Kind::Signature => entry.unsigned_abs(),
         Kind::Domination => zigzag(entry),
     }
 }
@@ -165,9 +162,10 @@ fn code(kind: Kind, entry: i64) -> u64
 fn zigzag(entry: i64) -> u64
     ensures { result ≡ coded Kind.Domination entry }
 {
-    let magnitude = integers::magnitude(entry);
+    let magnitude = entry.unsigned_abs();
     if entry < 0 {
-        return 2 * (magnitude - 1) + 1;
+        2 * (magnitude - 1) + 1
+    } else {
+        2 * magnitude
     }
-    2 * magnitude
 }

@@ -57,32 +57,28 @@ module _ (kind : Kind) (n : ℕ) (entries : List ℤ) (lent : List ℕ) (fits : 
         subst (λ (r : List ℕ). InFront lent r buffer next) (sym whole)
         (in_front_on before (entry_bytes kind entries) (subst (λ (r : List ℕ). InFront two r buffer next) whole passed))
 
-pub loop-i-init : goal.loop-i-init
-loop-i-init c =
+pub loop-entry-init : goal.loop-entry-init
+loop-entry-init c =
     let a = c.args in
-    let lent = a.buffer.now in (
-      omega arith,
-      in_front_now (front a.kind a.n a.entries.now lent c.requires c.write_number-start.new.buffer c.write_number-next.new.buffer
-          c.write_number-start.result c.write_number-next.result
-          (c.write_number-start.ensures ∙ ap (λ (v : ℕ). placed lent 0 (bytes_of v)) c.number.ensures) c.write_number-next.ensures),
-    )
+    let lent = a.buffer.now in
+    in_front_now (front a.kind a.n a.entries.now lent c.requires c.write_number-start.new.buffer c.write_number-next.new.buffer
+    c.write_number-start.result c.write_number-next.result
+    (c.write_number-start.ensures ∙ ap (λ (v : ℕ). placed lent 0 (bytes_of v)) (c.from.ensures ∙ c.number.ensures)) c.write_number-next.ensures)
 
-pub loop-i-preserved : goal.loop-i-preserved
-loop-i-preserved c =
+pub loop-entry-preserved : goal.loop-entry-preserved
+loop-entry-preserved c =
     let a = c.args in
     let entries = a.entries.now in
     let lent = a.buffer.now in
     let two = c.write_number-next.new.buffer in
-    let l = c.loop-i in
+    let l = c.loop-entry in
     let before : InFront lent (sheet_bytes a.kind a.n []) two c.write_number-next.result
     = front a.kind a.n entries lent c.requires c.write_number-start.new.buffer two c.write_number-start.result c.write_number-next.result
-    (c.write_number-start.ensures ∙ ap (λ (v : ℕ). placed lent 0 (bytes_of v)) c.number.ensures) c.write_number-next.ensures in (
-      omega arith,
-      entry_more a.kind a.n entries lent c.requires two c.write_number-next.result before l.i l.buffer
-          c.write_number-next-in-loop-i.new.buffer l.next c.write_number-next-in-loop-i.result c.loop-i-test.true l.invariant.1
-          (c.write_number-next-in-loop-i.ensures
-          ∙ ap (λ (v : ℕ). placed l.buffer l.next (bytes_of v)) (c.code.ensures ∙ ap (coded a.kind) (entry_read entries l.i (omega arith)))),
-    )
+    (c.write_number-start.ensures ∙ ap (λ (v : ℕ). placed lent 0 (bytes_of v)) (c.from.ensures ∙ c.number.ensures)) c.write_number-next.ensures in
+    entry_more a.kind a.n entries lent c.requires two c.write_number-next.result before l.entry-index l.buffer
+    c.write_number-next-in-loop-entry.new.buffer l.next c.write_number-next-in-loop-entry.result c.loop-entry-test.true l.invariant
+    (c.write_number-next-in-loop-entry.ensures
+    ∙ ap (λ (v : ℕ). placed l.buffer l.next (bytes_of v)) (c.code.ensures ∙ ap (coded a.kind) (entry_read entries l.entry-index (omega arith))))
 
 pub returns : goal.returns
 returns c =
@@ -90,9 +86,9 @@ returns c =
     let entries = a.entries.now in
     let lent = a.buffer.now in
     let two = c.write_number-next.new.buffer in
-    let l = c.loop-i in
+    let l = c.loop-entry in
     let before : InFront lent (sheet_bytes a.kind a.n []) two c.write_number-next.result
     = front a.kind a.n entries lent c.requires c.write_number-start.new.buffer two c.write_number-start.result c.write_number-next.result
-    (c.write_number-start.ensures ∙ ap (λ (v : ℕ). placed lent 0 (bytes_of v)) c.number.ensures) c.write_number-next.ensures in
+    (c.write_number-start.ensures ∙ ap (λ (v : ℕ). placed lent 0 (bytes_of v)) (c.from.ensures ∙ c.number.ensures)) c.write_number-next.ensures in
     in_front_delivered lent (sheet_bytes a.kind a.n entries) l.buffer l.next
-    (all_behind a.kind a.n entries lent c.requires two c.write_number-next.result before l.i l.buffer l.next c.loop-i-test.false l.invariant.1) c.requires
+    (all_behind a.kind a.n entries lent c.requires two c.write_number-next.result before l.entry-index l.buffer l.next c.loop-entry-test.false l.invariant) c.requires

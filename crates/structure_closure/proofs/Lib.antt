@@ -3,3 +3,4 @@ pub mod Walks
 pub mod ListedSets
 pub mod MinimalSets
 pub mod Unchanged
+pub mod Turns

@@ -10,7 +10,9 @@ use native.Mathlib.Nat.{add-sub_of_le, add_comm, mod-lt, le_refl, lt_of_le_of_lt
 use native.Mathlib.Omega.{arith}
 use lib.Bits.{or_lt, and_le_l}
 use lib.ListN.{get_or}
-use lib.Pow.{pow_pos, shr_le}
+use lib.Pow.{pow_pos, pow-lt, shr_le}
+use Rattle.numbers.specs.Counts.{up_to_16}
+use Rattle.numbers.proofs.Counts.{up_to_16_given}
 use Rattle.theory_sets.specs.Masks.{has, meet, join}
 use Rattle.numbers.proofs.Bools.{true_or_false, or_false, and_swap, not_not}
 use Rattle.theory_sets.proofs.Masks.{join_held, join_more, has_le, has_flip, has_above, has_empty, has_complement, has_low, has_meet, has_join, has_shift, add_below, bit_of_odd, bit_of_even}
@@ -21,6 +23,10 @@ use Rattle.structure_closure.specs.Closure.{without}
 use Rattle.structure_closure.specs.Inside.{with}
 use Rattle.structure_words.proofs.Bits.{has_shl_below, has_moved_down, has_moved_up, whole_words}
 use Rattle.structure_words.proofs.Words.{in_words_at, word_of_unique}
+
+-- a shift inside a word
+pub shift_small : (part shift : ℕ) → shift ≡ up_to_16 part (2 ^ part) → part < 6 → shift < 64
+shift_small part shift e h = subst (λ (x : ℕ). x < 64) (sym (e ∙ up_to_16_given part (2 ^ part) (omega arith))) (pow-lt h)
 
 -- the parts of a mask, by its word's index and its bit
 index_low : (at k part : ℕ) → k < 64 → part < 6 → has (64 * at + k) part ≡ has k part

@@ -12,29 +12,31 @@ ghost use Rattle.structure_closure.specs.Closure.{without as without_part, spare
 ghost use Rattle.structure_closure.specs.Inside.{with as with_part, failing_above as failing_above_set};
 
 // The sets that work without some of the first parts, at most 16 of these.
+#[tactic(auto, using(crate::proofs::Turns::spread_turn), unfolding(crate::specs::Closure::spread))]
 pub fn spread(words: &[u64], parts: usize) -> [u64; 1024]
     ensures { result ≡ words_of (spread_set (min parts 16) (in_words words.now)) }
 {
     let mut next = copied(words);
-    let end = numbers::at_most_16(parts);
-    for part in 0..end {
+    for part in 0..parts.min(16) {
         next = spread_over(&next, part);
     }
     next
 }
 
 // The path sets that are none without any single one of the first parts, at most 16 of these.
+#[tactic(auto, using(numbers::proofs::Tables::filling, crate::proofs::Turns::irredundant_word))]
 pub fn irredundant(words: &[u64], parts: usize) -> [u64; 1024]
     ensures { result ≡ words_of (irredundant_set (min parts 16) (in_words words.now)) }
 {
     let mut next = [0u64; 1024];
-    for at in 0..1024 {
-        next[at] = numbers::cell(words, at) & !spare(words, at, parts);
+    for (at, word) in next.iter_mut().enumerate() {
+        *word = numbers::cell(words, at) & !spare(words, at, parts);
     }
     next
 }
 
 // The smallest path set that some single one of the first parts, at most 16 of these, leads to a set that is none; 65,536 where there is none.
+#[tactic(auto, using(crate::proofs::Walks::none_yet, crate::proofs::Walks::none_more, crate::proofs::Walks::none_at_all, crate::proofs::Walks::found_near, crate::proofs::Walks::found_first))]
 pub fn first_broken(words: &[u64], parts: usize) -> usize
     ensures { result ≡ least (broken (min parts 16) (in_words words.now)) 65536 }
 {
@@ -48,20 +50,21 @@ pub fn first_broken(words: &[u64], parts: usize) -> usize
 }
 
 // The mask of those of the first parts, at most 16 of these, that change nothing when they are added to a set.
+#[tactic(auto, using(crate::proofs::Turns::idle_none, crate::proofs::Turns::idle_turn, crate::proofs::Turns::busy_turn))]
 pub fn idle_parts(words: &[u64], parts: usize) -> usize
     ensures { result ≡ packed (min parts 16) (idle_part 16 (in_words words.now)) }
 {
-    let mut mask: usize = 0;
-    let end = numbers::at_most_16(parts);
-    for part in 0..end {
+    let mut mask = 0;
+    for part in 0..parts.min(16) {
         if idle(words, part) {
-            mask = mask | (1 << part);
+            mask |= 1 << part;
         }
     }
     mask
 }
 
 // Word `at` of the sets that have the part and work without it.
+#[tactic(auto, using(crate::proofs::Parts::without_low, crate::proofs::Parts::without_high, crate::proofs::Parts::without_none, crate::proofs::Parts::step_le, crate::proofs::Parts::shift_small, numbers::proofs::Counts::up_to_16_given))]
 fn without(words: &[u64], at: usize, part: usize) -> u64
     requires { part < 16 }
     ensures { result ≡ word_of (without_part part (in_words words.now)) at }
@@ -79,6 +82,7 @@ fn without(words: &[u64], at: usize, part: usize) -> u64
 }
 
 // Word `at` of the sets that work with the part, which they may have already: no branch asks whether they have it.
+#[tactic(auto, using(crate::proofs::Parts::with_low, crate::proofs::Parts::with_high, crate::proofs::Parts::shift_small, numbers::proofs::Counts::up_to_16_given))]
 fn with(words: &[u64], at: usize, part: usize) -> u64
     requires { part < 16 }
     ensures { result ≡ word_of (with_part part (in_words words.now)) at }
@@ -96,57 +100,53 @@ fn idle(words: &[u64], part: usize) -> bool
     requires { part < 16 }
     ensures { result ≡ idle_part 16 (in_words words.now) part }
 {
-    for at in 0..1024 {
-        if with(words, at, part) != numbers::cell(words, at) {
-            return false;
-        }
-    }
-    true
+    (0..1024).all(|at| with(words, at, part) == numbers::cell(words, at))
 }
 
 // Word `at` of the sets that work, or have the part and work without it.
+#[tactic(auto, using(numbers::proofs::Tables::filling))]
 fn spread_over(words: &[u64], part: usize) -> [u64; 1024]
     requires { part < 16 }
     ensures { result ≡ words_of (λ a. in_words words.now a || without_part part (in_words words.now) a) }
 {
     let mut next = [0u64; 1024];
-    for at in 0..1024 {
-        next[at] = numbers::cell(words, at) | without(words, at, part);
+    for (at, word) in next.iter_mut().enumerate() {
+        *word = numbers::cell(words, at) | without(words, at, part);
     }
     next
 }
 
 // The words in an array of their own.
+#[tactic(auto, using(crate::proofs::Turns::copied_words))]
 fn copied(words: &[u64]) -> [u64; 1024]
     ensures { result ≡ words_of (in_words words.now) }
 {
     let mut next = [0u64; 1024];
-    for at in 0..1024 {
-        next[at] = numbers::cell(words, at);
-    }
+    let held = words.len().min(1024);
+    next[..held].copy_from_slice(&words[..held]);
     next
 }
 
 // Word `at` of the sets that work without some single one of the first parts that they have.
+#[tactic(auto, using(crate::proofs::Turns::spare_none, crate::proofs::Turns::spare_turn))]
 fn spare(words: &[u64], at: usize, parts: usize) -> u64
     ensures { result ≡ word_of (spare_set (min parts 16) (in_words words.now)) at }
 {
-    let mut some: u64 = 0;
-    let end = numbers::at_most_16(parts);
-    for part in 0..end {
-        some = some | without(words, at, part);
+    let mut some = 0;
+    for part in 0..parts.min(16) {
+        some |= without(words, at, part);
     }
     some
 }
 
 // Word `at` of the sets that do not work with some single one of the first parts.
+#[tactic(auto, using(crate::proofs::Turns::failing_none, crate::proofs::Turns::failing_turn))]
 fn failing_above(words: &[u64], at: usize, parts: usize) -> u64
     ensures { result ≡ word_of (failing_above_set (min parts 16) (in_words words.now)) at }
 {
-    let mut some: u64 = 0;
-    let end = numbers::at_most_16(parts);
-    for part in 0..end {
-        some = some | !with(words, at, part);
+    let mut some = 0;
+    for part in 0..parts.min(16) {
+        some |= !with(words, at, part);
     }
     some
 }

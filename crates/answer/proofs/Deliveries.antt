@@ -6,31 +6,27 @@ use Prim.Native.Nat.{ℕ, ◌+◌, ◌≤◌, ◌<◌}
 use native.Mathlib.Omega.{arith}
 use lib.ListN.{length, take, drop, length-append}
 use lib.Seq.{take-append_seam, drop-append_seam, drop-append-add, drop-drop}
-use Rattle.answer.specs.Refusals.{short_buffer}
-use Rattle.answer.specs.Outcome.{at, and_then, room, Outcome, outcome, settled, delivered}
+use Rattle.std.specs.Prelude.{Ok, Err}
+use Rattle.answer.specs.declared.Reason.TheVariants.{ShortBuffer}
+use Rattle.answer.specs.Outcome.{at, and_then, room, Outcome, outcome, settled, delivered, Numbered, Verdict}
 use Rattle.answer.specs.declared.Refusal.{Refusal}
-use Rattle.answer.specs.declared.Verdict.{Verdict}
-use Rattle.answer.specs.declared.Verdict.TheVariants.{Accepted}
-use Rattle.answer.specs.declared.Verdict.TheVariants as verdict
-use Rattle.answer.specs.declared.Written.{Written}
-use Rattle.answer.specs.declared.Written.TheVariants.{Length, Refused}
 use Rattle.answer.proofs.Outcomes.{then_accepted, then_passed, then_same, room_enough, room_accepted, settled_refused, settled_given, InFront, in_front_delivered, short_delivered}
 
 module _ {A : Type 0} (judged : Verdict) (result buffer : List A) where
   -- ---- what is delivered
 
-  pub refused_kept : (why : Refusal) → judged ≡ verdict.Refused why → outcome (Refused why) buffer ≡ delivered judged result buffer
+  pub refused_kept : (why : Refusal) → judged ≡ Err why → outcome (Err why) buffer ≡ delivered judged result buffer
   refused_kept why e = ap (λ (v : Verdict). delivered v result buffer) (sym e)
 
-  module _ (accepted : judged ≡ Accepted) (needed : ℕ) (long : needed ≡ length result) where
-    pub delivered_short : length buffer < needed → outcome (Refused (at short_buffer needed)) buffer ≡ delivered judged result buffer
+  module _ (accepted : judged ≡ Ok tt) (needed : ℕ) (long : needed ≡ length result) where
+    pub delivered_short : length buffer < needed → outcome (Err (at ShortBuffer needed)) buffer ≡ delivered judged result buffer
     delivered_short short =
-        ap (λ (k : ℕ). outcome (Refused (at short_buffer k)) buffer) long
+        ap (λ (k : ℕ). outcome (Err (at ShortBuffer k)) buffer) long
         ∙ short_delivered buffer result (subst (λ (k : ℕ). length buffer < k) long short)
         ∙ ap (λ (v : Verdict). delivered v result buffer) (sym accepted)
 
     pub delivered_whole : (now : List A) → now ≡ result ++ drop needed buffer → needed ≤ length buffer
-        → outcome (Length needed) now ≡ delivered judged result buffer
+        → outcome (Ok needed) now ≡ delivered judged result buffer
     delivered_whole now written fits =
         in_front_delivered buffer result now needed
         (record { ends = long; stands = written ∙ ap (λ (k : ℕ). result ++ drop k buffer) long })
@@ -38,25 +34,25 @@ module _ {A : Type 0} (judged : Verdict) (result buffer : List A) where
         ∙ ap (λ (v : Verdict). delivered v result buffer) (sym accepted)
 
   -- where the number of cells needed is the result's length if nothing is refused before
-  module _ (needed : ℕ) (long : judged ≡ Accepted → needed ≡ length result) where
+  module _ (needed : ℕ) (long : judged ≡ Ok tt → needed ≡ length result) where
     checks : and_then judged (room (length result) (length buffer)) ≡ and_then judged (room needed (length buffer))
     checks = sym (then_same judged _ _ (λ h. ap (λ (k : ℕ). room k (length buffer)) (long h)))
 
-    pub checked_refused : {why : Refusal} → and_then judged (room needed (length buffer)) ≡ verdict.Refused why
-        → outcome (Refused why) buffer ≡ delivered judged result buffer
-    checked_refused h = settled_refused _ Refused buffer _ (checks ∙ h)
+    pub checked_refused : {why : Refusal} → and_then judged (room needed (length buffer)) ≡ Err why
+        → outcome (Err why) buffer ≡ delivered judged result buffer
+    checked_refused h = settled_refused _ Err buffer _ (checks ∙ h)
 
-    pub checked_whole : and_then judged (room needed (length buffer)) ≡ Accepted → (now : List A) → now ≡ result ++ drop needed buffer
-        → outcome (Length needed) now ≡ delivered judged result buffer
+    pub checked_whole : and_then judged (room needed (length buffer)) ≡ Ok tt → (now : List A) → now ≡ result ++ drop needed buffer
+        → outcome (Ok needed) now ≡ delivered judged result buffer
     checked_whole h now written =
-        let accepted : judged ≡ Accepted = (then_accepted judged _ h).0 in
+        let accepted : judged ≡ Ok tt = (then_accepted judged _ h).0 in
         delivered_whole accepted needed (long accepted) now written (room_accepted needed (length buffer) (then_accepted judged _ h).1)
 
   -- ---- what an answer tells
 
   -- a length: nothing was refused, and all of the result stands in front of the buffer
   pub record Given (now : List A) (count : ℕ) : Type 0 where
-    pub accepted : judged ≡ Accepted
+    pub accepted : judged ≡ Ok tt
     pub counted : count ≡ length result
     pub stands : now ≡ result ++ drop (length result) buffer
     pub front : take count now ≡ result
@@ -64,18 +60,18 @@ module _ {A : Type 0} (judged : Verdict) (result buffer : List A) where
   abbrev checked : Verdict
   checked = and_then judged (room (length result) (length buffer))
 
-  abbrev whole : Outcome Written (List A)
-  whole = outcome (Length (length result)) (result ++ drop (length result) buffer)
+  abbrev whole : Outcome Numbered (List A)
+  whole = outcome (Ok (length result)) (result ++ drop (length result) buffer)
 
-  pub given : (now : List A) (count : ℕ) → outcome (Length count) now ≡ delivered judged result buffer → Given now count
+  pub given : (now : List A) (count : ℕ) → outcome (Ok count) now ≡ delivered judged result buffer → Given now count
   given now count e = cases checked refl e
     where
-      cases : (v : Verdict) → checked ≡ v → outcome (Length count) now ≡ settled v Refused buffer whole → Given now count
-      cases (verdict.Refused r) is said =
-          let clash : ◌≡◌ {A = ℕ} 0 1 = cc (ap (λ (o : Outcome Written (List A)). o.answer) said) in absurd (omega arith)
-      cases Accepted is said =
-          let counted : count ≡ length result = cc (ap (λ (o : Outcome Written (List A)). o.answer) said) in
-          let stands : now ≡ result ++ drop (length result) buffer = ap (λ (o : Outcome Written (List A)). o.buffer) said in
+      cases : (v : Verdict) → checked ≡ v → outcome (Ok count) now ≡ settled v Err buffer whole → Given now count
+      cases (Err r) is said =
+          let clash : ◌≡◌ {A = ℕ} 0 1 = cc (ap (λ (o : Outcome Numbered (List A)). o.answer) said) in absurd (omega arith)
+      cases (Ok _) is said =
+          let counted : count ≡ length result = cc (ap (λ (o : Outcome Numbered (List A)). o.answer) said) in
+          let stands : now ≡ result ++ drop (length result) buffer = ap (λ (o : Outcome Numbered (List A)). o.buffer) said in
           record {
             accepted = (then_accepted judged _ is).0;
             counted = counted;
@@ -84,24 +80,24 @@ module _ {A : Type 0} (judged : Verdict) (result buffer : List A) where
           }
 
   -- whatever the answer: where nothing is refused and the buffer is long enough, the result stands in front
-  pub delivered_front : {answer : Written} {now : List A} → judged ≡ Accepted → length result ≤ length buffer → outcome answer now ≡ delivered judged result buffer
+  pub delivered_front : {answer : Numbered} {now : List A} → judged ≡ Ok tt → length result ≤ length buffer → outcome answer now ≡ delivered judged result buffer
       → now ≡ result ++ drop (length result) buffer
   delivered_front accepted fits e =
-      ap (λ (o : Outcome Written (List A)). o.buffer)
-      (e ∙ sym (settled_given checked Refused buffer whole (then_passed _ accepted ∙ room_enough (length result) (length buffer) fits)))
+      ap (λ (o : Outcome Numbered (List A)). o.buffer)
+      (e ∙ sym (settled_given checked Err buffer whole (then_passed _ accepted ∙ room_enough (length result) (length buffer) fits)))
 
   -- a refusal where the buffer is long enough: the verdict's own
-  pub refused_by : (now : List A) (why : Refusal) → (judged ≡ Accepted → length result ≤ length buffer) → outcome (Refused why) now ≡ delivered judged result buffer
-      → judged ≡ verdict.Refused why
+  pub refused_by : (now : List A) (why : Refusal) → (judged ≡ Ok tt → length result ≤ length buffer) → outcome (Err why) now ≡ delivered judged result buffer
+      → judged ≡ Err why
   refused_by now why fits e = cases judged refl
     where
-      cases : (v : Verdict) → judged ≡ v → judged ≡ verdict.Refused why
-      cases (verdict.Refused r) is =
-          is ∙ cc (ap (λ (o : Outcome Written (List A)). o.answer) (e ∙ ap (λ (v : Verdict). delivered v result buffer) is))
-      cases Accepted is =
-          let all : outcome (Refused why) now ≡ whole =
-          e ∙ sym (settled_given checked Refused buffer whole (then_passed _ is ∙ room_enough (length result) (length buffer) (fits is))) in
-          let clash : ◌≡◌ {A = ℕ} 0 1 = cc (ap (λ (o : Outcome Written (List A)). o.answer) all) in absurd (omega arith)
+      cases : (v : Verdict) → judged ≡ v → judged ≡ Err why
+      cases (Err r) is =
+          is ∙ cc (ap (λ (o : Outcome Numbered (List A)). o.answer) (e ∙ ap (λ (v : Verdict). delivered v result buffer) is))
+      cases (Ok _) is =
+          let all : outcome (Err why) now ≡ whole =
+          e ∙ sym (settled_given checked Err buffer whole (then_passed _ is ∙ room_enough (length result) (length buffer) (fits is))) in
+          let clash : ◌≡◌ {A = ℕ} 0 1 = cc (ap (λ (o : Outcome Numbered (List A)). o.answer) all) in absurd (omega arith)
 
 -- ---- a result in front of a buffer, and a longer one
 

@@ -6,9 +6,8 @@ use native.Mathlib.Numerals.{add-one}
 use native.Mathlib.Omega.{arith}
 use lib.ListN.{length, get_or, take, set}
 use lib.Seq.{take-suc, take_all, length-take-le}
+use Rattle.std.specs.Prelude.{Ok}
 use Rattle.answer.specs.Outcome.{outcome, delivered}
-use Rattle.answer.specs.declared.Verdict.TheVariants.{Accepted}
-use Rattle.answer.specs.declared.Written.TheVariants.{Length}
 use Rattle.answer.proofs.Outcomes.{InFront, in_front_none, in_front_one, in_front_length, in_front_delivered}
 
 -- the first cells of a result are in front of a buffer, all else is as it was, and the whole has room
@@ -40,9 +39,9 @@ module _ {A : Type 0} {made buffer now : List A} {i : ℕ} (before : Handed made
       }
 
   -- all of them
-  pub handed_all : length made ≤ i → outcome (Length (length made)) now ≡ delivered Accepted made buffer
+  pub handed_all : length made ≤ i → outcome (Ok (length made)) now ≡ delivered (Ok tt) made buffer
   handed_all all =
       let end : i ≡ length made = omega (arith, before.inside) in
       let whole : take i made ≡ made = take_all i made all in
-      ap (λ (k : ℕ). outcome (Length k) now) (sym end)
+      ap (λ (k : ℕ). outcome (Ok k) now) (sym end)
       ∙ in_front_delivered buffer made now i (subst (λ (xs : List A). InFront buffer xs now i) whole before.stands) before.fits

@@ -12,75 +12,72 @@ use borrow.Author.Tests.{le-ltb, lt-ltb, ltb-false}
 use lib.Dec.{ltb}
 use lib.ListN.{length, get_or, drop, set, length-append, length-drop}
 use lib.Seq.{drop-cons, set-append_seam, append_snoc}
-use Rattle.answer.specs.Refusals.{short_buffer}
-use Rattle.answer.specs.Outcome.{at, refuse, and_then, room, Outcome, outcome, settled, delivered, valued}
+use Rattle.std.specs.Prelude.{Ok, Err}
+use Rattle.answer.specs.declared.Reason.{Reason}
+use Rattle.answer.specs.declared.Reason.TheVariants.{ShortBuffer}
+use Rattle.answer.specs.Outcome.{at, refuse, and_then, room, Outcome, outcome, settled, delivered, valued, Verdict}
 use Rattle.answer.specs.declared.Refusal.{Refusal}
-use Rattle.answer.specs.declared.Verdict.{Verdict}
-use Rattle.answer.specs.declared.Verdict.TheVariants.{Accepted}
-use Rattle.answer.specs.declared.Verdict.TheVariants as verdict
-use Rattle.answer.specs.declared.Written.TheVariants.{Length, Refused}
-use Rattle.answer.specs.declared.Value.TheVariants as value
 
 -- a check that accepts: its condition does not hold, and what comes later accepts
-pub refuse_accepted : (test : Bool) (number place : ℕ) (later : Verdict) → refuse test number place later ≡ Accepted → (test ≡ false) × (later ≡ Accepted)
-refuse_accepted true number place later h = absurd (let wrong : ◌≡◌ {A = ℕ} 0 1 = cc in omega arith)
-refuse_accepted false number place later h = (refl, h)
+pub refuse_accepted : (test : Bool) (reason : Reason) (place : ℕ) (later : Verdict) → refuse test reason place later ≡ Ok tt → (test ≡ false) × (later ≡ Ok tt)
+refuse_accepted true reason place later h = absurd (let wrong : ◌≡◌ {A = ℕ} 0 1 = cc in omega arith)
+refuse_accepted false reason place later h = (refl, h)
 
-pub refuse_passed : (test : Bool) (number place : ℕ) (later : Verdict) → test ≡ false → refuse test number place later ≡ later
-refuse_passed test number place later h = ap (λ (t : Bool). refuse t number place later) h
+pub refuse_passed : (test : Bool) (reason : Reason) (place : ℕ) (later : Verdict) → test ≡ false → refuse test reason place later ≡ later
+refuse_passed test reason place later h = ap (λ (t : Bool). refuse t reason place later) h
 
-pub refuse_held : (test : Bool) (number place : ℕ) (later : Verdict) → test ≡ true → refuse test number place later ≡ verdict.Refused (at number place)
-refuse_held test number place later h = ap (λ (t : Bool). refuse t number place later) h
+pub refuse_held : (test : Bool) (reason : Reason) (place : ℕ) (later : Verdict) → test ≡ true → refuse test reason place later ≡ Err (at reason place)
+refuse_held test reason place later h = ap (λ (t : Bool). refuse t reason place later) h
 
 -- two verdicts, one after the other: both accept
-pub then_accepted : (first later : Verdict) → and_then first later ≡ Accepted → (first ≡ Accepted) × (later ≡ Accepted)
-then_accepted (verdict.Refused refusal) later h = absurd (let wrong : ◌≡◌ {A = ℕ} 0 1 = cc in omega arith)
-then_accepted Accepted later h = (refl, h)
+pub then_accepted : (first later : Verdict) → and_then first later ≡ Ok tt → (first ≡ Ok tt) × (later ≡ Ok tt)
+then_accepted (Err refusal) later h = absurd (let wrong : ◌≡◌ {A = ℕ} 0 1 = cc in omega arith)
+then_accepted (Ok _) later h = (refl, h)
 
-pub then_passed : {first : Verdict} (later : Verdict) → first ≡ Accepted → and_then first later ≡ later
+pub then_passed : {first : Verdict} (later : Verdict) → first ≡ Ok tt → and_then first later ≡ later
 then_passed later h = ap (λ (v : Verdict). and_then v later) h
 
-pub then_refused : {first : Verdict} (later : Verdict) {why : Refusal} → first ≡ verdict.Refused why → and_then first later ≡ verdict.Refused why
+pub then_refused : {first : Verdict} (later : Verdict) {why : Refusal} → first ≡ Err why → and_then first later ≡ Err why
 then_refused later h = ap (λ (v : Verdict). and_then v later) h
 
 -- what comes later matters only where the first accepts
-pub then_same : (first later other : Verdict) → (first ≡ Accepted → later ≡ other) → and_then first later ≡ and_then first other
-then_same (verdict.Refused why) later other same = refl
-then_same Accepted later other same = same refl
+pub then_same : (first later other : Verdict) → (first ≡ Ok tt → later ≡ other) → and_then first later ≡ and_then first other
+then_same (Err why) later other same = refl
+then_same (Ok _) later other same = same refl
 
 -- ---- the room that is lent
 
-pub room_enough : (needed lent : ℕ) → needed ≤ lent → room needed lent ≡ Accepted
-room_enough needed lent h = refuse_passed (ltb lent needed) short_buffer needed Accepted (le-ltb lent needed h)
+pub room_enough : (needed lent : ℕ) → needed ≤ lent → room needed lent ≡ Ok tt
+room_enough needed lent h = refuse_passed (ltb lent needed) ShortBuffer needed (Ok tt) (le-ltb lent needed h)
 
-pub room_short : (needed lent : ℕ) → lent < needed → room needed lent ≡ verdict.Refused (at short_buffer needed)
-room_short needed lent h = refuse_held (ltb lent needed) short_buffer needed Accepted (lt-ltb lent needed h)
+pub room_short : (needed lent : ℕ) → lent < needed → room needed lent ≡ Err (at ShortBuffer needed)
+room_short needed lent h = refuse_held (ltb lent needed) ShortBuffer needed (Ok tt) (lt-ltb lent needed h)
 
-pub room_accepted : (needed lent : ℕ) → room needed lent ≡ Accepted → needed ≤ lent
-room_accepted needed lent h = ltb-false lent needed (refuse_accepted (ltb lent needed) short_buffer needed Accepted h).0
+pub room_accepted : (needed lent : ℕ) → room needed lent ≡ Ok tt → needed ≤ lent
+room_accepted needed lent h = ltb-false lent needed (refuse_accepted (ltb lent needed) ShortBuffer needed (Ok tt) h).0
 
 -- ---- what is settled
 
 module _ {A B : Type 0} (judged : Verdict) (refusing : Refusal → A) (buffer : B) (given : Outcome A B) where
-  pub settled_refused : {why : Refusal} → judged ≡ verdict.Refused why → outcome (refusing why) buffer ≡ settled judged refusing buffer given
+  pub settled_refused : {why : Refusal} → judged ≡ Err why → outcome (refusing why) buffer ≡ settled judged refusing buffer given
   settled_refused h = ap (λ (v : Verdict). settled v refusing buffer given) (sym h)
 
-  pub settled_given : judged ≡ Accepted → given ≡ settled judged refusing buffer given
+  pub settled_given : judged ≡ Ok tt → given ≡ settled judged refusing buffer given
   settled_given h = ap (λ (v : Verdict). settled v refusing buffer given) (sym h)
 
 -- ---- a number that is given
 
 module _ (v : Verdict) (number : ℕ) where
-  pub valued_refused : (why : Refusal) → v ≡ verdict.Refused why → value.Refused why ≡ valued v number
+  pub valued_refused : (why : Refusal) → v ≡ Err why → Err why ≡ valued v number
   valued_refused why e = ap (λ (x : Verdict). valued x number) (sym e)
 
-  pub valued_given : v ≡ Accepted → value.Given number ≡ valued v number
+  pub valued_given : v ≡ Ok tt → Ok number ≡ valued v number
   valued_given e = ap (λ (x : Verdict). valued x number) (sym e)
 
 -- what was given was not refused
-pub given_valued : (v : Verdict) (number given : ℕ) → valued v number ≡ value.Given given → (v ≡ Accepted) × (number ≡ given)
-given_valued (verdict.Refused why) number given e = let z : ◌≡◌ {A = ℕ} 0 1 = cc in absurd (omega arith)
-given_valued Accepted number given e = (refl, cc e)
+pub given_valued : (v : Verdict) (number given : ℕ) → valued v number ≡ Ok given → (v ≡ Ok tt) × (number ≡ given)
+given_valued (Err why) number given e = let z : ◌≡◌ {A = ℕ} 0 1 = cc in absurd (omega arith)
+given_valued (Ok _) number given e = (refl, cc e)
 
 -- ---- a result in front of a buffer
 
@@ -115,11 +112,11 @@ module _ {A : Type 0} (buffer : List A) where
 
   -- the whole result is delivered
   pub in_front_delivered : (result now : List A) (next : ℕ) → InFront buffer result now next → length result ≤ length buffer
-      → outcome (Length next) now ≡ delivered Accepted result buffer
+      → outcome (Ok next) now ≡ delivered (Ok tt) result buffer
   in_front_delivered result now next whole fits =
-      ap₂ (λ (n : ℕ) (b : List A). outcome (Length n) b) whole.ends whole.stands
-      ∙ settled_given _ Refused buffer _ (room_enough (length result) (length buffer) fits)
+      ap₂ (λ (n : ℕ) (b : List A). outcome (Ok n) b) whole.ends whole.stands
+      ∙ settled_given _ Err buffer _ (room_enough (length result) (length buffer) fits)
 
   -- a result that does not fit is not delivered
-  pub short_delivered : (result : List A) → length buffer < length result → outcome (Refused (at short_buffer (length result))) buffer ≡ delivered Accepted result buffer
-  short_delivered result short = settled_refused _ Refused buffer _ (room_short (length result) (length buffer) short)
+  pub short_delivered : (result : List A) → length buffer < length result → outcome (Err (at ShortBuffer (length result))) buffer ≡ delivered (Ok tt) result buffer
+  short_delivered result short = settled_refused _ Err buffer _ (room_short (length result) (length buffer) short)

@@ -1,32 +1,35 @@
 -- What a call answers and what it leaves in the buffers lent to it, on every input.
-use Rattle.std.specs.Prelude.{Bool, true, false, List, ◌++◌, ℕ, ltb, length, drop}
-use Rattle.answer.specs.Refusals.{short_buffer}
+use Rattle.std.specs.Prelude.{Bool, true, false, List, ◌++◌, ℕ, ltb, length, drop, Result, Ok, Err}
+use Rattle.answer.specs.declared.Reason.{Reason}
+use Rattle.answer.specs.declared.Reason.TheVariants.{ShortBuffer}
 use Rattle.answer.specs.declared.Refusal.{Refusal}
-use Rattle.answer.specs.declared.Verdict.{Verdict}
-use Rattle.answer.specs.declared.Verdict.TheVariants as verdict
-use Rattle.answer.specs.declared.Written.{Written}
-use Rattle.answer.specs.declared.Written.TheVariants as written
-use Rattle.answer.specs.declared.Value.{Value}
-use Rattle.answer.specs.declared.Value.TheVariants as value
 
--- a refusal by its number and place
-abbrev pub at : ℕ → ℕ → Refusal
-at number place = record { number = number; place = place }
+-- the answer of a call that only judges: nothing refuses, or a refusal
+abbrev pub Verdict : Type 0
+Verdict = Result (Unit {0}) Refusal
 
--- One check of 01's table: where its condition holds it refuses by its number and place, and else what comes later decides.
+-- the answer of a call that gives a number, or the length that it wrote: the number, or a refusal
+abbrev pub Numbered : Type 0
+Numbered = Result ℕ Refusal
+
+-- a refusal by its reason and place
+abbrev pub at : Reason → ℕ → Refusal
+at reason place = record { reason = reason; place = place }
+
+-- One check of 01's table: where its condition holds it refuses for its reason at its place, and else what comes later decides.
 -- A chain of these is the order of checks.
-abbrev pub refuse : Bool → ℕ → ℕ → Verdict → Verdict
-refuse true number place later = verdict.Refused (at number place)
-refuse false number place later = later
+abbrev pub refuse : Bool → Reason → ℕ → Verdict → Verdict
+refuse true reason place later = Err (at reason place)
+refuse false reason place later = later
 
 -- a verdict, and where it accepts a later one
 abbrev pub and_then : Verdict → Verdict → Verdict
-and_then (verdict.Refused r) later = verdict.Refused r
-and_then verdict.Accepted later = later
+and_then (Err r) later = Err r
+and_then (Ok _) later = later
 
 -- 11 where the length lent is shorter than needed, with the length needed
 abbrev pub room : ℕ → ℕ → Verdict
-room needed lent = refuse (ltb lent needed) short_buffer needed verdict.Accepted
+room needed lent = refuse (ltb lent needed) ShortBuffer needed (Ok tt)
 
 -- a result in front of a buffer, and the rest as it was
 abbrev pub front : {A : Type 0} → List A → List A → List A
@@ -46,15 +49,15 @@ retold form o = outcome (form o.answer) o.buffer
 
 -- What a call leaves once all its checks are made. Refused: the refusal as its answer, and the buffers as they were. Accepted: what is given.
 abbrev pub settled : {A B : Type 0} → Verdict → (Refusal → A) → B → Outcome A B → Outcome A B
-settled (verdict.Refused r) refusing buffer given = outcome (refusing r) buffer
-settled verdict.Accepted refusing buffer given = given
+settled (Err r) refusing buffer given = outcome (refusing r) buffer
+settled (Ok _) refusing buffer given = given
 
 -- A result for a lent buffer: 11 is asked after all else, and what is given is the result in front, with its length as the answer.
-abbrev pub delivered : {A : Type 0} → Verdict → List A → List A → Outcome Written (List A)
+abbrev pub delivered : {A : Type 0} → Verdict → List A → List A → Outcome Numbered (List A)
 delivered refusal result buffer =
-    settled (and_then refusal (room (length result) (length buffer))) written.Refused buffer (outcome (written.Length (length result)) (front result buffer))
+    settled (and_then refusal (room (length result) (length buffer))) Err buffer (outcome (Ok (length result)) (front result buffer))
 
 -- The answer of a call that gives a number and lends no buffer: the refusal, or the number.
-abbrev pub valued : Verdict → ℕ → Value
-valued (verdict.Refused r) number = value.Refused r
-valued verdict.Accepted number = value.Given number
+abbrev pub valued : Verdict → ℕ → Numbered
+valued (Err r) number = Err r
+valued (Ok _) number = Ok number

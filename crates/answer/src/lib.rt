@@ -1,173 +1,124 @@
-// What every entry point answers: given, or refused by one of 01's numbers at a place.
+// Why a call is refused, and where: 01's and 02's refusals, and what is handed out into a lent buffer.
 #![tactic(auto)]
 
 ghost use Rattle.std.specs.Prelude.{◌≡◌};
-ghost use Rattle.answer.specs.Refusals.{short_buffer};
+ghost use Rattle.answer.specs.Refusals.{number_of};
 ghost use Rattle.answer.specs.Outcome.{at, room as room_for, outcome, delivered};
 
-// A refusal of 01: its number and the place that it reports.
-#[derive(Clone, Copy)]
+// The refusals of 01 and 02, each with its own number.
+#[derive(Clone, Copy, Debug, PartialEq, Eq)]
+pub enum Reason {
+    // N is not 1 to 16.
+    WrongPartCount = 1,
+    // A list of sets is empty.
+    EmptyList = 2,
+    // A list of sets has over 12,870.
+    LongList = 3,
+    // A set has bit n or above.
+    UnknownPart = 4,
+    // A set is mask 0.
+    EmptySet = 5,
+    // A table's length is not the greater of 1 and 2^n/8.
+    WrongTableLength = 6,
+    // A table has an unused bit set.
+    UnusedBit = 7,
+    // The empty set is a path set.
+    EmptySetWorks = 8,
+    // The full set isn't one.
+    FullSetFails = 9,
+    // A path set with one part more isn't one.
+    BrokenSet = 10,
+    // A result buffer is shorter than needed.
+    ShortBuffer = 11,
+    // A vector's length is wrong.
+    WrongVectorLength = 12,
+    // A path count is not whole, outside 0..C(n,j), φ(0) not 0 or φ(n) not 1.
+    WrongPathCount = 13,
+    // A proportion falls from j to j+1.
+    FallingProportion = 14,
+    // A group is empty.
+    EmptyGroup = 15,
+    // A group has bit n or above.
+    UnknownGroupPart = 16,
+    // A position is not 1 to n, or a part number is no part's.
+    UnknownPosition = 17,
+    // Every set names the part to be taken out.
+    InEverySet = 18,
+    // N is 16 and a part is to be added.
+    FullMachine = 19,
+    // The mark is 2^48-1 and a part is to be added.
+    NumbersSpent = 20,
+    // The bytes end inside a record or a sheet.
+    EndOfBytes = 21,
+    // A number is not shortest, or over its top value or its groups.
+    WrongNumber = 22,
+    // A part number of a record is 0, does not rise or is above the mark.
+    WrongPartNumber = 23,
+    // A set of a record does not rise, or holds an earlier one.
+    WrongSet = 24,
+    // Bytes are left after the last number.
+    BytesLeft = 25,
+    // A sheet's kind is not 1 to 4.
+    WrongKind = 26,
+    // A line of a drawing's text is of another form.
+    WrongLine = 27,
+    // A position stands twice on a line of a drawing's text, or a part number twice among those that are wanted.
+    RepeatedPosition = 28,
+    // The threshold k of a pattern is not 1 to n.
+    WrongThreshold = 29,
+    // A retired number of a record is 0, does not rise, is above the mark or in use, or there are more than 64.
+    WrongRetired = 30,
+    // A path count of a record is not that of its sets.
+    DifferentCount = 31,
+    // A record that is to be written as one of edition 1 has retired numbers.
+    RetiredPresent = 32,
+    // The blocks of a machine have more than 16 parts in all.
+    ManyParts = 33,
+    // A tail sheet is to be written by name.
+    TailSheet = 34,
+}
+
+// A refusal: its reason and the place that it reports.
+#[derive(Clone, Copy, Debug, PartialEq, Eq)]
 pub struct Refusal {
-    pub number: u8,
+    pub reason: Reason,
     pub place: usize,
 }
 
-// The answer of a call that only judges.
-#[derive(Clone, Copy)]
-pub enum Verdict {
-    Accepted,
-    Refused(Refusal),
-}
+impl Reason {
+    // The number that 01 or 02 gives it.
+    pub fn number(self) -> u8
+        ensures { result ≡ number_of self }
+    {
+        self as u8
+    }
 
-// The answer of a call that writes into a lent buffer: how many cells it wrote, or why it wrote none.
-#[derive(Clone, Copy)]
-pub enum Written {
-    Length(usize),
-    Refused(Refusal),
-}
-
-// The answer of a call that gives a number and writes nothing: the number, or why there is none.
-#[derive(Clone, Copy)]
-pub enum Value {
-    Given(usize),
-    Refused(Refusal),
-}
-
-// The refusal numbers of 01 and 02 by name; specs/Refusals.antt has the same names with their conditions.
-pub const WRONG_PART_COUNT: u8 = 1;
-
-pub const EMPTY_LIST: u8 = 2;
-
-pub const LONG_LIST: u8 = 3;
-
-pub const UNKNOWN_PART: u8 = 4;
-
-pub const EMPTY_SET: u8 = 5;
-
-pub const WRONG_TABLE_LENGTH: u8 = 6;
-
-pub const UNUSED_BIT: u8 = 7;
-
-pub const EMPTY_SET_WORKS: u8 = 8;
-
-pub const FULL_SET_FAILS: u8 = 9;
-
-pub const BROKEN_SET: u8 = 10;
-
-pub const SHORT_BUFFER: u8 = 11;
-
-pub const WRONG_VECTOR_LENGTH: u8 = 12;
-
-pub const WRONG_PATH_COUNT: u8 = 13;
-
-pub const FALLING_PROPORTION: u8 = 14;
-
-pub const EMPTY_GROUP: u8 = 15;
-
-pub const UNKNOWN_GROUP_PART: u8 = 16;
-
-pub const UNKNOWN_POSITION: u8 = 17;
-
-pub const IN_EVERY_SET: u8 = 18;
-
-pub const FULL_MACHINE: u8 = 19;
-
-pub const NUMBERS_SPENT: u8 = 20;
-
-pub const END_OF_BYTES: u8 = 21;
-
-pub const WRONG_NUMBER: u8 = 22;
-
-pub const WRONG_PART_NUMBER: u8 = 23;
-
-pub const WRONG_SET: u8 = 24;
-
-pub const BYTES_LEFT: u8 = 25;
-
-pub const WRONG_KIND: u8 = 26;
-
-pub const WRONG_LINE: u8 = 27;
-
-pub const REPEATED_POSITION: u8 = 28;
-
-pub const WRONG_THRESHOLD: u8 = 29;
-
-pub const WRONG_RETIRED: u8 = 30;
-
-pub const DIFFERENT_COUNT: u8 = 31;
-
-pub const RETIRED_PRESENT: u8 = 32;
-
-pub const MANY_PARTS: u8 = 33;
-
-pub const TAIL_SHEET: u8 = 34;
-
-// A refusal by its number and place, as a verdict.
-pub fn refused(number: u8, place: usize) -> Verdict
-    ensures { result ≡ Verdict.Refused (at number place) }
-{
-    Verdict::Refused(Refusal { number, place })
-}
-
-// The same as the answer of a call that writes.
-pub fn unwritten(number: u8, place: usize) -> Written
-    ensures { result ≡ Written.Refused (at number place) }
-{
-    Written::Refused(Refusal { number, place })
-}
-
-// The answer where a lent buffer is shorter than needed.
-pub fn short(needed: usize) -> Written
-    ensures { result ≡ Written.Refused (at short_buffer needed) }
-{
-    unwritten(SHORT_BUFFER, needed)
+    // The refusal for this reason at a place.
+    pub fn at(self, place: usize) -> Refusal
+        ensures { result ≡ at self place }
+    {
+        Refusal {
+            reason: self,
+            place,
+        }
+    }
 }
 
 // Whether as many cells are lent as are needed.
-pub fn room(needed: usize, lent: usize) -> Verdict
+pub fn room(needed: usize, lent: usize) -> Result<(), Refusal>
     ensures { result ≡ room_for needed lent }
 {
     if lent < needed {
-        return refused(SHORT_BUFFER, needed);
+        return Err(Reason::ShortBuffer.at(needed));
     }
-    Verdict::Accepted
+    Ok(())
 }
 
-// Hands bytes out into a lent buffer.
-pub fn hand_out_bytes(bytes: &[u8], buffer: &mut [u8]) -> Written
-    ensures { outcome result buffer.new ≡ delivered Verdict.Accepted bytes.now buffer.old }
+// Hands items out into a lent buffer, and says how many they are.
+pub fn hand_out<T: Copy>(items: &[T], buffer: &mut [T]) -> Result<usize, Refusal>
+    ensures { outcome result buffer.new ≡ delivered (Ok tt) items.now buffer.old }
 {
-    if buffer.len() < bytes.len() {
-        return short(bytes.len());
-    }
-    for i in 0..bytes.len() {
-        buffer[i] = bytes[i];
-    }
-    Written::Length(bytes.len())
-}
-
-// Hands entries out into a lent buffer.
-pub fn hand_out_entries(entries: &[i64], buffer: &mut [i64]) -> Written
-    ensures { outcome result buffer.new ≡ delivered Verdict.Accepted entries.now buffer.old }
-{
-    if buffer.len() < entries.len() {
-        return short(entries.len());
-    }
-    for i in 0..entries.len() {
-        buffer[i] = entries[i];
-    }
-    Written::Length(entries.len())
-}
-
-// Hands counts out into a lent buffer.
-pub fn hand_out_counts(counts: &[u64], buffer: &mut [u64]) -> Written
-    ensures { outcome result buffer.new ≡ delivered Verdict.Accepted counts.now buffer.old }
-{
-    if buffer.len() < counts.len() {
-        return short(counts.len());
-    }
-    for i in 0..counts.len() {
-        buffer[i] = counts[i];
-    }
-    Written::Length(counts.len())
+    room(items.len(), buffer.len())?;
+    buffer[..items.len()].copy_from_slice(items);
+    Ok(items.len())
 }

@@ -7,11 +7,11 @@ use native.Mathlib.Nat.{le_trans, le_of_eq, add-zero, zero-sub}
 use native.Mathlib.Omega.{arith}
 use lib.IntN.{ℤ, pos}
 use lib.ListN.{length, take}
+use Rattle.std.specs.Prelude.{Ok}
 use Rattle.numbers.specs.Counts.{choose}
 use Rattle.numbers.specs.Tables.{tabulate}
 use Rattle.numbers.proofs.Counts.{choose_above}
 use Rattle.numbers.proofs.Tables.{take_tabulate}
-use Rattle.answer.specs.declared.Verdict.TheVariants.{Accepted}
 use Rattle.theory_sets.specs.Tables.{in_table}
 use Rattle.structure_words.specs.Words.{in_words, words_of}
 use Rattle.structure_words.proofs.Words.{words_say}
@@ -27,7 +27,7 @@ use Rattle.blocks.specs.Inside.{rows_of, row_at, BothRows}
 use Rattle.blocks.proofs.Rows.{rows_row}
 use Rattle.blocks.proofs.Folds.{counts_over, over}
 
-module _ (table sizes : List ℕ) (vectors : List ℤ) (judged : blocks_refusal (length sizes) table sizes vectors ≡ Accepted) where
+module _ (table sizes : List ℕ) (vectors : List ℤ) (judged : blocks_refusal (length sizes) table sizes vectors ≡ Ok tt) where
   accepted : AcceptedBlocks (length sizes) table sizes vectors
   accepted = blocks_accepted (length sizes) table sizes vectors judged
 

@@ -10,6 +10,7 @@ use native.Mathlib.Omega.{arith}
 use lib.IntN.{ℤ, pos, nat_abs}
 use lib.ListN.{get_or, length, take, drop}
 use lib.Seq.{take-length}
+use Rattle.std.specs.Prelude.{Ok}
 use Rattle.numbers.specs.Counts.{choose}
 use Rattle.numbers.specs.Tables.{tabulate}
 use Rattle.numbers.proofs.Bounds.{below_or_above}
@@ -31,7 +32,6 @@ use Rattle.theory_blocks.proofs.Formula.{rising_decomposed, rising_only}
 use Rattle.theory_blocks.proofs.Assembled.{assembled_counts}
 use Rattle.theory_blocks.proofs.Machines.{assembled_parts, assembled_semicoherent}
 use Rattle.theory_blocks.proofs.Cases.{whole_block, in_series, in_parallel, single_parts}
-use Rattle.answer.specs.declared.Verdict.TheVariants.{Accepted}
 use Rattle.structure.proofs.Acceptance.{accepted_table}
 use Rattle.vector_kind.specs.declared.Kind.TheVariants.{PathCounts}
 use Rattle.vector_conversion.specs.Vectors.{figure, vector_refusal}
@@ -43,7 +43,7 @@ use Rattle.blocks_checks.specs.Refusals.{blocks_refusal}
 use Rattle.blocks_checks.proofs.Claims.{blocks_accepted, vector_rises, entry_count_lem, count_beyond}
 use Rattle.blocks.specs.Whole.{parts_of_blocks, count_given, counts_of_blocks, HaveCounts}
 
-module _ (r : ℕ) (table sizes : List ℕ) (vectors : List ℤ) (accepted : blocks_refusal r table sizes vectors ≡ Accepted) where
+module _ (r : ℕ) (table sizes : List ℕ) (vectors : List ℤ) (accepted : blocks_refusal r table sizes vectors ≡ Ok tt) where
   right : AcceptedBlocks r table sizes vectors
   right = blocks_accepted r table sizes vectors accepted
 
@@ -102,7 +102,7 @@ module _ (r : ℕ) (table sizes : List ℕ) (vectors : List ℤ) (accepted : blo
       le_trans (right.sized 0 first).0 (sum_below_term (size_at sizes) 0 r first)
 
   -- so it is accepted as path counts
-  pub written_accepted : vector_refusal PathCounts (parts_of_blocks r sizes) (counts_of_blocks r table sizes vectors) ≡ Accepted
+  pub written_accepted : vector_refusal PathCounts (parts_of_blocks r sizes) (counts_of_blocks r table sizes vectors) ≡ Ok tt
   unfolding figure
   written_accepted =
       vector_accepted PathCounts (parts_of_blocks r sizes) (counts_of_blocks r table sizes vectors)
@@ -125,7 +125,7 @@ module _ (r : ℕ) (table sizes : List ℕ) (vectors : List ℤ) (accepted : blo
 
 -- ---- one block that is the whole
 
-module _ (table sizes : List ℕ) (vectors : List ℤ) (accepted : blocks_refusal 1 table sizes vectors ≡ Accepted) where
+module _ (table sizes : List ℕ) (vectors : List ℤ) (accepted : blocks_refusal 1 table sizes vectors ≡ Ok tt) where
   only : AcceptedBlocks 1 table sizes vectors
   only = blocks_accepted 1 table sizes vectors accepted
 
@@ -156,7 +156,7 @@ module _ (sizes : List ℕ) (vectors : List ℤ) (j : ℕ) where
   two_in_series = in_series (size_at sizes) (block_counts sizes vectors) (in_table (8 ∷ [])) refl refl refl refl j
 
   -- in parallel, byte 0E: all sets but those on which both are stopped
-  pub two_in_parallel : blocks_refusal 2 (14 ∷ []) sizes vectors ≡ Accepted
+  pub two_in_parallel : blocks_refusal 2 (14 ∷ []) sizes vectors ≡ Ok tt
       → count_given 2 (14 ∷ []) sizes vectors j
       + product (in_state false (size_at sizes 1) (block_counts sizes vectors 1)) (in_state false (size_at sizes 0) (block_counts sizes vectors 0)) j
       ≡ choose (size_at sizes 0 + size_at sizes 1) j

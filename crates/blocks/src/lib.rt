@@ -5,7 +5,6 @@ ghost use Rattle.std.specs.Prelude.{◌≡◌, cond, ℕ, ◌+◌, ◌-◌, ◌^
 ghost use Rattle.numbers.specs.Counts.{choose};
 ghost use Rattle.numbers.specs.Tables.{tabulate, NoneOver};
 ghost use Rattle.answer.specs.Outcome.{outcome, delivered};
-ghost use Rattle.answer.specs.declared.Verdict.TheVariants.{Accepted};
 ghost use Rattle.structure_words.specs.Words.{in_words};
 ghost use Rattle.theory_sets.specs.Tables.{in_table};
 ghost use Rattle.theory_sums.specs.Sums.{indicator};
@@ -15,7 +14,7 @@ ghost use Rattle.blocks_checks.specs.Refusals.{blocks_refusal};
 ghost use Rattle.blocks.specs.Whole.{counts_of_blocks};
 ghost use Rattle.blocks.specs.Inside.{rows_of, row_at, cells_of, joined_count, BothRows, Joining};
 
-use answer::{Verdict, Written};
+use answer::Refusal;
 
 // The path counts of the whole into a lent buffer: the table says on which sets of blocks the whole runs, the sizes how many parts each block
 // has, and the vectors are their path counts one after another.
@@ -25,24 +24,24 @@ pub fn path_counts_of_blocks(
     sizes: &[usize],
     vectors: &[i64],
     cells: &mut [i64],
-) -> Written
+) -> Result<usize, Refusal>
     ensures { outcome result cells.new ≡ delivered (blocks_refusal blocks table.now sizes.now vectors.now) (counts_of_blocks blocks table.now sizes.now vectors.now) cells.old }
 {
     let judged = blocks_checks::blocks_verdict(blocks, table, sizes, vectors);
     match judged {
-        Verdict::Refused(refusal) => Written::Refused(refusal),
-        Verdict::Accepted => {
+        Err(refusal) => Err(refusal),
+        Ok(()) => {
             let parts = vectors.len() - blocks;
             let counts = whole_counts(table, sizes, vectors, parts);
             let end = parts + 1;
-            answer::hand_out_entries(&counts[..end], cells)
+            answer::hand_out(&counts[..end], cells)
         }
     }
 }
 
 // The path counts of blocks that are accepted, signed as entries of a vector are; those beyond the parts are 0.
 fn whole_counts(table: &[u8], sizes: &[usize], vectors: &[i64], parts: usize) -> [i64; 17]
-    requires vectors_value { blocks_refusal (length sizes.now) table.now sizes.now vectors.now ≡ Accepted }
+    requires vectors_value { blocks_refusal (length sizes.now) table.now sizes.now vectors.now ≡ Ok tt }
     requires parts_value { parts ≡ parts_in (size_at sizes.now) (length sizes.now) }
     ensures { result ≡ tabulate 17 (λ j. pos (count_of_blocks (size_at sizes.now) (block_counts sizes.now vectors.now) (length sizes.now) (in_table table.now) j)) }
 {

@@ -10,9 +10,9 @@ use native.Mathlib.Omega.{arith}
 use borrow.Author.Tests.{eqb-true, eq-eqb, ltb-false, le-ltb, not-false}
 use lib.IntN.{ℤ, pos, nat_abs}
 use lib.ListN.{length, get_or, drop, length-take, get_or-eq_default}
+use Rattle.std.specs.Prelude.{Ok}
 use Rattle.numbers.proofs.Bounds.{below_or_above}
-use Rattle.answer.specs.Refusals.{wrong_vector_length, many_parts}
-use Rattle.answer.specs.declared.Verdict.TheVariants.{Accepted}
+use Rattle.answer.specs.declared.Reason.TheVariants.{WrongVectorLength, ManyParts}
 use Rattle.answer.proofs.Outcomes.{refuse_accepted, refuse_passed, then_accepted, then_passed}
 use Rattle.theory_blocks.specs.Blocks.{RisingCounts}
 use Rattle.vector_kind.specs.declared.Kind.TheVariants.{PathCounts}
@@ -25,7 +25,7 @@ use Rattle.blocks_checks.specs.Accepted.{AcceptedBlocks}
 use Rattle.blocks_checks.proofs.Given.{sizes_right, sizes_accepted, vectors_right, vectors_accepted}
 
 module _ (r : ℕ) (table sizes : List ℕ) (vectors : List ℤ) where
-  pub blocks_accepted : blocks_refusal r table sizes vectors ≡ Accepted → AcceptedBlocks r table sizes vectors
+  pub blocks_accepted : blocks_refusal r table sizes vectors ≡ Ok tt → AcceptedBlocks r table sizes vectors
   unfolding blocks_refusal block_counts_refusal
   blocks_accepted h =
       let structured = then_accepted _ _ h in
@@ -43,15 +43,15 @@ module _ (r : ℕ) (table sizes : List ℕ) (vectors : List ℤ) where
         few = ltb-false 16 _ few.0;
       }
 
-  pub accepted_blocks : AcceptedBlocks r table sizes vectors → blocks_refusal r table sizes vectors ≡ Accepted
+  pub accepted_blocks : AcceptedBlocks r table sizes vectors → blocks_refusal r table sizes vectors ≡ Ok tt
   unfolding blocks_refusal block_counts_refusal
   accepted_blocks a =
       then_passed _ a.table
-      ∙ refuse_passed _ wrong_vector_length 0 _ (ap not (eq-eqb _ _ a.enough))
+      ∙ refuse_passed _ WrongVectorLength 0 _ (ap not (eq-eqb _ _ a.enough))
       ∙ then_passed _ (sizes_accepted sizes r a.sized)
-      ∙ refuse_passed _ wrong_vector_length 0 _ (ap not (eq-eqb _ _ a.long))
+      ∙ refuse_passed _ WrongVectorLength 0 _ (ap not (eq-eqb _ _ a.long))
       ∙ then_passed _ (vectors_accepted sizes vectors r a.judged)
-      ∙ refuse_passed _ many_parts 0 Accepted (le-ltb 16 _ a.few)
+      ∙ refuse_passed _ ManyParts 0 (Ok tt) (le-ltb 16 _ a.few)
 
 -- ---- the path counts of a block
 

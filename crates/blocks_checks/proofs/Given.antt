@@ -9,10 +9,10 @@ use native.Mathlib.Omega.{arith}
 use lib.Dec.{leb}
 use lib.IntN.{ℤ}
 use lib.ListN.{take, drop}
+use Rattle.std.specs.Prelude.{Ok, Err}
 use Rattle.answer.specs.Outcome.{at}
-use Rattle.answer.specs.Refusals.{wrong_part_count}
+use Rattle.answer.specs.declared.Reason.TheVariants.{WrongPartCount}
 use Rattle.answer.specs.declared.Refusal.{Refusal}
-use Rattle.answer.specs.declared.Verdict.TheVariants.{Accepted, Refused}
 use Rattle.answer.proofs.Checks.{parts_right, parts_passed}
 use Rattle.answer.proofs.Outcomes.{refuse_held}
 use Rattle.theory_sums.specs.Sums.{sum_below}
@@ -25,21 +25,21 @@ use Rattle.blocks_checks.proofs.Firsts.{each_accepted, all_accepted, first_refus
 module _ (sizes : List ℕ) where
   -- ---- sizes
 
-  pub sizes_right : (r : ℕ) → sizes_refusal sizes r ≡ Accepted → (b : ℕ) → b < r → (1 ≤ size_at sizes b) × (size_at sizes b ≤ 16)
+  pub sizes_right : (r : ℕ) → sizes_refusal sizes r ≡ Ok tt → (b : ℕ) → b < r → (1 ≤ size_at sizes b) × (size_at sizes b ≤ 16)
   sizes_right r h b below =
-      let right = parts_right 0 (size_at sizes b) Accepted (each_accepted _ r h b below) in
+      let right = parts_right 0 (size_at sizes b) (Ok tt) (each_accepted _ r h b below) in
       (right.0, right.1)
 
-  pub sizes_accepted : (r : ℕ) → ((b : ℕ) → b < r → (1 ≤ size_at sizes b) × (size_at sizes b ≤ 16)) → sizes_refusal sizes r ≡ Accepted
+  pub sizes_accepted : (r : ℕ) → ((b : ℕ) → b < r → (1 ≤ size_at sizes b) × (size_at sizes b ≤ 16)) → sizes_refusal sizes r ≡ Ok tt
   sizes_accepted r sized =
-      all_accepted _ r (λ b below. parts_passed 0 (size_at sizes b) Accepted (sized b below).0 (sized b below).1)
+      all_accepted _ r (λ b below. parts_passed 0 (size_at sizes b) (Ok tt) (sized b below).0 (sized b below).1)
 
   -- the first size that is not 1 to 16
-  pub sizes_refused : (b : ℕ) → sizes_refusal sizes b ≡ Accepted → not (leb 1 (size_at sizes b) && leb (size_at sizes b) 16) ≡ true
-      → (r : ℕ) → b < r → sizes_refusal sizes r ≡ Refused (at wrong_part_count 0)
-  sizes_refused b passed wrong = first_refused _ b passed (refuse_held _ wrong_part_count 0 Accepted wrong)
+  pub sizes_refused : (b : ℕ) → sizes_refusal sizes b ≡ Ok tt → not (leb 1 (size_at sizes b) && leb (size_at sizes b) 16) ≡ true
+      → (r : ℕ) → b < r → sizes_refusal sizes r ≡ Err (at WrongPartCount 0)
+  sizes_refused b passed wrong = first_refused _ b passed (refuse_held _ WrongPartCount 0 (Ok tt) wrong)
 
-  pub parts_few : (r : ℕ) → sizes_refusal sizes r ≡ Accepted → (b : ℕ) → b ≤ r → parts_in (size_at sizes) b ≤ 16 * b
+  pub parts_few : (r : ℕ) → sizes_refusal sizes r ≡ Ok tt → (b : ℕ) → b ≤ r → parts_in (size_at sizes) b ≤ 16 * b
   parts_few r h b inside =
       let each : (c : ℕ) → c < b → size_at sizes c ≤ 16 * 1 = λ c below. (sizes_right r h c (lt_of_lt_of_le below inside)).1 in
       omega (arith, sum_below_le (size_at sizes) (λ c. 16 * 1) b each, sum_below_mul 16 (λ c. 1) b, sum_below_ones b)
@@ -69,15 +69,15 @@ module _ (sizes : List ℕ) (vectors : List ℤ) where
       let long : start + size_at sizes b + 1 - start ≡ size_at sizes b + 1 = omega arith in
       ap₂ (λ (n s : ℕ). take n (drop s vectors)) long e
 
-  pub vectors_right : (r : ℕ) → vectors_refusal sizes vectors r ≡ Accepted
-      → (b : ℕ) → b < r → block_refusal sizes vectors b ≡ Accepted
+  pub vectors_right : (r : ℕ) → vectors_refusal sizes vectors r ≡ Ok tt
+      → (b : ℕ) → b < r → block_refusal sizes vectors b ≡ Ok tt
   vectors_right = each_accepted (block_refusal sizes vectors)
 
-  pub vectors_accepted : (r : ℕ) → ((b : ℕ) → b < r → block_refusal sizes vectors b ≡ Accepted)
-      → vectors_refusal sizes vectors r ≡ Accepted
+  pub vectors_accepted : (r : ℕ) → ((b : ℕ) → b < r → block_refusal sizes vectors b ≡ Ok tt)
+      → vectors_refusal sizes vectors r ≡ Ok tt
   vectors_accepted = all_accepted (block_refusal sizes vectors)
 
   -- the first vector that is refused
-  pub vectors_refused : (b : ℕ) {why : Refusal} → vectors_refusal sizes vectors b ≡ Accepted
-      → block_refusal sizes vectors b ≡ Refused why → (r : ℕ) → b < r → vectors_refusal sizes vectors r ≡ Refused why
+  pub vectors_refused : (b : ℕ) {why : Refusal} → vectors_refusal sizes vectors b ≡ Ok tt
+      → block_refusal sizes vectors b ≡ Err why → (r : ℕ) → b < r → vectors_refusal sizes vectors r ≡ Err why
   vectors_refused b passed wrong = first_refused (block_refusal sizes vectors) b passed wrong

@@ -4,7 +4,7 @@ use mathlib.Core.Path.{◌≡◌, refl}
 use mathlib.Core.List.{[], ◌∷◌, ◌++◌}
 use Prim.Native.Nat.{◌-◌, ◌^◌}
 use lib.ListN.{replicate}
-use Rattle.answer.specs.Refusals.{end_of_bytes, wrong_number}
+use Rattle.answer.specs.declared.Reason.TheVariants.{EndOfBytes, WrongNumber}
 use Rattle.answer.specs.Outcome.{at}
 use Rattle.codec.specs.declared.Field.TheVariants.{Count, PartNumber, Set, Sheet}
 use Rattle.codec.specs.Reads.{found, refused}
@@ -21,22 +21,22 @@ unfolding number_at number_in
 three_hundred_read = refl
 
 -- 80 00 is not shortest
-two_for_zero : number_at (0x80 ∷ 0x00 ∷ []) 0 Count ≡ refused (at wrong_number 0)
+two_for_zero : number_at (0x80 ∷ 0x00 ∷ []) 0 Count ≡ refused (at WrongNumber 0)
 unfolding number_at number_in
 two_for_zero = refl
 
 -- a last group 0 behind four others
-five_for_zero : number_at (0x01 ∷ replicate 4 0x80 ++ (0x00 ∷ [])) 1 Count ≡ refused (at wrong_number 1)
+five_for_zero : number_at (0x01 ∷ replicate 4 0x80 ++ (0x00 ∷ [])) 1 Count ≡ refused (at WrongNumber 1)
 unfolding number_at number_in
 five_for_zero = refl
 
 -- four bytes with bit 7, and the end
-four_carried : number_at (0x01 ∷ replicate 4 0xFF) 1 Count ≡ refused (at end_of_bytes 5)
+four_carried : number_at (0x01 ∷ replicate 4 0xFF) 1 Count ≡ refused (at EndOfBytes 5)
 unfolding number_at number_in
 four_carried = refl
 
 -- five bytes with bit 7, and the end
-five_carried : number_at (0x01 ∷ replicate 5 0xFF) 1 Count ≡ refused (at wrong_number 1)
+five_carried : number_at (0x01 ∷ replicate 5 0xFF) 1 Count ≡ refused (at WrongNumber 1)
 unfolding number_at number_in
 five_carried = refl
 
@@ -45,7 +45,7 @@ count_top : number_at (replicate 4 0xFF ++ (0x0F ∷ 0x01 ∷ [])) 0 Count ≡ f
 unfolding number_at number_in
 count_top = refl
 
-count_over : number_at (replicate 4 0x80 ++ (0x10 ∷ [])) 0 Count ≡ refused (at wrong_number 0)
+count_over : number_at (replicate 4 0x80 ++ (0x10 ∷ [])) 0 Count ≡ refused (at WrongNumber 0)
 unfolding number_at number_in
 count_over = refl
 
@@ -53,7 +53,7 @@ set_top : number_at (replicate 4 0xFF ++ (0x0F ∷ [])) 0 Set ≡ found (2 ^ 32 
 unfolding number_at number_in
 set_top = refl
 
-set_over : number_at (replicate 4 0x80 ++ (0x10 ∷ [])) 0 Set ≡ refused (at wrong_number 0)
+set_over : number_at (replicate 4 0x80 ++ (0x10 ∷ [])) 0 Set ≡ refused (at WrongNumber 0)
 unfolding number_at number_in
 set_over = refl
 
@@ -67,16 +67,16 @@ part_number_top : number_at (0x01 ∷ replicate 6 0xFF ++ (0x3F ∷ 0x01 ∷ [])
 unfolding number_at number_in
 part_number_top = refl
 
-part_number_over : number_at (0x01 ∷ replicate 6 0x80 ++ (0x40 ∷ 0x01 ∷ [])) 1 PartNumber ≡ refused (at wrong_number 1)
+part_number_over : number_at (0x01 ∷ replicate 6 0x80 ++ (0x40 ∷ 0x01 ∷ [])) 1 PartNumber ≡ refused (at WrongNumber 1)
 unfolding number_at number_in
 part_number_over = refl
 
 -- six bytes with bit 7 and the end, and seven
-six_carried : number_at (0x01 ∷ replicate 6 0xFF) 1 PartNumber ≡ refused (at end_of_bytes 7)
+six_carried : number_at (0x01 ∷ replicate 6 0xFF) 1 PartNumber ≡ refused (at EndOfBytes 7)
 unfolding number_at number_in
 six_carried = refl
 
-seven_carried : number_at (0x01 ∷ replicate 7 0xFF) 1 PartNumber ≡ refused (at wrong_number 1)
+seven_carried : number_at (0x01 ∷ replicate 7 0xFF) 1 PartNumber ≡ refused (at WrongNumber 1)
 unfolding number_at number_in
 seven_carried = refl
 
@@ -85,15 +85,15 @@ sheet_top : number_at (replicate 8 0xFF ++ (0x7F ∷ [])) 0 Sheet ≡ found (2 ^
 unfolding number_at number_in
 sheet_top = refl
 
-eight_carried : number_at (replicate 8 0xFF) 0 Sheet ≡ refused (at end_of_bytes 8)
+eight_carried : number_at (replicate 8 0xFF) 0 Sheet ≡ refused (at EndOfBytes 8)
 unfolding number_at number_in
 eight_carried = refl
 
-nine_carried : number_at (replicate 9 0xFF) 0 Sheet ≡ refused (at wrong_number 0)
+nine_carried : number_at (replicate 9 0xFF) 0 Sheet ≡ refused (at WrongNumber 0)
 unfolding number_at number_in
 nine_carried = refl
 
 -- a position past the input
-past_the_end : number_at (0x01 ∷ []) 4 Sheet ≡ refused (at end_of_bytes 1)
+past_the_end : number_at (0x01 ∷ []) 4 Sheet ≡ refused (at EndOfBytes 1)
 unfolding number_at number_in
 past_the_end = refl

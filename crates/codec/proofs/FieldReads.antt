@@ -7,8 +7,8 @@ use Prim.Native.Nat.{ℕ, zero, suc, ◌+◌, ◌-◌, ◌*◌, ◌≤◌, ◌<�
 use native.Mathlib.Nat.{add-zero, sub-zero}
 use native.Mathlib.Omega.{arith}
 use lib.ListN.{length, get_or, drop, length-append}
+use Rattle.std.specs.Prelude.{Ok}
 use Rattle.answer.specs.declared.Refusal.{Refusal}
-use Rattle.answer.specs.declared.Verdict.TheVariants.{Accepted}
 use Rattle.codec.specs.declared.Field.{Field}
 use Rattle.codec.specs.Fields.{groups, top}
 use Rattle.codec.specs.ByteForm.{bytes_of, forms_of}
@@ -21,12 +21,12 @@ use Rattle.codec.proofs.Found.{then_found, found_then, Stands, stands_none, stan
 
 -- a judge that passes a number at any place if at one
 abbrev pub AnyPlace : Judge → Type 0
-AnyPlace judge = (earlier : List ℕ) (place other number : ℕ) → judge earlier place number ≡ Accepted → judge earlier other number ≡ Accepted
+AnyPlace judge = (earlier : List ℕ) (place other number : ℕ) → judge earlier place number ≡ Ok tt → judge earlier other number ≡ Ok tt
 
 -- each number passes after the earlier ones, wherever it stands
 abbrev pub Follow : Judge → List ℕ → List ℕ → Type 0
 Follow judge earlier [] = Unit {0}
-Follow judge earlier (number ∷ numbers) = ((place : ℕ) → judge earlier place number ≡ Accepted) × Follow judge (earlier ++ (number ∷ [])) numbers
+Follow judge earlier (number ∷ numbers) = ((place : ℕ) → judge earlier place number ≡ Ok tt) × Follow judge (earlier ++ (number ∷ [])) numbers
 
 -- no number is over the field's top value
 abbrev pub AllAllowed : Field → List ℕ → Type 0

@@ -10,17 +10,14 @@ use borrow.Author.Tests.{le-ltb, ltb-false}
 use lib.Dec.{ltb}
 use lib.ListN.{length, drop, length-append}
 use lib.Seq.{drop-drop, drop-append_seam}
-use Rattle.answer.specs.Refusals.{bytes_left}
-use Rattle.answer.specs.Outcome.{at}
+use Rattle.std.specs.Prelude.{Ok, Err}
+use Rattle.answer.specs.declared.Reason.TheVariants.{BytesLeft}
+use Rattle.answer.specs.Outcome.{at, Verdict}
 use Rattle.answer.specs.declared.Refusal.{Refusal}
-use Rattle.answer.specs.declared.Verdict.{Verdict}
-use Rattle.answer.specs.declared.Verdict.TheVariants.{Accepted, Refused}
 use Rattle.codec.specs.declared.Field.{Field}
-use Rattle.codec.specs.declared.Reading.{Reading}
-use Rattle.codec.specs.declared.Reading.TheVariants as reading
 use Rattle.codec.specs.Fields.{top}
 use Rattle.codec.specs.ByteForm.{bytes_of}
-use Rattle.codec.specs.Reads.{Read, found, refused, then, unless, alone, reading_of}
+use Rattle.codec.specs.Reads.{Read, found, refused, then, unless, alone, reading_of, answered, Reading}
 use Rattle.codec.specs.Reading.{number_at}
 use Rattle.codec.specs.FieldReads.{judged, field_at}
 use Rattle.codec.proofs.ReadAfterWrite.{form_read}
@@ -51,15 +48,15 @@ pub then_alike : {A B : Type 0} (first other : Read A) (later last : A → ℕ �
 then_alike {A} {B} (found a next) other later last e h = ap (λ (r : Read A). then r last) e ∙ h a next refl
 then_alike {A} {B} (refused r) other later last e h = ap (λ (r : Read A). then r last) e
 
-pub unless_found : {A : Type 0} (v : Verdict) (later : Read A) (a : A) (next : ℕ) → unless v later ≡ found a next → (v ≡ Accepted) × (later ≡ found a next)
-unless_found Accepted later a next e = (refl, e)
-unless_found (Refused r) later a next e = let z : ◌≡◌ {A = ℕ} 0 1 = cc in absurd (omega arith)
+pub unless_found : {A : Type 0} (v : Verdict) (later : Read A) (a : A) (next : ℕ) → unless v later ≡ found a next → (v ≡ Ok tt) × (later ≡ found a next)
+unless_found (Ok _) later a next e = (refl, e)
+unless_found (Err r) later a next e = let z : ◌≡◌ {A = ℕ} 0 1 = cc in absurd (omega arith)
 
 -- what is found alone has nothing behind it
 pub alone_found : {A : Type 0} (bytes : List ℕ) (a : A) (i : ℕ) (b : A) (next : ℕ) → alone bytes a i ≡ found b next → (a ≡ b) × (i ≡ next) × (length bytes ≤ next)
 alone_found {A} bytes a i b next = cases (ltb i (length bytes)) refl
   where
-    cases : (left : Bool) → ltb i (length bytes) ≡ left → cond left (refused (at bytes_left i)) (found a i) ≡ found b next → (a ≡ b) × (i ≡ next) × (length bytes ≤ next)
+    cases : (left : Bool) → ltb i (length bytes) ≡ left → cond left (refused (at BytesLeft i)) (found a i) ≡ found b next → (a ≡ b) × (i ≡ next) × (length bytes ≤ next)
     cases true h e = let z : ◌≡◌ {A = ℕ} 0 1 = cc in absurd (omega arith)
     cases false h e = let same : i ≡ next = cc in (cc, same, omega (arith, ltb-false i (length bytes) h))
 
@@ -88,7 +85,7 @@ behind bytes start front rest e =
 
 -- ---- a number of a field
 
-judged_found : (refusal : ℕ → Verdict) (r : Read ℕ) (v next : ℕ) → judged refusal r ≡ found v next → (refusal v ≡ Accepted) × (r ≡ found v next)
+judged_found : (refusal : ℕ → Verdict) (r : Read ℕ) (v next : ℕ) → judged refusal r ≡ found v next → (refusal v ≡ Ok tt) × (r ≡ found v next)
 judged_found refusal (found w after) v next e =
     let passed = unless_found (refusal w) (found w after) v next e in
     let value : w ≡ v = cc passed.1 in
@@ -97,7 +94,7 @@ judged_found refusal (refused r) v next e = let z : ◌≡◌ {A = ℕ} 0 1 = cc
 
 -- what a field finds
 pub record Passed (bytes : List ℕ) (start : ℕ) (field : Field) (refusal : ℕ → Verdict) (v next : ℕ) : Type 0 where
-  pub passed : refusal v ≡ Accepted
+  pub passed : refusal v ≡ Ok tt
   pub stands : Stands bytes start next (bytes_of v)
   pub allowed : v ≤ top field
 
@@ -115,7 +112,7 @@ module _ (bytes : List ℕ) (start : ℕ) (field : Field) (refusal : ℕ → Ver
         }
 
     -- what is found passed the checks
-    pub field_checked : field_at bytes start field refusal ≡ found v next → refusal v ≡ Accepted
+    pub field_checked : field_at bytes start field refusal ≡ found v next → refusal v ≡ Ok tt
     unfolding field_at
     field_checked e = (judged_found refusal (number_at bytes start field) v next e).0
 
@@ -125,7 +122,7 @@ module _ (bytes : List ℕ) (start : ℕ) (field : Field) (refusal : ℕ → Ver
     field_number e = (judged_found refusal (number_at bytes start field) v next e).1
 
   -- a form that passes the checks is found
-  pub field_read : (v : ℕ) (rest : List ℕ) → drop start bytes ≡ bytes_of v ++ rest → v ≤ top field → refusal v ≡ Accepted → field_at bytes start field refusal ≡ found v (start + length (bytes_of v))
+  pub field_read : (v : ℕ) (rest : List ℕ) → drop start bytes ≡ bytes_of v ++ rest → v ≤ top field → refusal v ≡ Ok tt → field_at bytes start field refusal ≡ found v (start + length (bytes_of v))
   unfolding field_at
   field_read v rest e h passed =
       let read : number_at bytes start field ≡ found v (start + length (bytes_of v)) =
@@ -136,28 +133,39 @@ module _ (bytes : List ℕ) (start : ℕ) (field : Field) (refusal : ℕ → Ver
 -- ---- from an answer
 
 -- what an answer says was read
-pub answer_number : (r : Read ℕ) (v next : ℕ) → reading.Number v next ≡ reading_of r → r ≡ found v next
-answer_number (found w after) v next e = cc
-answer_number (refused why) v next e = let z : ◌≡◌ {A = ℕ} 0 1 = cc in absurd (omega arith)
+module _ {A : Type 0} where
+  -- what was read, from its answer
+  read_back : Reading A → Read A
+  read_back (Ok here) = found here.value here.next
+  read_back (Err why) = refused why
 
-pub answer_refused : (r : Read ℕ) (why : Refusal) → reading.Refused why ≡ reading_of r → r ≡ refused why
-answer_refused (found w after) why e = let z : ◌≡◌ {A = ℕ} 0 1 = cc in absurd (omega arith)
-answer_refused (refused r) why e = cc
+  read_again : (r : Read A) → read_back (reading_of r) ≡ r
+  unfolding read_back
+  read_again (found value next) = refl
+  read_again (refused why) = refl
 
-module _ (bytes : List ℕ) (start : ℕ) (field : Field) (refusal : ℕ → Verdict) {r : Reading} (read : r ≡ reading_of (number_at bytes start field)) where
+  pub answer_number : (r : Read A) (v : A) (next : ℕ) → answered v next ≡ reading_of r → r ≡ found v next
+  unfolding read_back
+  answer_number r v next e = sym (ap read_back e ∙ read_again r)
+
+  pub answer_refused : (r : Read A) (why : Refusal) → Err why ≡ reading_of r → r ≡ refused why
+  unfolding read_back
+  answer_refused r why e = sym (ap read_back e ∙ read_again r)
+
+module _ (bytes : List ℕ) (start : ℕ) (field : Field) (refusal : ℕ → Verdict) {r : Reading ℕ} (read : r ≡ reading_of (number_at bytes start field)) where
   -- no number
-  pub field_ended : (why : Refusal) → r ≡ reading.Refused why → refused why ≡ field_at bytes start field refusal
+  pub field_ended : (why : Refusal) → r ≡ Err why → refused why ≡ field_at bytes start field refusal
   unfolding field_at
   field_ended why e = sym (ap (judged refusal) (answer_refused (number_at bytes start field) why (sym e ∙ read)))
 
   -- a number that passes the checks
-  pub field_passed : (value next : ℕ) → r ≡ reading.Number value next → refusal value ≡ Accepted → found value next ≡ field_at bytes start field refusal
+  pub field_passed : (value next : ℕ) → r ≡ answered value next → refusal value ≡ Ok tt → found value next ≡ field_at bytes start field refusal
   unfolding field_at
   field_passed value next e passed =
       sym (ap (judged refusal) (answer_number (number_at bytes start field) value next (sym e ∙ read)) ∙ ap (λ (v : Verdict). unless v (found value next)) passed)
 
   -- a number that a check refuses
-  pub field_held : (value next : ℕ) (why : Refusal) → r ≡ reading.Number value next → refusal value ≡ Refused why → refused why ≡ field_at bytes start field refusal
+  pub field_held : (value next : ℕ) (why : Refusal) → r ≡ answered value next → refusal value ≡ Err why → refused why ≡ field_at bytes start field refusal
   unfolding field_at
   field_held value next why e held =
       sym (ap (judged refusal) (answer_number (number_at bytes start field) value next (sym e ∙ read)) ∙ ap (λ (v : Verdict). unless v (found value next)) held)

@@ -12,7 +12,7 @@ use borrow.Author.Tests.{le-ltb, lt-ltb}
 use lib.Dec.{ltb}
 use lib.ListN.{length, take, drop, length-append}
 use lib.Seq.{take-append_seam, take-append-add, drop-append_seam, length-take-le}
-use Rattle.answer.specs.Refusals.{wrong_number}
+use Rattle.answer.specs.declared.Reason.TheVariants.{WrongNumber}
 use Rattle.codec.specs.declared.Field.{Field}
 use Rattle.codec.specs.Reads.{found, refused}
 use Rattle.codec.specs.Fields.{groups, top}
@@ -52,7 +52,7 @@ least_form =
     step v (suc (suc n)) h some ih = omega (arith, ih, pow-succ' 128 (suc n))
 
 -- a form of no more groups than allowed is read as its number, and only its top value can refuse it
-form_within : (most high start total v : ℕ) (rest : List ℕ) → length (bytes_of v) ≤ most → number_in most high (take most (bytes_of v ++ rest)) start total ≡ check (ltb high v) (refused (at wrong_number start)) (found v (start + length (bytes_of v)))
+form_within : (most high start total v : ℕ) (rest : List ℕ) → length (bytes_of v) ≤ most → number_in most high (take most (bytes_of v ++ rest)) start total ≡ check (ltb high v) (refused (at WrongNumber start)) (found v (start + length (bytes_of v)))
 form_within most high start total v rest h =
     let n = length (bytes_of v) in
     let others : List ℕ = take (most - n) rest in
@@ -66,7 +66,7 @@ form_within most high start total v rest h =
     ∙ simp (k, s, take-append_seam, value_form, le-ltb v (least (pred n)) (least_form v))
 
 -- a form of more groups than allowed is refused
-form_over : (most high start total v : ℕ) (rest : List ℕ) → most < length (bytes_of v) → number_in most high (take most (bytes_of v ++ rest)) start total ≡ refused (at wrong_number start)
+form_over : (most high start total v : ℕ) (rest : List ℕ) → most < length (bytes_of v) → number_in most high (take most (bytes_of v ++ rest)) start total ≡ refused (at WrongNumber start)
 form_over most high start total v rest h =
     ends_over most high start total (take most (bytes_of v ++ rest))
     (carried_take most (bytes_of v ++ rest) (omega (arith, carried_form rest v)))
@@ -80,7 +80,7 @@ groups_over : (field : Field) (v : ℕ) → groups field < length (bytes_of v) �
 groups_over field v h = ⊎_elim (λ l. l) (λ l. absurd (omega (arith, form_groups field v l))) (below_or_above (top field) v)
 
 -- what is read where a number's form stands: the number, up to the field's top value, and 22 at its first byte above it
-pub form_read : (bytes : List ℕ) (start : ℕ) (field : Field) (v : ℕ) (rest : List ℕ) → drop start bytes ≡ bytes_of v ++ rest → number_at bytes start field ≡ check (ltb (top field) v) (refused (at wrong_number start)) (found v (start + length (bytes_of v)))
+pub form_read : (bytes : List ℕ) (start : ℕ) (field : Field) (v : ℕ) (rest : List ℕ) → drop start bytes ≡ bytes_of v ++ rest → number_at bytes start field ≡ check (ltb (top field) v) (refused (at WrongNumber start)) (found v (start + length (bytes_of v)))
 unfolding number_at
 form_read bytes start field v rest e =
     ap (λ (w : List ℕ). number_in (groups field) (top field) (take (groups field) w) start (length bytes)) e
@@ -99,7 +99,7 @@ read_written field v front rest h =
     form_read (front ++ bytes_of v ++ rest) (length front) field v rest (behind front (bytes_of v) rest) ∙ simp (le-ltb (top field) v h)
 
 -- a number over the field's top value is refused by 22 at its first byte
-pub read_over : (field : Field) (v : ℕ) (front rest : List ℕ) → top field < v → number_at (front ++ bytes_of v ++ rest) (length front) field ≡ refused (at wrong_number (length front))
+pub read_over : (field : Field) (v : ℕ) (front rest : List ℕ) → top field < v → number_at (front ++ bytes_of v ++ rest) (length front) field ≡ refused (at WrongNumber (length front))
 read_over field v front rest h =
     form_read (front ++ bytes_of v ++ rest) (length front) field v rest (behind front (bytes_of v) rest) ∙ simp (lt-ltb (top field) v h)
 

@@ -10,7 +10,7 @@ use native.Mathlib.Omega.{arith}
 use borrow.Author.Tests.{lt-leb, le-leb, ne_eqb, eq-eqb}
 use lib.ListN.{length, take, length-append}
 use lib.Seq.{take-append-add}
-use Rattle.answer.specs.Refusals.{end_of_bytes, wrong_number}
+use Rattle.answer.specs.declared.Reason.TheVariants.{EndOfBytes, WrongNumber}
 use Rattle.answer.specs.Outcome.{at}
 use Rattle.codec.specs.Reads.{refused}
 use Rattle.codec.specs.Reading.{carried, value_of, least, ended, number_in}
@@ -23,12 +23,12 @@ found_last most high start total window m l = simp (ne_eqb (carried window) most
 
 module _ (most high start total : ℕ) (front : List ℕ) (carries : carried front ≡ length front) where
   -- every allowed byte has bit 7 set
-  pub ends_over : length front ≡ most → number_in most high front start total ≡ refused (at wrong_number start)
+  pub ends_over : length front ≡ most → number_in most high front start total ≡ refused (at WrongNumber start)
   unfolding number_in
   ends_over h = simp (eq-eqb (carried front) most (carries ∙ h))
 
   -- the input ends before the number does
-  pub ends_short : length front < most → number_in most high front start total ≡ refused (at end_of_bytes total)
+  pub ends_short : length front < most → number_in most high front start total ≡ refused (at EndOfBytes total)
   unfolding number_in
   ends_short h = simp (ne_eqb (carried front) most (omega arith), le-leb (length front) (carried front) (omega arith))
 

@@ -9,7 +9,7 @@ use native.Mathlib.Numerals.{add-one}
 use native.Mathlib.Omega.{arith}
 use lib.ListN.{length, get_or, take, drop, length-append, length-drop, drop_of_length-le}
 use lib.Seq.{take-suc, take-add, take-nil, get_or-drop, drop-drop, drop-cons}
-use Rattle.answer.specs.Refusals.{end_of_bytes, wrong_number}
+use Rattle.answer.specs.declared.Reason.TheVariants.{EndOfBytes, WrongNumber}
 use Rattle.codec.specs.declared.Field.{Field}
 use Rattle.codec.specs.Fields.{groups, top}
 use Rattle.answer.specs.Outcome.{at}
@@ -118,13 +118,13 @@ module _ {bytes : List ℕ} {start most left value weight low next : ℕ} (walke
   alone e = window [] e ∙ ap (λ (w : List ℕ). number_in most (top field) w start (length bytes)) (append-nil (so_far bytes start next))
 
   -- no group is left
-  pub walked_over : left ≡ 0 → number_at bytes start field ≡ refused (at wrong_number start)
+  pub walked_over : left ≡ 0 → number_at bytes start field ≡ refused (at WrongNumber start)
   walked_over none =
       alone (ap (λ (k : ℕ). take k (drop next bytes)) none)
       ∙ ends_over most (top field) start (length bytes) (so_far bytes start next) walked.carries (omega arith)
 
   -- no byte is left
-  pub walked_short : 1 ≤ left → length bytes ≤ next → number_at bytes start field ≡ refused (at end_of_bytes (length bytes))
+  pub walked_short : 1 ≤ left → length bytes ≤ next → number_at bytes start field ≡ refused (at EndOfBytes (length bytes))
   walked_short some over =
       alone (ap (take left) (drop_of_length-le bytes over) ∙ take-nil left)
       ∙ ends_short most (top field) start (length bytes) (so_far bytes start next) walked.carries (omega arith)

@@ -6,10 +6,9 @@ use mathlib.Core.List.{List, [], ◌∷◌, ◌++◌}
 use Prim.Native.Nat.{ℕ, zero, suc, ◌≤◌}
 use borrow.Author.Tests.{eq-eqb}
 use lib.ListN.{length, take, drop}
-use Rattle.answer.specs.Refusals.{wrong_number}
-use Rattle.answer.specs.Outcome.{at}
-use Rattle.answer.specs.declared.Verdict.{Verdict}
-use Rattle.answer.specs.declared.Verdict.TheVariants.{Accepted}
+use Rattle.std.specs.Prelude.{Ok}
+use Rattle.answer.specs.declared.Reason.TheVariants.{WrongNumber}
+use Rattle.answer.specs.Outcome.{at, Verdict}
 use Rattle.codec.specs.declared.Field.{Field}
 use Rattle.codec.specs.declared.Field.TheVariants.{Count, PartNumber, Set, Sheet}
 use Rattle.codec.specs.Fields.{groups, top}
@@ -29,13 +28,13 @@ groups_of_top Set = refl
 groups_of_top Sheet = refl
 
 -- where all bytes that a number may take have bit 7 set it is 22, also where the input ends behind them, whatever the field
-pub all_carried : (bytes : List ℕ) (start : ℕ) (field : Field) → carried (take (groups field) (drop start bytes)) ≡ groups field → number_at bytes start field ≡ refused (at wrong_number start)
+pub all_carried : (bytes : List ℕ) (start : ℕ) (field : Field) → carried (take (groups field) (drop start bytes)) ≡ groups field → number_at bytes start field ≡ refused (at WrongNumber start)
 unfolding number_at number_in
 all_carried bytes start field e = simp (eq-eqb (carried (take (groups field) (drop start bytes))) (groups field) e)
 
 module _ (bytes : List ℕ) (small : Bytes bytes) (field other : Field) where
   -- one number
-  pub field_other : (start : ℕ) (refusal also : ℕ → Verdict) (v next : ℕ) → (v ≤ top field → refusal v ≡ Accepted → (v ≤ top other) × (also v ≡ Accepted))
+  pub field_other : (start : ℕ) (refusal also : ℕ → Verdict) (v next : ℕ) → (v ≤ top field → refusal v ≡ Ok tt → (v ≤ top other) × (also v ≡ Ok tt))
       → field_at bytes start field refusal ≡ found v next → field_at bytes start other also ≡ found v next
   field_other start refusal also v next passes e =
       let f = field_found bytes start field refusal v next small e in
@@ -43,7 +42,7 @@ module _ (bytes : List ℕ) (small : Bytes bytes) (field other : Field) where
       field_read bytes start other also v (drop next bytes) f.stands.stands p.0 p.1 ∙ ap (found v) (sym f.stands.position)
 
   -- numbers one after the other
-  pub fields_other : (judge also : Judge) → ((earlier : List ℕ) (place v : ℕ) → v ≤ top field → judge earlier place v ≡ Accepted → (v ≤ top other) × (also earlier place v ≡ Accepted))
+  pub fields_other : (judge also : Judge) → ((earlier : List ℕ) (place v : ℕ) → v ≤ top field → judge earlier place v ≡ Ok tt → (v ≤ top other) × (also earlier place v ≡ Ok tt))
       → (more : ℕ) (earlier : List ℕ) (start : ℕ) (numbers : List ℕ) (end : ℕ) → fields_at bytes field judge more earlier start ≡ found numbers end
       → fields_at bytes other also more earlier start ≡ found numbers end
   unfolding fields_at

@@ -12,11 +12,11 @@ use borrow.Author.Tests.{leb-true, eq-eqb}
 use lib.Dec.{leb, ltb, eqb}
 use lib.ListN.{length, take, drop, length-drop}
 use lib.Seq.{length-take-le, take-take}
-use Rattle.answer.specs.Refusals.{end_of_bytes, wrong_number}
-use Rattle.answer.specs.Outcome.{at}
+use Rattle.std.specs.Prelude.{Ok}
+use Rattle.answer.specs.Refusals.{number_of}
+use Rattle.answer.specs.declared.Reason.TheVariants.{EndOfBytes, WrongNumber}
+use Rattle.answer.specs.Outcome.{at, Verdict}
 use Rattle.answer.specs.declared.Refusal.{Refusal}
-use Rattle.answer.specs.declared.Verdict.{Verdict}
-use Rattle.answer.specs.declared.Verdict.TheVariants.{Accepted}
 use Rattle.numbers.proofs.Bools.{clash}
 use Rattle.codec.specs.declared.Field.{Field}
 use Rattle.codec.specs.ByteForm.{bytes_of}
@@ -29,31 +29,31 @@ use Rattle.codec.specs.Bytes.{Bytes}
 use Rattle.codec.proofs.Found.{then_found, then_alike, field_found}
 
 -- the input's length is asked for by 21 alone
-total_only : (over short : Bool) (first later : Read ℕ) (total other : ℕ) → (check over first (check short (refused (at end_of_bytes total)) later) ≡ refused (at end_of_bytes total) → ⊥) → check over first (check short (refused (at end_of_bytes other)) later) ≡ check over first (check short (refused (at end_of_bytes total)) later)
+total_only : (over short : Bool) (first later : Read ℕ) (total other : ℕ) → (check over first (check short (refused (at EndOfBytes total)) later) ≡ refused (at EndOfBytes total) → ⊥) → check over first (check short (refused (at EndOfBytes other)) later) ≡ check over first (check short (refused (at EndOfBytes total)) later)
 total_only true short first later total other h = refl
 total_only false true first later total other h = absurd (h refl)
 total_only false false first later total other h = refl
 
 -- inputs that agree on the groups from a position on, and whose first is not refused by 21, are read alike there
-pub read_alike : (bytes other : List ℕ) (start : ℕ) (field : Field) → take (groups field) (drop start bytes) ≡ take (groups field) (drop start other) → (number_at bytes start field ≡ refused (at end_of_bytes (length bytes)) → ⊥) → number_at other start field ≡ number_at bytes start field
+pub read_alike : (bytes other : List ℕ) (start : ℕ) (field : Field) → take (groups field) (drop start bytes) ≡ take (groups field) (drop start other) → (number_at bytes start field ≡ refused (at EndOfBytes (length bytes)) → ⊥) → number_at other start field ≡ number_at bytes start field
 unfolding number_at number_in
 read_alike bytes other start field same h =
     let window : List ℕ = take (groups field) (drop start bytes) in
     let k : ℕ = carried window in
     ap (λ (w : List ℕ). number_in (groups field) (top field) w start (length other)) (sym same)
-    ∙ total_only (eqb k (groups field)) (leb (length window) k) (refused (at wrong_number start))
+    ∙ total_only (eqb k (groups field)) (leb (length window) k) (refused (at WrongNumber start))
     (ended (value_of (take (suc k) window)) (least k) (top field) start (start + suc k))
     (length bytes) (length other) h
 
 -- 22 is not 21
-not_short : (place total : ℕ) → ◌≡◌ {A = Read ℕ} (refused (at wrong_number place)) (refused (at end_of_bytes total)) → ⊥
+not_short : (place total : ℕ) → ◌≡◌ {A = Read ℕ} (refused (at WrongNumber place)) (refused (at EndOfBytes total)) → ⊥
 not_short place total e =
-    let one : at wrong_number place ≡ at end_of_bytes total = cc in
-    let number : ◌≡◌ {A = ℕ} wrong_number end_of_bytes = ap (λ (r : Refusal). r.number) one in
+    let one : at WrongNumber place ≡ at EndOfBytes total = cc in
+    let number : ◌≡◌ {A = ℕ} 22 21 = ap (λ (r : Refusal). number_of r.reason) one in
     omega arith
 
 -- so 22 stays 22 whatever follows the number's groups
-pub wrong_alike : (bytes other : List ℕ) (start : ℕ) (field : Field) → take (groups field) (drop start bytes) ≡ take (groups field) (drop start other) → number_at bytes start field ≡ refused (at wrong_number start) → number_at other start field ≡ refused (at wrong_number start)
+pub wrong_alike : (bytes other : List ℕ) (start : ℕ) (field : Field) → take (groups field) (drop start bytes) ≡ take (groups field) (drop start other) → number_at bytes start field ≡ refused (at WrongNumber start) → number_at other start field ≡ refused (at WrongNumber start)
 wrong_alike bytes other start field same wrong = read_alike bytes other start field same (λ short. not_short start (length bytes) (sym wrong ∙ short)) ∙ wrong
 
 -- ---- what 21 needs
@@ -66,22 +66,22 @@ carried_few (byte ∷ bytes) = step (ltb byte 128) (carried_few bytes)
     step true h = omega arith
     step false h = omega arith
 
-ended_not_short : (value low high start next total : ℕ) → ended value low high start next ≡ refused (at end_of_bytes total) → ⊥
+ended_not_short : (value low high start next total : ℕ) → ended value low high start next ≡ refused (at EndOfBytes total) → ⊥
 ended_not_short value low high start next total = cases (ltb value low) (ltb high value)
   where
-    cases : (long large : Bool) → check long (refused (at wrong_number start)) (check large (refused (at wrong_number start)) (found value next)) ≡ refused (at end_of_bytes total) → ⊥
+    cases : (long large : Bool) → check long (refused (at WrongNumber start)) (check large (refused (at WrongNumber start)) (found value next)) ≡ refused (at EndOfBytes total) → ⊥
     cases true large e = not_short start total e
     cases false true e = not_short start total e
     cases false false e = let z : ◌≡◌ {A = ℕ} 0 1 = cc in omega arith
 
 checked_not_short : (over short : Bool) (start total value low high next : ℕ) → (over ≡ false → short ≡ true → ⊥)
-    → check over (refused (at wrong_number start)) (check short (refused (at end_of_bytes total)) (ended value low high start next)) ≡ refused (at end_of_bytes total) → ⊥
+    → check over (refused (at WrongNumber start)) (check short (refused (at EndOfBytes total)) (ended value low high start next)) ≡ refused (at EndOfBytes total) → ⊥
 checked_not_short true short start total value low high next h e = not_short start total e
 checked_not_short false true start total value low high next h e = h refl refl
 checked_not_short false false start total value low high next h e = ended_not_short value low high start next total e
 
 -- a number never ends the input where there are bytes for all its groups
-never_short : (bytes : List ℕ) (start : ℕ) (field : Field) → start + groups field ≤ length bytes → number_at bytes start field ≡ refused (at end_of_bytes (length bytes)) → ⊥
+never_short : (bytes : List ℕ) (start : ℕ) (field : Field) → start + groups field ≤ length bytes → number_at bytes start field ≡ refused (at EndOfBytes (length bytes)) → ⊥
 unfolding number_at number_in
 never_short bytes start field h =
     let window : List ℕ = take (groups field) (drop start bytes) in
@@ -115,7 +115,7 @@ field_next bytes small start field refusal v next e =
 
 -- a judge passes no number of more bytes
 abbrev pub NoneLonger : Field → Judge → ℕ → Type 0
-NoneLonger field judge width = (earlier : List ℕ) (place number : ℕ) → judge earlier place number ≡ Accepted → number ≤ top field → length (bytes_of number) ≤ width
+NoneLonger field judge width = (earlier : List ℕ) (place number : ℕ) → judge earlier place number ≡ Ok tt → number ≤ top field → length (bytes_of number) ≤ width
 
 -- what a field allows is no longer than its groups
 pub none_longer : (field : Field) (judge : Judge) → NoneLonger field judge (groups field)

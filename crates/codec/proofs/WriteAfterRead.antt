@@ -12,7 +12,8 @@ use borrow.Author.Tests.{leb-false, ltb-false}
 use lib.Dec.{ltb, leb, eqb}
 use lib.ListN.{length, take, drop, take-append-drop, length-take, length-drop, get_or-eq_default}
 use lib.Seq.{take-take, drop-drop, get_or-take, get_or-drop, length-take-le, take-append_seam}
-use Rattle.answer.specs.Refusals.{end_of_bytes, wrong_number}
+use Rattle.answer.specs.declared.Reason.{Reason}
+use Rattle.answer.specs.declared.Reason.TheVariants.{EndOfBytes, WrongNumber}
 use Rattle.codec.specs.Bytes.{Bytes}
 use Rattle.codec.specs.declared.Field.{Field}
 use Rattle.codec.specs.Reads.{Read, found, refused}
@@ -40,19 +41,19 @@ least_le zero = omega arith
 least_le (suc more) = omega arith
 
 -- a number is given only where a check does not refuse
-check_passed : (test : Bool) (number place : ℕ) (later : Read ℕ) (v next : ℕ) → check test (refused (at number place)) later ≡ found v next → (test ≡ false) × (later ≡ found v next)
-check_passed true number place later v next e = let z : ◌≡◌ {A = ℕ} 0 1 = cc in absurd (omega arith)
-check_passed false number place later v next e = (refl, e)
+check_passed : (test : Bool) (reason : Reason) (place : ℕ) (later : Read ℕ) (v next : ℕ) → check test (refused (at reason place)) later ≡ found v next → (test ≡ false) × (later ≡ found v next)
+check_passed true reason place later v next e = let z : ◌≡◌ {A = ℕ} 0 1 = cc in absurd (omega arith)
+check_passed false reason place later v next e = (refl, e)
 
 accepted : (most high start total : ℕ) (window : List ℕ) (v next : ℕ) → number_in most high window start total ≡ found v next → Accepted high start window v next
 unfolding number_in
 accepted most high start total window v next e =
     let k = carried window in
     let value = value_of (take (suc k) window) in
-    let over = check_passed (eqb k most) wrong_number start _ v next e in
-    let short = check_passed (leb (length window) k) end_of_bytes total _ v next over.1 in
-    let long = check_passed (ltb value (least k)) wrong_number start _ v next short.1 in
-    let large = check_passed (ltb high value) wrong_number start _ v next long.1 in
+    let over = check_passed (eqb k most) WrongNumber start _ v next e in
+    let short = check_passed (leb (length window) k) EndOfBytes total _ v next over.1 in
+    let long = check_passed (ltb value (least k)) WrongNumber start _ v next short.1 in
+    let large = check_passed (ltb high value) WrongNumber start _ v next long.1 in
     let given = large.1 in
     let same : value ≡ v = cc given in
     record {

@@ -1,7 +1,6 @@
 -- Numbers of a field, each judged as it is read (01, "Records on disk"): one, and so many one after the other.
-use Rattle.std.specs.Prelude.{List, [], ◌∷◌, ◌++◌, ℕ, zero, suc}
-use Rattle.answer.specs.declared.Verdict.{Verdict}
-use Rattle.answer.specs.declared.Verdict.TheVariants.{Accepted}
+use Rattle.answer.specs.Outcome.{Verdict}
+use Rattle.std.specs.Prelude.{List, [], ◌∷◌, ◌++◌, ℕ, zero, suc, Ok}
 use Rattle.codec.specs.Reads.{Read, found, refused, then, unless}
 use Rattle.codec.specs.Reading.{number_at}
 use Rattle.codec.specs.declared.Field.{Field}
@@ -21,7 +20,7 @@ Judge = List ℕ → ℕ → ℕ → Verdict
 
 -- no check of its own
 abbrev pub any_number : Judge
-any_number earlier place number = Accepted
+any_number earlier place number = (Ok tt)
 
 -- so many numbers of a field more, behind the earlier ones
 unfoldable pub fields_at : List ℕ → Field → Judge → ℕ → List ℕ → ℕ → Read (List ℕ)

@@ -1,6 +1,6 @@
 -- What reading a number at a position finds (01, "Records on disk", and refusals 21 and 22).
 use Rattle.std.specs.Prelude.{Bool, true, false, cond, List, [], ◌∷◌, ℕ, zero, suc, ◌+◌, ◌*◌, ◌%◌, ◌^◌, leb, ltb, eqb, length, take, drop}
-use Rattle.answer.specs.Refusals.{end_of_bytes, wrong_number}
+use Rattle.answer.specs.declared.Reason.TheVariants.{EndOfBytes, WrongNumber}
 use Rattle.answer.specs.Outcome.{at}
 use Rattle.codec.specs.Fields.{groups, top}
 use Rattle.codec.specs.declared.Field.{Field}
@@ -29,14 +29,14 @@ check false refusal later = later
 -- a number whose last byte is found: 22 where it is not shortest, or over its top value
 abbrev pub ended : ℕ → ℕ → ℕ → ℕ → ℕ → Read ℕ
 ended value low high start next =
-    check (ltb value low) (refused (at wrong_number start)) (check (ltb high value) (refused (at wrong_number start)) (found value next))
+    check (ltb value low) (refused (at WrongNumber start)) (check (ltb high value) (refused (at WrongNumber start)) (found value next))
 
 -- The number of at most `most` groups, and `high` at most, in front of `window`: the bytes from its first on, `most` of them or fewer
 -- where the input ends. 22 where the last allowed byte has bit 7 set, 21 where the bytes end before the number does.
 unfoldable pub number_in : ℕ → ℕ → List ℕ → ℕ → ℕ → Read ℕ
 number_in most high window start total =
-    check (eqb (carried window) most) (refused (at wrong_number start))
-    (check (leb (length window) (carried window)) (refused (at end_of_bytes total))
+    check (eqb (carried window) most) (refused (at WrongNumber start))
+    (check (leb (length window) (carried window)) (refused (at EndOfBytes total))
     (ended (value_of (take (suc (carried window)) window)) (least (carried window)) high start (start + suc (carried window))))
 
 -- the number of a field whose first byte is at that position

@@ -1,12 +1,9 @@
 -- What stands at bytes from a position on: something, with the position after it, or a refusal. Places are counted in the whole input.
-use Rattle.std.specs.Prelude.{cond, List, ℕ, ltb, length}
-use Rattle.answer.specs.Refusals.{bytes_left}
-use Rattle.answer.specs.Outcome.{at}
+use Rattle.std.specs.Prelude.{Result, cond, List, ℕ, ltb, length, Ok, Err}
+use Rattle.answer.specs.declared.Reason.TheVariants.{BytesLeft}
+use Rattle.answer.specs.Outcome.{at, Verdict}
 use Rattle.answer.specs.declared.Refusal.{Refusal}
-use Rattle.answer.specs.declared.Verdict.{Verdict}
-use Rattle.answer.specs.declared.Verdict.TheVariants as verdict
-use Rattle.codec.specs.declared.Reading.{Reading}
-use Rattle.codec.specs.declared.Reading.TheVariants.{Number, Refused}
+use Rattle.codec.specs.declared.Standing.{Standing}
 
 pub data Read (A : Type 0) : Type 0 where
   found : A → ℕ → Read A
@@ -19,14 +16,20 @@ then (refused refusal) later = refused refusal
 
 -- a verdict on what is read, before what comes later
 abbrev pub unless : {A : Type 0} → Verdict → Read A → Read A
-unless (verdict.Refused refusal) later = refused refusal
-unless verdict.Accepted later = later
+unless (Err refusal) later = refused refusal
+unless (Ok _) later = later
 
 -- 25 at the first byte that is left
 abbrev pub alone : {A : Type 0} → List ℕ → A → ℕ → Read A
-alone bytes value next = cond (ltb next (length bytes)) (refused (at bytes_left next)) (found value next)
+alone bytes value next = cond (ltb next (length bytes)) (refused (at BytesLeft next)) (found value next)
 
--- How a number that is read is answered: its value and the position after it, or the refusal with its number and its place.
-abbrev pub reading_of : Read ℕ → Reading
-reading_of (found value next) = Number value next
-reading_of (refused refusal) = Refused refusal
+-- How what is read is answered: its value and the position after it, or the refusal.
+abbrev pub Reading : Type 0 → Type 0
+Reading A = Result (Standing A) Refusal
+
+abbrev pub answered : {A : Type 0} → A → ℕ → Reading A
+answered value next = Ok (record { value = value; next = next })
+
+abbrev pub reading_of : {A : Type 0} → Read A → Reading A
+reading_of (found value next) = answered value next
+reading_of (refused refusal) = Err refusal

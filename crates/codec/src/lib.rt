@@ -10,7 +10,7 @@ ghost use Rattle.codec.specs.ByteForm.{bytes_of};
 ghost use Rattle.codec.specs.Reads.{reading_of};
 ghost use Rattle.codec.specs.Reading.{number_at, ended};
 
-use answer::Refusal;
+use answer::{Reason, Refusal};
 
 // What a number is read for: its field says how large it may be, and how many groups it may take.
 #[derive(Clone, Copy)]
@@ -25,11 +25,11 @@ pub enum Field {
     Sheet,
 }
 
-// What reading a number finds: its value and the position after it, or why there is none.
+// What stands at a position, and the position after it.
 #[derive(Clone, Copy)]
-pub enum Reading {
-    Number { value: u64, next: usize },
-    Refused(Refusal),
+pub struct Standing<T> {
+    pub value: T,
+    pub next: usize,
 }
 
 impl Field {
@@ -59,7 +59,7 @@ impl Field {
 }
 
 // The number whose first byte is at that position, as the field allows it.
-pub fn read_number(bytes: &[u8], at: usize, field: Field) -> Reading
+pub fn read_number(bytes: &[u8], at: usize, field: Field) -> Result<Standing<u64>, Refusal>
     ensures { result ≡ reading_of (number_at bytes.now at field) }
 {
     let top = field.top();
@@ -71,7 +71,7 @@ pub fn read_number(bytes: &[u8], at: usize, field: Field) -> Reading
     let mut next = at;
     while 0 < left {
         if bytes.len() <= next {
-            return refused(answer::END_OF_BYTES, bytes.len());
+            return Err(Reason::EndOfBytes.at(bytes.len()));
         }
         let byte = wide(bytes[next]);
         next += 1;
@@ -83,7 +83,7 @@ pub fn read_number(bytes: &[u8], at: usize, field: Field) -> Reading
         least = weight;
         left -= 1;
     }
-    refused(answer::WRONG_NUMBER, at)
+    Err(Reason::WrongNumber.at(at))
 }
 
 // How many bytes a number takes.
@@ -114,23 +114,16 @@ pub fn write_number(buffer: &mut [u8], at: usize, value: u64) -> usize
 }
 
 // The answer for a number whose last byte is read: 22 where it is below the least number of as many groups, or over its top value.
-fn ended(value: u64, least: u64, top: u64, start: usize, next: usize) -> Reading
+fn ended(value: u64, least: u64, top: u64, start: usize, next: usize) -> Result<Standing<u64>, Refusal>
     ensures { result ≡ reading_of (ended value least top start next) }
 {
     if value < least {
-        return refused(answer::WRONG_NUMBER, start);
+        return Err(Reason::WrongNumber.at(start));
     }
     if top < value {
-        return refused(answer::WRONG_NUMBER, start);
+        return Err(Reason::WrongNumber.at(start));
     }
-    Reading::Number { value, next }
-}
-
-// The answer where a check refuses.
-pub fn refused(number: u8, place: usize) -> Reading
-    ensures { result ≡ Reading.Refused (at number place) }
-{
-    Reading::Refused(Refusal { number, place })
+    Ok(Standing { value, next })
 }
 
 // A byte as a number of 64 bits.

@@ -6,7 +6,7 @@ use mathlib.Core.List.{List, [], ◌∷◌, ◌++◌}
 use Prim.Native.Nat.{ℕ, ◌+◌, ◌≤◌, ◌<◌}
 use native.Mathlib.Omega.{arith}
 use lib.ListN.{length, get_or, take, drop, length-append}
-use Rattle.answer.specs.Refusals.{unknown_position, wrong_line, repeated_position}
+use Rattle.answer.specs.declared.Reason.TheVariants.{UnknownPosition, WrongLine, RepeatedPosition}
 use Rattle.text.specs.Texts.{decimal}
 use Rattle.record_lines.specs.Changes.{every}
 use Rattle.drawing_text.specs.Lines.{line_feed, first_line}
@@ -82,45 +82,45 @@ module _ (text : List ℕ) (start n : ℕ) where
   Says l = l ≡ set_line_of n (first_line (drop start text)) start
 
   -- no line of the form stands there
-  no_line : ((all more : List ℕ) → 1 ≤ length all → drop start text ≡ set_word ++ (spaced all ++ line_feed ∷ more) → ⊥) → Says (line.Refused wrong_line)
+  no_line : ((all more : List ℕ) → 1 ≤ length all → drop start text ≡ set_word ++ (spaced all ++ line_feed ∷ more) → ⊥) → Says (line.Refused WrongLine)
   no_line none =
-      ap (λ (t : Bool). refuse_line (not t) wrong_line (rest (first_line (drop start text))))
+      ap (λ (t : Bool). refuse_line (not t) WrongLine (rest (first_line (drop start text))))
       (sym (no_set_line (drop start text) (λ all more some e. none all more some (e ∙ line_shown set_word all more))))
     where
       rest : List ℕ → Line
       rest bytes =
-          refuse_line (not (every (within n) (numbers_in bytes))) unknown_position
-          (refuse_line (repeated (numbers_in bytes)) repeated_position (line.Set (set_of (numbers_in bytes)) (start + length bytes)))
+          refuse_line (not (every (within n) (numbers_in bytes))) UnknownPosition
+          (refuse_line (repeated (numbers_in bytes)) RepeatedPosition (line.Set (set_of (numbers_in bytes)) (start + length bytes)))
 
-  pub set_no_keyword : same_bytes (take (length set_word) (drop start text)) set_word ≡ false → Says (line.Refused wrong_line)
+  pub set_no_keyword : same_bytes (take (length set_word) (drop start text)) set_word ≡ false → Says (line.Refused WrongLine)
   set_no_keyword h = no_line (λ all more some e. keyword_missing set_word text start h (spaced all ++ line_feed ∷ more) e)
 
   module _ {next : ℕ} {numbers : List ℕ} (s : Shown set_word text start next numbers) where
-    pub set_no_number : get_or text next 0 ≡ space → Malformed ≡ numeral_at (drop (next + 1) text) (next + 1) → Says (line.Refused wrong_line)
+    pub set_no_number : get_or text next 0 ≡ space → Malformed ≡ numeral_at (drop (next + 1) text) (next + 1) → Says (line.Refused WrongLine)
     set_no_number byte none = no_line (λ all more some e. no_number s all more e byte none)
 
     -- the keyword alone
-    pub set_no_position : next ≡ start + 3 → (get_or text next 0 ≡ space → ⊥) → Says (line.Refused wrong_line)
+    pub set_no_position : next ≡ start + 3 → (get_or text next 0 ≡ space → ⊥) → Says (line.Refused WrongLine)
     set_no_position h byte = no_line (λ all more some e. empty numbers all (omega (arith, h, s.ends)) some (no_space s all more e byte).0)
       where
         empty : (numbers all : List ℕ) → length (spaced numbers) ≡ 0 → 1 ≤ length all → all ≡ numbers → ⊥
         empty [] all h some e = omega (arith, ap length e, some)
         empty (number ∷ numbers) all h some e = spaced_some number numbers h
 
-    pub set_no_end : (get_or text next 0 ≡ space → ⊥) → (get_or text next 0 ≡ line_feed → ⊥) → Says (line.Refused wrong_line)
+    pub set_no_end : (get_or text next 0 ≡ space → ⊥) → (get_or text next 0 ≡ line_feed → ⊥) → Says (line.Refused WrongLine)
     set_no_end byte other = no_line (λ all more some e. other (no_space s all more e byte).1)
 
     pub set_read : n ≤ 16 → (next ≡ start + 3 → ⊥) → get_or text next 0 ≡ line_feed → {g : Gathered} → Gathers n numbers g → Says (gathered_line g (next + 1))
     set_read few some byte gathers =
         gathers_line few gathers (next + 1)
         ∙ ap₂ (λ (t : Bool) (positions : List ℕ).
-        refuse_line (not t) wrong_line
-        (refuse_line (not (every (within n) positions)) unknown_position (refuse_line (repeated positions) repeated_position (line.Set (set_of positions) (next + 1)))))
+        refuse_line (not t) WrongLine
+        (refuse_line (not (every (within n) positions)) UnknownPosition (refuse_line (repeated positions) RepeatedPosition (line.Set (set_of positions) (next + 1)))))
         (sym ((set_line_exactly (line_of set_word numbers)).1 (numbers, one numbers refl, refl))) (sym (set_line_numbers numbers))
         ∙ ap (λ (end : ℕ).
-        refuse_line (not (is_set_line (line_of set_word numbers))) wrong_line
-        (refuse_line (not (every (within n) (numbers_in (line_of set_word numbers)))) unknown_position
-        (refuse_line (repeated (numbers_in (line_of set_word numbers))) repeated_position (line.Set (set_of (numbers_in (line_of set_word numbers))) end)))) (line_length s)
+        refuse_line (not (is_set_line (line_of set_word numbers))) WrongLine
+        (refuse_line (not (every (within n) (numbers_in (line_of set_word numbers)))) UnknownPosition
+        (refuse_line (repeated (numbers_in (line_of set_word numbers))) RepeatedPosition (line.Set (set_of (numbers_in (line_of set_word numbers))) end)))) (line_length s)
         ∙ ap (λ (bytes : List ℕ). set_line_of n bytes start) (sym (ap first_line (whole_line s byte) ∙ set_line_first numbers (drop (next + 1) text)))
       where
         one : (positions : List ℕ) → numbers ≡ positions → 1 ≤ length positions

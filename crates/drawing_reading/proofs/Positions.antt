@@ -12,7 +12,7 @@ use lib.Pow.{pow_mono, pow_pos}
 use borrow.Author.Tests.{le-leb, lt-leb, eqb-true, eq-eqb, ne_eqb}
 use Rattle.numbers.proofs.Bools.{or_false, or_true, clash}
 use Rattle.numbers.proofs.Bounds.{below_or_above}
-use Rattle.answer.specs.Refusals.{unknown_position, repeated_position}
+use Rattle.answer.specs.declared.Reason.TheVariants.{UnknownPosition, RepeatedPosition}
 use Rattle.theory_sets.specs.Masks.{has}
 use Rattle.theory_sets.proofs.Masks.{has_add, add_below}
 use Rattle.theory_sets.proofs.Tables.{packed_unique}
@@ -192,13 +192,13 @@ module _ {n : ℕ} {positions : List ℕ} {g : Gathered} (few : n ≤ 16) (w : G
 
   -- the line is refused, or has its set, as the positions say
   pub gathers_line : (next : ℕ) → gathered_line g next
-      ≡ refuse_line (not (every (within n) positions)) unknown_position (refuse_line (repeated positions) repeated_position (line.Set (set_of positions) next))
+      ≡ refuse_line (not (every (within n) positions)) UnknownPosition (refuse_line (repeated positions) RepeatedPosition (line.Set (set_of positions) next))
   gathers_line next =
-      ap (λ (t : Bool). refuse_line t unknown_position (refuse_line g.repeated repeated_position (line.Set g.set next))) w.unknown
+      ap (λ (t : Bool). refuse_line t UnknownPosition (refuse_line g.repeated RepeatedPosition (line.Set g.set next))) w.unknown
       ∙ rest (not (every (within n) positions)) (λ e. (w.repeats (w.unknown ∙ e), gathers_set (w.unknown ∙ e)))
     where
       rest : (t : Bool) → (t ≡ false → (g.repeated ≡ repeated positions) × (g.set ≡ set_of positions))
-          → refuse_line t unknown_position (refuse_line g.repeated repeated_position (line.Set g.set next))
-          ≡ refuse_line t unknown_position (refuse_line (repeated positions) repeated_position (line.Set (set_of positions) next))
+          → refuse_line t UnknownPosition (refuse_line g.repeated RepeatedPosition (line.Set g.set next))
+          ≡ refuse_line t UnknownPosition (refuse_line (repeated positions) RepeatedPosition (line.Set (set_of positions) next))
       rest true h = refl
-      rest false h = ap₂ (λ (t : Bool) (set : ℕ). refuse_line t repeated_position (line.Set set next)) (h refl).0 (h refl).1
+      rest false h = ap₂ (λ (t : Bool) (set : ℕ). refuse_line t RepeatedPosition (line.Set set next)) (h refl).0 (h refl).1

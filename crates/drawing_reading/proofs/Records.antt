@@ -6,11 +6,9 @@ use Prim.Native.Nat.{ℕ, ◌≤◌}
 use native.Mathlib.Omega.{arith}
 use lib.ListN.{length, take, drop, replicate, length-append}
 use lib.Seq.{take-append_seam}
-use Rattle.answer.specs.Outcome.{outcome, delivered}
+use Rattle.std.specs.Prelude.{Ok, Err}
+use Rattle.answer.specs.Outcome.{outcome, delivered, Verdict}
 use Rattle.answer.specs.declared.Refusal.{Refusal}
-use Rattle.answer.specs.declared.Verdict.{Verdict}
-use Rattle.answer.specs.declared.Verdict.TheVariants.{Accepted, Refused}
-use Rattle.answer.specs.declared.Written.TheVariants as written
 use Rattle.record.specs.RecordBytes.{record_bytes}
 use Rattle.record_lines.specs.Changes.{first_design}
 use Rattle.record_lines.specs.Records.{first_record}
@@ -21,33 +19,33 @@ use Rattle.drawing_reading.specs.Inside.{drawn_or}
 
 module _ (text : List ℕ) (d : Drawn) (e : d ≡ drawn_or (drawing_refusal text) (drawn_parts text) (drawn_sets text)) where
   -- a refused text gives its refusal
-  pub drawn_refused : (why : Refusal) → d.verdict ≡ Refused why → (buffer : List ℕ) → outcome (written.Refused why) buffer ≡ record_of_drawing text buffer
+  pub drawn_refused : (why : Refusal) → d.verdict ≡ Err why → (buffer : List ℕ) → outcome (Err why) buffer ≡ record_of_drawing text buffer
   unfolding record_of_drawing
   drawn_refused why h buffer =
       ap (λ (v : Verdict). delivered v (record_bytes (first_design (drawn_parts text) (drawn_sets text))) buffer)
       (sym (judged (drawing_refusal text) (sym (ap (λ (x : Drawn). x.verdict) e) ∙ h)))
     where
-      judged : (v : Verdict) → (drawn_or v (drawn_parts text) (drawn_sets text)).verdict ≡ Refused why → v ≡ Refused why
-      judged Accepted g = g
-      judged (Refused r) g = g
+      judged : (v : Verdict) → (drawn_or v (drawn_parts text) (drawn_sets text)).verdict ≡ Err why → v ≡ Err why
+      judged (Ok _) g = g
+      judged (Err r) g = g
 
   -- an accepted one its parts and sets
   pub record DrawnRead : Type 0 where
-    pub accepted : drawing_refusal text ≡ Accepted
+    pub accepted : drawing_refusal text ≡ Ok tt
     pub parts : d.parts ≡ drawn_parts text
     pub counted : d.count ≡ length (drawn_sets text)
     pub front : take d.count d.sets ≡ drawn_sets text
     pub inside : d.count ≤ length d.sets
 
-  module _ (h : d.verdict ≡ Accepted) where
-    judged : (v : Verdict) → (drawn_or v (drawn_parts text) (drawn_sets text)).verdict ≡ Accepted → v ≡ Accepted
-    judged Accepted g = g
-    judged (Refused r) g = g
+  module _ (h : d.verdict ≡ Ok tt) where
+    judged : (v : Verdict) → (drawn_or v (drawn_parts text) (drawn_sets text)).verdict ≡ Ok tt → v ≡ Ok tt
+    judged (Ok _) g = g
+    judged (Err r) g = g
 
-    taken : drawing_refusal text ≡ Accepted
+    taken : drawing_refusal text ≡ Ok tt
     taken = judged (drawing_refusal text) (sym (ap (λ (x : Drawn). x.verdict) e) ∙ h)
 
-    same : d ≡ drawn_or Accepted (drawn_parts text) (drawn_sets text)
+    same : d ≡ drawn_or (Ok tt) (drawn_parts text) (drawn_sets text)
     same = e ∙ ap (λ (v : Verdict). drawn_or v (drawn_parts text) (drawn_sets text)) taken
 
     pub drawn_read : DrawnRead

@@ -10,10 +10,10 @@ use borrow.Author.Tests.{ne_eqb, not-false}
 use lib.Dec.{eqb}
 use lib.ListN.{length, get_or, drop, set, replicate, length-append, length-drop, length-replicate}
 use lib.Seq.{drop-drop, drop-append_seam, drop-cons}
-use Rattle.answer.specs.Refusals.{long_list, unknown_position, wrong_line, repeated_position}
-use Rattle.answer.specs.Outcome.{at, refuse}
-use Rattle.answer.specs.declared.Verdict.{Verdict}
-use Rattle.answer.specs.declared.Verdict.TheVariants.{Accepted, Refused}
+use Rattle.std.specs.Prelude.{Ok, Err}
+use Rattle.answer.specs.declared.Reason.{Reason}
+use Rattle.answer.specs.declared.Reason.TheVariants.{LongList, UnknownPosition, WrongLine, RepeatedPosition}
+use Rattle.answer.specs.Outcome.{at, refuse, Verdict}
 use Rattle.answer.proofs.Outcomes.{InFront, in_front_none, in_front_one, refuse_passed}
 use Rattle.record_lines.specs.Changes.{every}
 use Rattle.drawing_text.specs.Lines.{lines_of, first_line}
@@ -34,19 +34,19 @@ use Rattle.drawing_reading.specs.Inside.{refuse_line, set_line_of, drawn_or}
 -- what a line is refused for, and what it gives where nothing refuses it
 module _ (place start : ℕ) (result : ℕ) (end : ℕ) where
   abbrev chain : Bool → Bool → Bool → Line
-  chain a b c = refuse_line a wrong_line (refuse_line b unknown_position (refuse_line c repeated_position (line.Set result end)))
+  chain a b c = refuse_line a WrongLine (refuse_line b UnknownPosition (refuse_line c RepeatedPosition (line.Set result end)))
 
   abbrev verdicts : Bool → Bool → Bool → Verdict → Verdict
-  verdicts a b c later = refuse a wrong_line place (refuse b unknown_position place (refuse c repeated_position place later))
+  verdicts a b c later = refuse a WrongLine place (refuse b UnknownPosition place (refuse c RepeatedPosition place later))
 
-  same_number : {a b : ℕ} → line.Refused a ≡ line.Refused b → Refused (at b place) ≡ Refused (at a place)
-  same_number e = ap (λ (n : ℕ). Refused (at n place)) (sym (let same : _ ≡ _ = cc in same))
+  same_reason : {a b : Reason} → line.Refused a ≡ line.Refused b → Err (at b place) ≡ Err (at a place)
+  same_reason e = ap (λ (r : Reason). Err (at r place)) (sym (let same : _ ≡ _ = cc in same))
 
-  told_refused : (number : ℕ) (a b c : Bool) (later : Verdict) → line.Refused number ≡ chain a b c → verdicts a b c later ≡ Refused (at number place)
-  told_refused number true b c later e = same_number e
-  told_refused number false true c later e = same_number e
-  told_refused number false false true later e = same_number e
-  told_refused number false false false later e = let z : ◌≡◌ {A = ℕ} 0 1 = cc in absurd (omega arith)
+  told_refused : (reason : Reason) (a b c : Bool) (later : Verdict) → line.Refused reason ≡ chain a b c → verdicts a b c later ≡ Err (at reason place)
+  told_refused reason true b c later e = same_reason e
+  told_refused reason false true c later e = same_reason e
+  told_refused reason false false true later e = same_reason e
+  told_refused reason false false false later e = let z : ◌≡◌ {A = ℕ} 0 1 = cc in absurd (omega arith)
 
   told_set : (set next : ℕ) (a b c : Bool) → line.Set set next ≡ chain a b c → (a ≡ false) × (b ≡ false) × (c ≡ false) × (set ≡ result) × (next ≡ end)
   told_set set next true b c e = let z : ◌≡◌ {A = ℕ} 0 1 = cc in absurd (omega arith)
@@ -56,11 +56,11 @@ module _ (place start : ℕ) (result : ℕ) (end : ℕ) where
 
 module _ (n place : ℕ) (bytes : List ℕ) (lines : List (List ℕ)) (start : ℕ) where
   module _ (other : place ≡ 12872 → ⊥) where
-    pub line_refused : (number : ℕ) → line.Refused number ≡ set_line_of n bytes start → set_lines_refusal n place (bytes ∷ lines) ≡ Refused (at number place)
+    pub line_refused : (reason : Reason) → line.Refused reason ≡ set_line_of n bytes start → set_lines_refusal n place (bytes ∷ lines) ≡ Err (at reason place)
     unfolding set_lines_refusal
-    line_refused number e =
-        refuse_passed (eqb place 12872) long_list place _ (ne_eqb place 12872 other)
-        ∙ told_refused place start (set_of (numbers_in bytes)) (start + length bytes) number (not (is_set_line bytes)) (not (every (within n) (numbers_in bytes))) (repeated (numbers_in bytes))
+    line_refused reason e =
+        refuse_passed (eqb place 12872) LongList place _ (ne_eqb place 12872 other)
+        ∙ told_refused place start (set_of (numbers_in bytes)) (start + length bytes) reason (not (is_set_line bytes)) (not (every (within n) (numbers_in bytes))) (repeated (numbers_in bytes))
         (set_lines_refusal n (suc place) lines) e
 
     module _ (set next : ℕ) (e : line.Set set next ≡ set_line_of n bytes start) where
@@ -72,10 +72,10 @@ module _ (n place : ℕ) (bytes : List ℕ) (lines : List (List ℕ)) (start : �
       pub line_passed : set_lines_refusal n place (bytes ∷ lines) ≡ set_lines_refusal n (suc place) lines
       unfolding set_lines_refusal
       line_passed =
-          refuse_passed (eqb place 12872) long_list place _ (ne_eqb place 12872 other)
-          ∙ refuse_passed (not (is_set_line bytes)) wrong_line place _ told.0
-          ∙ refuse_passed (not (every (within n) (numbers_in bytes))) unknown_position place _ told.1
-          ∙ refuse_passed (repeated (numbers_in bytes)) repeated_position place _ told.2
+          refuse_passed (eqb place 12872) LongList place _ (ne_eqb place 12872 other)
+          ∙ refuse_passed (not (is_set_line bytes)) WrongLine place _ told.0
+          ∙ refuse_passed (not (every (within n) (numbers_in bytes))) UnknownPosition place _ told.1
+          ∙ refuse_passed (repeated (numbers_in bytes)) RepeatedPosition place _ told.2
 
       pub line_set : set ≡ set_of (numbers_in bytes)
       line_set = told.3
@@ -113,22 +113,22 @@ module _ {text : List ℕ} {start n : ℕ} {sets : List ℕ} {count next : ℕ} 
   whole = says (set_lines_refusal n 2 (lines_of (drop start text))) (map set_on (lines_of (drop start text)))
 
   -- a refusal of what is left is one of the whole
-  pub lines_walk_refused : (number : ℕ) → set_lines_refusal n (count + 2) (lines_of (drop next text)) ≡ Refused (at number (count + 2))
-      → drawn_or (Refused (at number (count + 2))) 0 [] ≡ whole
-  lines_walk_refused number e =
+  pub lines_walk_refused : (reason : Reason) → set_lines_refusal n (count + 2) (lines_of (drop next text)) ≡ Err (at reason (count + 2))
+      → drawn_or (Err (at reason (count + 2))) 0 [] ≡ whole
+  lines_walk_refused reason e =
       ap (λ (v : Verdict). drawn_or v n (map set_on (lines_of (drop start text)))) (sym e ∙ w.judged)
 
   -- nothing is left: all sets are in front
-  pub lines_walk_end : length text ≤ next → record { parts = n; count = count; sets = sets; verdict = Accepted } ≡ whole
+  pub lines_walk_end : length text ≤ next → record { parts = n; count = count; sets = sets; verdict = (Ok tt) } ≡ whole
   unfolding lines_of set_lines_refusal
   lines_walk_end h = closing (drop next text) refl (omega (arith, length-drop next text))
     where
-      closing : (rest : List ℕ) → drop next text ≡ rest → length rest ≡ 0 → record { parts = n; count = count; sets = sets; verdict = Accepted } ≡ whole
+      closing : (rest : List ℕ) → drop next text ≡ rest → length rest ≡ 0 → record { parts = n; count = count; sets = sets; verdict = (Ok tt) } ≡ whole
       closing (byte ∷ rest) e none = absurd (omega (arith, none))
       closing [] e none =
           let given : w.done ≡ map set_on (lines_of (drop start text)) =
           sym (append-nil w.done) ∙ ap (λ (l : List ℕ). w.done ++ map set_on (lines_of l)) (sym e) ∙ w.all in
-          ap₂ (λ (k : ℕ) (s : List ℕ). record { parts = n; count = k; sets = s; verdict = Accepted }) w.front.ends w.front.stands
+          ap₂ (λ (k : ℕ) (s : List ℕ). record { parts = n; count = k; sets = s; verdict = (Ok tt) }) w.front.ends w.front.stands
           ∙ ap₂ says (ap (λ (l : List ℕ). set_lines_refusal n (count + 2) (lines_of l)) (sym e) ∙ w.judged) given
 
   module _ (h : next < length text) where
@@ -139,7 +139,7 @@ module _ {text : List ℕ} {start n : ℕ} {sets : List ℕ} {count next : ℕ} 
     this : first_line (drop next text) ≡ here.line
     this = ap (λ (lines : List (List ℕ)). get_or lines 0 []) here.lines
 
-    pub lines_walk_over : count ≡ 12870 → set_lines_refusal n (count + 2) (lines_of (drop next text)) ≡ Refused (at long_list (count + 2))
+    pub lines_walk_over : count ≡ 12870 → set_lines_refusal n (count + 2) (lines_of (drop next text)) ≡ Err (at LongList (count + 2))
     lines_walk_over e =
         ap (set_lines_refusal n (count + 2)) here.lines ∙ line_over n (count + 2) here.line (lines_of here.behind) (let full : count + 2 ≡ 12872 = omega arith in full)
 
@@ -151,11 +151,11 @@ module _ {text : List ℕ} {start n : ℕ} {sets : List ℕ} {count next : ℕ} 
       fewer : count + 2 ≡ 12872 → ⊥
       fewer e = other (omega arith)
 
-      pub lines_walk_broken : (number : ℕ) → line.Refused number ≡ set_line_of n (first_line (drop next text)) next
-          → set_lines_refusal n (count + 2) (lines_of (drop next text)) ≡ Refused (at number (count + 2))
-      lines_walk_broken number e =
+      pub lines_walk_broken : (reason : Reason) → line.Refused reason ≡ set_line_of n (first_line (drop next text)) next
+          → set_lines_refusal n (count + 2) (lines_of (drop next text)) ≡ Err (at reason (count + 2))
+      lines_walk_broken reason e =
           ap (set_lines_refusal n (count + 2)) here.lines
-          ∙ line_refused n (count + 2) here.line (lines_of here.behind) next fewer number (e ∙ ap (λ (l : List ℕ). set_line_of n l next) this)
+          ∙ line_refused n (count + 2) here.line (lines_of here.behind) next fewer reason (e ∙ ap (λ (l : List ℕ). set_line_of n l next) this)
 
       module _ (value after : ℕ) (e : line.Set value after ≡ set_line_of n (first_line (drop next text)) next) where
         read : line.Set value after ≡ set_line_of n here.line next

@@ -9,11 +9,10 @@ use borrow.Author.Tests.{ne_eqb}
 use lib.Dec.{eqb}
 use lib.ListN.{length, get_or, drop, length-drop}
 use lib.Seq.{drop-append_seam, drop-cons}
-use Rattle.answer.specs.Refusals.{wrong_part_count, empty_list, wrong_line}
-use Rattle.answer.specs.Outcome.{at, refuse}
+use Rattle.std.specs.Prelude.{Err}
+use Rattle.answer.specs.declared.Reason.TheVariants.{WrongPartCount, EmptyList, WrongLine}
+use Rattle.answer.specs.Outcome.{at, refuse, Verdict}
 use Rattle.answer.specs.Checks.{part_count_refusal}
-use Rattle.answer.specs.declared.Verdict.{Verdict}
-use Rattle.answer.specs.declared.Verdict.TheVariants.{Refused}
 use Rattle.answer.proofs.Outcomes.{refuse_passed, refuse_held}
 use Rattle.answer.proofs.Checks.{parts_none, parts_over, parts_passed}
 use Rattle.drawing_text.specs.Lines.{lines_of, first_line}
@@ -43,9 +42,9 @@ module _ (text : List ℕ) where
 
   -- ---- a first line of another form
 
-  pub text_malformed : Malformed ≡ parts_at text → drawn_or (Refused (at wrong_line 1)) 0 [] ≡ whole
+  pub text_malformed : Malformed ≡ parts_at text → drawn_or (Err (at WrongLine 1)) 0 [] ≡ whole
   unfolding parts_at drawing_refusal lines_of
-  text_malformed e = refused_text (Refused (at wrong_line 1)) (cases text (other (is_parts_line (first_line text)) refl))
+  text_malformed e = refused_text (Err (at WrongLine 1)) (cases text (other (is_parts_line (first_line text)) refl))
     where
       other : (t : Bool) → is_parts_line (first_line text) ≡ t → is_parts_line (first_line text) ≡ false
       other false h = h
@@ -54,12 +53,12 @@ module _ (text : List ℕ) where
           let z : ◌≡◌ {A = ℕ} 0 1 = cc in
           absurd (omega arith)
 
-      cases : (bytes : List ℕ) → is_parts_line (first_line bytes) ≡ false → drawing_refusal bytes ≡ Refused (at wrong_line 1)
+      cases : (bytes : List ℕ) → is_parts_line (first_line bytes) ≡ false → drawing_refusal bytes ≡ Err (at WrongLine 1)
       cases [] h = refl
       cases (byte ∷ bytes) h =
           let f = first_line_lem byte bytes in
           let first : first_line (byte ∷ bytes) ≡ f.line = ap (λ (lines : List (List ℕ)). get_or lines 0 []) f.lines in
-          ap lines_refusal f.lines ∙ refuse_held (not (is_parts_line f.line)) wrong_line 1 _ (ap not (sym (ap is_parts_line first) ∙ h))
+          ap lines_refusal f.lines ∙ refuse_held (not (is_parts_line f.line)) WrongLine 1 _ (ap not (sym (ap is_parts_line first) ∙ h))
 
   -- ---- a first line of the form
 
@@ -69,7 +68,7 @@ module _ (text : List ℕ) where
     same : number ≡ drawn_parts text
     holds : value ≡ held number
     lines : lines_of text ≡ first_line text ∷ lines_of (drop next text)
-    judged : drawing_refusal text ≡ part_count_refusal 1 number (refuse (eqb (length (lines_of (drop next text))) 0) empty_list 1 (set_lines_refusal number 2 (lines_of (drop next text))))
+    judged : drawing_refusal text ≡ part_count_refusal 1 number (refuse (eqb (length (lines_of (drop next text))) 0) EmptyList 1 (set_lines_refusal number 2 (lines_of (drop next text))))
 
   module _ (value next : ℕ) (e : Number value next ≡ parts_at text) where
     first_read_lem : FirstRead value next
@@ -100,37 +99,37 @@ module _ (text : List ℕ) where
               same = refl;
               holds = holds;
               lines = lines;
-              judged = ap lines_refusal lines ∙ refuse_passed (not (is_parts_line (first_line text))) wrong_line 1 _ (ap not h);
+              judged = ap lines_refusal lines ∙ refuse_passed (not (is_parts_line (first_line text))) WrongLine 1 _ (ap not h);
             }
 
     -- 1: no parts
-    pub text_no_parts : value ≡ 0 → drawn_or (Refused (at wrong_part_count 1)) 0 [] ≡ whole
+    pub text_no_parts : value ≡ 0 → drawn_or (Err (at WrongPartCount 1)) 0 [] ≡ whole
     text_no_parts none =
         let f = first_read_lem in
         let zeroed : f.number ≡ 0 = omega (arith, f.holds, none) in
-        refused_text (Refused (at wrong_part_count 1))
+        refused_text (Err (at WrongPartCount 1))
         (f.judged ∙ parts_none 1 f.number _ zeroed)
 
     -- 1: too many parts
-    pub text_many_parts : 16 < value → drawn_or (Refused (at wrong_part_count 1)) 0 [] ≡ whole
+    pub text_many_parts : 16 < value → drawn_or (Err (at WrongPartCount 1)) 0 [] ≡ whole
     text_many_parts many =
         let f = first_read_lem in
         let over : 16 < f.number = omega (arith, f.holds, many) in
-        refused_text (Refused (at wrong_part_count 1))
+        refused_text (Err (at WrongPartCount 1))
         (f.judged ∙ parts_over 1 f.number _ (omega (arith, over)) over)
 
     module _ (some : value ≡ 0 → ⊥) (few : value ≤ 16) where
       parts : value ≡ first_read_lem.number
       parts = omega (arith, first_read_lem.holds, few)
 
-      passed : drawing_refusal text ≡ refuse (eqb (length (lines_of (drop next text))) 0) empty_list 1 (set_lines_refusal first_read_lem.number 2 (lines_of (drop next text)))
+      passed : drawing_refusal text ≡ refuse (eqb (length (lines_of (drop next text))) 0) EmptyList 1 (set_lines_refusal first_read_lem.number 2 (lines_of (drop next text)))
       passed =
           first_read_lem.judged ∙ parts_passed 1 first_read_lem.number _ (omega (arith, parts, some)) (omega (arith, parts, few))
 
       -- 2: the text ends there
-      pub text_no_sets : length text ≤ next → drawn_or (Refused (at empty_list 1)) 0 [] ≡ whole
+      pub text_no_sets : length text ≤ next → drawn_or (Err (at EmptyList 1)) 0 [] ≡ whole
       unfolding lines_of
-      text_no_sets h = refused_text (Refused (at empty_list 1)) (passed ∙ refuse_held (eqb (length (lines_of (drop next text))) 0) empty_list 1 _ (closed (drop next text) (omega (arith, length-drop next text, h))))
+      text_no_sets h = refused_text (Err (at EmptyList 1)) (passed ∙ refuse_held (eqb (length (lines_of (drop next text))) 0) EmptyList 1 _ (closed (drop next text) (omega (arith, length-drop next text, h))))
         where
           closed : (rest : List ℕ) → length rest ≡ 0 → eqb (length (lines_of rest)) 0 ≡ true
           closed [] none = refl
@@ -142,7 +141,7 @@ module _ (text : List ℕ) where
           let some_line : length (lines_of (drop next text)) ≡ 0 → ⊥ = λ none. omega (arith, none, ap length opened.lines) in
           let verdict : set_lines_refusal value 2 (lines_of (drop next text)) ≡ drawing_refusal text =
           ap (λ (n : ℕ). set_lines_refusal n 2 (lines_of (drop next text))) parts
-          ∙ sym (passed ∙ refuse_passed (eqb (length (lines_of (drop next text))) 0) empty_list 1 _ (ne_eqb (length (lines_of (drop next text))) 0 some_line)) in
+          ∙ sym (passed ∙ refuse_passed (eqb (length (lines_of (drop next text))) 0) EmptyList 1 _ (ne_eqb (length (lines_of (drop next text))) 0 some_line)) in
           ap₂ (λ (v : Verdict) (n : ℕ). drawn_or v n (map set_on (lines_of (drop next text)))) verdict (parts ∙ first_read_lem.same)
           ∙ ap (λ (l : List (List ℕ)). drawn_or (drawing_refusal text) (drawn_parts text) (map set_on (drop 1 l))) (sym first_read_lem.lines)
         where

@@ -1,8 +1,8 @@
 -- What the private functions answer on the way to a drawing's record: a reader of the promises may pass this file over.
-use Rattle.std.specs.Prelude.{Bool, true, false, not, cond, List, [], ◌∷◌, ℕ, ◌+◌, ◌-◌, ◌^◌, min, length, get_or}
-use Rattle.answer.specs.Refusals.{unknown_position, wrong_line, repeated_position}
-use Rattle.answer.specs.declared.Verdict.{Verdict}
-use Rattle.answer.specs.declared.Verdict.TheVariants.{Accepted, Refused}
+use Rattle.answer.specs.Outcome.{Verdict}
+use Rattle.std.specs.Prelude.{Bool, true, false, not, cond, List, [], ◌∷◌, ℕ, ◌+◌, ◌-◌, ◌^◌, min, length, get_or, Ok, Err}
+use Rattle.answer.specs.declared.Reason.{Reason}
+use Rattle.answer.specs.declared.Reason.TheVariants.{UnknownPosition, WrongLine, RepeatedPosition}
 use Rattle.theory_sets.specs.Masks.{has}
 use Rattle.record_lines.specs.Changes.{every}
 use Rattle.record_opening.specs.Opening.{set_cells}
@@ -64,25 +64,25 @@ with_position n g position =
     (record { set = g.set + 2 ^ (position - 1); unknown = g.unknown; repeated = g.repeated }))
     (record { set = g.set; unknown = true; repeated = g.repeated })
 
--- one check of a line: where it holds its number refuses the line, and else what comes later decides
-abbrev pub refuse_line : Bool → ℕ → Line → Line
-refuse_line true number later = line.Refused number
-refuse_line false number later = later
+-- one check of a line: where it holds it refuses the line for its reason, and else what comes later decides
+abbrev pub refuse_line : Bool → Reason → Line → Line
+refuse_line true reason later = line.Refused reason
+refuse_line false reason later = later
 
 -- what was gathered on a line of the form, behind which that position is
 abbrev pub gathered_line : Gathered → ℕ → Line
-gathered_line g next = refuse_line g.unknown unknown_position (refuse_line g.repeated repeated_position (line.Set g.set next))
+gathered_line g next = refuse_line g.unknown UnknownPosition (refuse_line g.repeated RepeatedPosition (line.Set g.set next))
 
 -- a set line that stands at a position
 abbrev pub set_line_of : ℕ → List ℕ → ℕ → Line
 set_line_of n bytes start =
-    refuse_line (not (is_set_line bytes)) wrong_line
-    (refuse_line (not (every (within n) (numbers_in bytes))) unknown_position
-    (refuse_line (repeated (numbers_in bytes)) repeated_position (line.Set (set_of (numbers_in bytes)) (start + length bytes))))
+    refuse_line (not (is_set_line bytes)) WrongLine
+    (refuse_line (not (every (within n) (numbers_in bytes))) UnknownPosition
+    (refuse_line (repeated (numbers_in bytes)) RepeatedPosition (line.Set (set_of (numbers_in bytes)) (start + length bytes))))
 
 -- ---- all lines
 
 -- what was read: the number of parts and the sets, or the refusal, with no sets
 abbrev pub drawn_or : Verdict → ℕ → List ℕ → Drawn
-drawn_or Accepted parts sets = record { parts = parts; count = length sets; sets = set_cells sets; verdict = Accepted }
-drawn_or (Refused why) parts sets = record { parts = 0; count = 0; sets = set_cells []; verdict = Refused why }
+drawn_or (Ok _) parts sets = record { parts = parts; count = length sets; sets = set_cells sets; verdict = (Ok tt) }
+drawn_or (Err why) parts sets = record { parts = 0; count = 0; sets = set_cells []; verdict = Err why }

@@ -9,7 +9,7 @@ ghost use Rattle.drawing_text.specs.Forms.{same_bytes};
 ghost use Rattle.drawing_text.specs.Drawings.{set_on, set_lines_refusal, drawing_refusal, drawn_parts, drawn_sets, record_of_drawing};
 ghost use Rattle.drawing_reading.specs.Inside.{digit_at, held, numeral_at, parts_at, with_position, gathered_line, set_line_of, drawn_or};
 
-use answer::{Refusal, Verdict, Written};
+use answer::{Reason, Refusal};
 
 // A number of a text: its value, which is held at 100 from there on, and the position after it; or none stands there as numbers are written.
 #[derive(Drop)]
@@ -30,7 +30,7 @@ struct Gathered {
 #[derive(Drop)]
 enum Line {
     Set { set: u16, next: usize },
-    Refused(u8),
+    Refused(Reason),
 }
 
 // What a text says: the number of parts, and the sets, one a line, in front of an array. Of a refused text: no parts and no sets.
@@ -39,17 +39,17 @@ struct Drawn {
     parts: usize,
     count: usize,
     sets: [u16; 12870],
-    verdict: Verdict,
+    verdict: Result<(), Refusal>,
 }
 
 // The record of a drawing's text, into a lent buffer: one of edition 1, with part numbers 1 to n, mark n, the minimal sets.
-pub fn record_of_drawing(text: &[u8], buffer: &mut [u8]) -> Written
+pub fn record_of_drawing(text: &[u8], buffer: &mut [u8]) -> Result<usize, Refusal>
     ensures { outcome result buffer.new ≡ record_of_drawing text.now buffer.old }
 {
     let drawn = read_drawing(text);
     let verdict = drawn.verdict;
-    if let Verdict::Refused(refusal) = verdict {
-        return Written::Refused(refusal);
+    if let Err(refusal) = verdict {
+        return Err(refusal);
     }
     let sets = drawn.sets;
     let count = drawn.count;
@@ -62,16 +62,16 @@ fn read_drawing(text: &[u8]) -> Drawn
 {
     let first = read_parts_line(text);
     match first {
-        Numeral::Malformed => refused(answer::WRONG_LINE, 1),
+        Numeral::Malformed => refused(Reason::WrongLine, 1),
         Numeral::Number { value, next } => {
             if value == 0 {
-                return refused(answer::WRONG_PART_COUNT, 1);
+                return refused(Reason::WrongPartCount, 1);
             }
             if 16 < value {
-                return refused(answer::WRONG_PART_COUNT, 1);
+                return refused(Reason::WrongPartCount, 1);
             }
             if text.len() <= next {
-                return refused(answer::EMPTY_LIST, 1);
+                return refused(Reason::EmptyList, 1);
             }
             read_set_lines(text, next, value)
         }
@@ -88,12 +88,12 @@ fn read_set_lines(text: &[u8], start: usize, n: usize) -> Drawn
     let mut next = start;
     while next < text.len() {
         if count == 12870 {
-            return refused(answer::LONG_LIST, count + 2);
+            return refused(Reason::LongList, count + 2);
         }
         let line = read_set_line(text, next, n);
         match line {
-            Line::Refused(number) => {
-                return refused(number, count + 2);
+            Line::Refused(reason) => {
+                return refused(reason, count + 2);
             }
             Line::Set { set, next: behind } => {
                 sets[count] = set;
@@ -106,22 +106,19 @@ fn read_set_lines(text: &[u8], start: usize, n: usize) -> Drawn
         parts: n,
         count,
         sets,
-        verdict: Verdict::Accepted,
+        verdict: Ok(()),
     }
 }
 
 // The answer where a line refuses the text.
-fn refused(number: u8, line: usize) -> Drawn
-    ensures { result ≡ drawn_or (Verdict.Refused (record { number = number; place = line })) 0 [] }
+fn refused(reason: Reason, line: usize) -> Drawn
+    ensures { result ≡ drawn_or (Err (at reason line)) 0 [] }
 {
     Drawn {
         parts: 0,
         count: 0,
         sets: [0u16; 12870],
-        verdict: Verdict::Refused(Refusal {
-            number,
-            place: line,
-        }),
+        verdict: Err(Refusal { reason, place: line }),
     }
 }
 
@@ -158,7 +155,7 @@ fn read_set_line(text: &[u8], start: usize, n: usize) -> Line
     ensures { result ≡ set_line_of n (first_line (drop start text.now)) start }
 {
     if !stands(text, start, b"set") {
-        return Line::Refused(answer::WRONG_LINE);
+        return Line::Refused(Reason::WrongLine);
     }
     let first = start + 3;
     let mut next = first;
@@ -174,16 +171,16 @@ fn read_set_line(text: &[u8], start: usize, n: usize) -> Line
             next: behind,
         } = number
         else {
-            return Line::Refused(answer::WRONG_LINE);
+            return Line::Refused(Reason::WrongLine);
         };
         gathered = gathered.with(value, n);
         next = behind;
     }
     if next == first {
-        return Line::Refused(answer::WRONG_LINE);
+        return Line::Refused(Reason::WrongLine);
     }
     if byte_at(text, next) != b'\n' {
-        return Line::Refused(answer::WRONG_LINE);
+        return Line::Refused(Reason::WrongLine);
     }
     gathered.line(next + 1)
 }
@@ -234,10 +231,10 @@ impl Gathered {
         ensures { result ≡ gathered_line self next }
     {
         if self.unknown {
-            return Line::Refused(answer::UNKNOWN_POSITION);
+            return Line::Refused(Reason::UnknownPosition);
         }
         if self.repeated {
-            return Line::Refused(answer::REPEATED_POSITION);
+            return Line::Refused(Reason::RepeatedPosition);
         }
         Line::Set {
             set: self.set,

@@ -12,9 +12,9 @@ use borrow.Author.Tests.{eqb-false, eq-eqb, ne_eqb, not-false}
 use lib.Dec.{eqb}
 use lib.ListN.{length, get_or, drop, length-append, length-map}
 use lib.Pow.{pow_mono}
-use Rattle.answer.specs.Refusals.{empty_list, long_list, unknown_position, wrong_line, repeated_position}
+use Rattle.std.specs.Prelude.{Ok, Err}
+use Rattle.answer.specs.declared.Reason.TheVariants.{EmptyList, LongList, UnknownPosition, WrongLine, RepeatedPosition}
 use Rattle.answer.specs.Outcome.{at}
-use Rattle.answer.specs.declared.Verdict.TheVariants.{Accepted, Refused}
 use Rattle.answer.proofs.Outcomes.{refuse_accepted, refuse_passed, refuse_held}
 use Rattle.answer.proofs.Checks.{parts_passed, parts_right}
 use Rattle.structure.specs.Checks.{list_refusal}
@@ -41,15 +41,15 @@ record LineAccepted (n place : ℕ) (line : List ℕ) (lines : List (List ℕ)) 
   form : is_set_line line ≡ true
   inside : every (within n) (numbers_in line) ≡ true
   once : repeated (numbers_in line) ≡ false
-  rest : set_lines_refusal n (suc place) lines ≡ Accepted
+  rest : set_lines_refusal n (suc place) lines ≡ Ok tt
 
-line_accepted : (n place : ℕ) (line : List ℕ) (lines : List (List ℕ)) → set_lines_refusal n place (line ∷ lines) ≡ Accepted → LineAccepted n place line lines
+line_accepted : (n place : ℕ) (line : List ℕ) (lines : List (List ℕ)) → set_lines_refusal n place (line ∷ lines) ≡ Ok tt → LineAccepted n place line lines
 unfolding set_lines_refusal
 line_accepted n place line lines h =
-    let first = refuse_accepted (eqb place 12872) long_list place _ h in
-    let second = refuse_accepted (not (is_set_line line)) wrong_line place _ first.1 in
-    let third = refuse_accepted (not (every (within n) (numbers_in line))) unknown_position place _ second.1 in
-    let fourth = refuse_accepted (repeated (numbers_in line)) repeated_position place _ third.1 in
+    let first = refuse_accepted (eqb place 12872) LongList place _ h in
+    let second = refuse_accepted (not (is_set_line line)) WrongLine place _ first.1 in
+    let third = refuse_accepted (not (every (within n) (numbers_in line))) UnknownPosition place _ second.1 in
+    let fourth = refuse_accepted (repeated (numbers_in line)) RepeatedPosition place _ third.1 in
     record {
       other = eqb-false place 12872 first.0;
       form = not-false (is_set_line line) second.0;
@@ -59,7 +59,7 @@ line_accepted n place line lines h =
     }
 
 -- there are at most 12,870 of them
-lines_most : (n place : ℕ) (lines : List (List ℕ)) → place ≤ 12872 → set_lines_refusal n place lines ≡ Accepted → place + length lines ≤ 12872
+lines_most : (n place : ℕ) (lines : List (List ℕ)) → place ≤ 12872 → set_lines_refusal n place lines ≡ Ok tt → place + length lines ≤ 12872
 lines_most n place [] most h = omega arith
 lines_most n place (line ∷ lines) most h =
     let f = line_accepted n place line lines h in
@@ -75,27 +75,27 @@ line_set n place line lines few f =
       set_some n few (numbers_in line) f.inside (subst (λ (l : List ℕ). 1 ≤ length l) (sym on) form.1),
     )
 
-lines_sets : (n place : ℕ) (lines : List (List ℕ)) → n ≤ 16 → set_lines_refusal n place lines ≡ Accepted → (b : ℕ) → Memᴰ b (map set_on lines) → (b < 2 ^ n) × (0 < b)
+lines_sets : (n place : ℕ) (lines : List (List ℕ)) → n ≤ 16 → set_lines_refusal n place lines ≡ Ok tt → (b : ℕ) → Memᴰ b (map set_on lines) → (b < 2 ^ n) × (0 < b)
 lines_sets n place [] few h b m = absurd (Memᴰ.not-nil m)
 lines_sets n place (line ∷ lines) few h b m =
     cases (line_accepted n place line lines h) (lines_sets n (suc place) lines few) (Memᴰ.cases_cons m)
   where
-    cases : LineAccepted n place line lines → (set_lines_refusal n (suc place) lines ≡ Accepted → (b : ℕ) → Memᴰ b (map set_on lines) → (b < 2 ^ n) × (0 < b))
+    cases : LineAccepted n place line lines → (set_lines_refusal n (suc place) lines ≡ Ok tt → (b : ℕ) → Memᴰ b (map set_on lines) → (b < 2 ^ n) × (0 < b))
         → (b ≡ set_on line) ⊎ Memᴰ b (map set_on lines) → (b < 2 ^ n) × (0 < b)
     cases f rest (inl e) = subst (λ (x : ℕ). (x < 2 ^ n) × (0 < x)) (sym e) (line_set n place line lines few f)
     cases f rest (inr later) = rest f.rest b later
 
 -- what an accepted text says is an accepted list
-pub drawn_accepted : (text : List ℕ) → drawing_refusal text ≡ Accepted → list_refusal (drawn_parts text) (drawn_sets text) ≡ Accepted
+pub drawn_accepted : (text : List ℕ) → drawing_refusal text ≡ Ok tt → list_refusal (drawn_parts text) (drawn_sets text) ≡ Ok tt
 unfolding drawing_refusal
 drawn_accepted text h = cases (lines_of text) h
   where
-    cases : (lines : List (List ℕ)) → lines_refusal lines ≡ Accepted → list_refusal (number_on (get_or lines 0 [])) (map set_on (drop 1 lines)) ≡ Accepted
+    cases : (lines : List (List ℕ)) → lines_refusal lines ≡ Ok tt → list_refusal (number_on (get_or lines 0 [])) (map set_on (drop 1 lines)) ≡ Ok tt
     cases [] e = let z : ◌≡◌ {A = ℕ} 0 1 = cc in absurd (omega arith)
     cases (first ∷ lines) e =
-        let form = refuse_accepted (not (is_parts_line first)) wrong_line 1 _ e in
+        let form = refuse_accepted (not (is_parts_line first)) WrongLine 1 _ e in
         let parts = parts_right 1 (number_on first) _ form.1 in
-        let some = refuse_accepted (eqb (length lines) 0) empty_list 1 _ parts.2 in
+        let some = refuse_accepted (eqb (length lines) 0) EmptyList 1 _ parts.2 in
         list_accepted (number_on first) (map set_on lines)
         (record {
           some = parts.0;
@@ -114,10 +114,10 @@ unfolding set_lines_refusal
 right_line n place positions lines other right =
     let line : List ℕ = line_of set_word positions in
     let on : numbers_in line ≡ positions = set_line_numbers positions in
-    refuse_passed (eqb place 12872) long_list place _ (ne_eqb place 12872 other)
-    ∙ refuse_passed (not (is_set_line line)) wrong_line place _ (ap not ((set_line_exactly line).1 (positions, right.0, refl)))
-    ∙ refuse_passed (not (every (within n) (numbers_in line))) unknown_position place _ (ap (λ (l : List ℕ). not (every (within n) l)) on ∙ ap not right.1)
-    ∙ refuse_passed (repeated (numbers_in line)) repeated_position place _ (ap repeated on ∙ right.2)
+    refuse_passed (eqb place 12872) LongList place _ (ne_eqb place 12872 other)
+    ∙ refuse_passed (not (is_set_line line)) WrongLine place _ (ap not ((set_line_exactly line).1 (positions, right.0, refl)))
+    ∙ refuse_passed (not (every (within n) (numbers_in line))) UnknownPosition place _ (ap (λ (l : List ℕ). not (every (within n) l)) on ∙ ap not right.1)
+    ∙ refuse_passed (repeated (numbers_in line)) RepeatedPosition place _ (ap repeated on ∙ right.2)
 
 -- ---- a text is accepted exactly if it is one line of parts and then set lines with right positions
 
@@ -156,25 +156,25 @@ module _ (n : ℕ) (sets : List (List ℕ)) (some : 1 ≤ n) (few : n ≤ 16) (a
       let counted : length lines ≡ length sets + length (lines_of rest) =
       length-append (map (line_of set_word) sets) (lines_of rest) ∙ ap (λ (k : ℕ). k + length (lines_of rest)) (length-map sets (line_of set_word)) in
       ap lines_refusal begins
-      ∙ refuse_passed (not (is_parts_line first)) wrong_line 1 _ (ap not ((parts_line_exactly first).1 (n, refl)))
+      ∙ refuse_passed (not (is_parts_line first)) WrongLine 1 _ (ap not ((parts_line_exactly first).1 (n, refl)))
       ∙ parts_passed 1 (number_on first) _ (omega (arith, on, some)) (omega (arith, on, few))
-      ∙ refuse_passed (eqb (length lines) 0) empty_list 1 _ (ne_eqb (length lines) 0 (λ e. omega (arith, e, counted, any_set)))
+      ∙ refuse_passed (eqb (length lines) 0) EmptyList 1 _ (ne_eqb (length lines) 0 (λ e. omega (arith, e, counted, any_set)))
       ∙ ap (λ (k : ℕ). set_lines_refusal k 2 lines) on ∙ lines_right n 2 sets (lines_of rest) (omega (arith, most)) right
 
 -- 3 at line 12,872 where any byte stands behind 12,871 right lines, whatever it is
-pub line_over : (n place : ℕ) (line : List ℕ) (lines : List (List ℕ)) → place ≡ 12872 → set_lines_refusal n place (line ∷ lines) ≡ Refused (at long_list place)
+pub line_over : (n place : ℕ) (line : List ℕ) (lines : List (List ℕ)) → place ≡ 12872 → set_lines_refusal n place (line ∷ lines) ≡ Err (at LongList place)
 unfolding set_lines_refusal
-line_over n place line lines e = refuse_held (eqb place 12872) long_list place _ (eq-eqb place 12872 e)
+line_over n place line lines e = refuse_held (eqb place 12872) LongList place _ (eq-eqb place 12872 e)
 
 pub too_many_lines : (n : ℕ) (sets : List (List ℕ)) → 1 ≤ n → n ≤ 16 → length sets ≡ 12870 → ((positions : List ℕ) → Memᴰ positions sets → RightPositions n positions)
-    → (byte : ℕ) (rest : List ℕ) → drawing_refusal (line_of parts_word (n ∷ []) ++ (set_lines sets ++ byte ∷ rest)) ≡ Refused (at long_list 12872)
+    → (byte : ℕ) (rest : List ℕ) → drawing_refusal (line_of parts_word (n ∷ []) ++ (set_lines sets ++ byte ∷ rest)) ≡ Err (at LongList 12872)
 too_many_lines n sets some few all right byte rest =
     let f = first_line_lem byte rest in
     let last : 2 + length sets ≡ 12872 = omega (arith, all) in
     right_so_far n sets some few (omega (arith, all)) (omega (arith, all)) right (byte ∷ rest)
     ∙ ap₂ (λ (k : ℕ) (lines : List (List ℕ)). set_lines_refusal n k lines) last f.lines ∙ line_over n 12872 f.line (lines_of f.behind) refl
 
-drawn_whole : (text : List ℕ) → WellDrawn text → drawing_refusal text ≡ Accepted
+drawn_whole : (text : List ℕ) → WellDrawn text → drawing_refusal text ≡ Ok tt
 unfolding set_lines_refusal lines_of
 drawn_whole text w =
     ap drawing_refusal (w.whole ∙ ap (λ (l : List ℕ). line_of parts_word (w.parts ∷ []) ++ l) (sym (append-nil (set_lines w.sets))))
@@ -199,7 +199,7 @@ lines_joined (byte ∷ bytes) = cases (eqb byte line_feed) refl (lines_joined by
     cases false is rest = rw (is, lines_of) (first (lines_of bytes) ∙ ap (λ (l : List ℕ). byte ∷ l) rest)
 
 -- lines that are accepted are those of their positions
-lines_shown : (n place : ℕ) (lines : List (List ℕ)) → set_lines_refusal n place lines ≡ Accepted → joined lines ≡ set_lines (map numbers_in lines)
+lines_shown : (n place : ℕ) (lines : List (List ℕ)) → set_lines_refusal n place lines ≡ Ok tt → joined lines ≡ set_lines (map numbers_in lines)
 unfolding set_lines joined
 lines_shown n place [] h = refl
 lines_shown n place (line ∷ lines) h =
@@ -208,12 +208,12 @@ lines_shown n place (line ∷ lines) h =
     let on : numbers_in line ≡ form.0 = ap numbers_in form.2 ∙ set_line_numbers form.0 in
     ap₂ (λ (a b : List ℕ). a ++ b) (form.2 ∙ ap (line_of set_word) (sym on)) (lines_shown n (suc place) lines f.rest)
 
-lines_are_right : (n place : ℕ) (lines : List (List ℕ)) → set_lines_refusal n place lines ≡ Accepted → (positions : List ℕ) → Memᴰ positions (map numbers_in lines) → RightPositions n positions
+lines_are_right : (n place : ℕ) (lines : List (List ℕ)) → set_lines_refusal n place lines ≡ Ok tt → (positions : List ℕ) → Memᴰ positions (map numbers_in lines) → RightPositions n positions
 lines_are_right n place [] h positions m = absurd (Memᴰ.not-nil m)
 lines_are_right n place (line ∷ lines) h positions m =
     cases (line_accepted n place line lines h) (lines_are_right n (suc place) lines) (Memᴰ.cases_cons m)
   where
-    cases : LineAccepted n place line lines → (set_lines_refusal n (suc place) lines ≡ Accepted → (positions : List ℕ) → Memᴰ positions (map numbers_in lines) → RightPositions n positions)
+    cases : LineAccepted n place line lines → (set_lines_refusal n (suc place) lines ≡ Ok tt → (positions : List ℕ) → Memᴰ positions (map numbers_in lines) → RightPositions n positions)
         → (positions ≡ numbers_in line) ⊎ Memᴰ positions (map numbers_in lines) → RightPositions n positions
     cases f rest (inl e) =
         let form = (set_line_exactly line).0 f.form in
@@ -221,16 +221,16 @@ lines_are_right n place (line ∷ lines) h positions m =
         subst (RightPositions n) (sym e) (subst (λ (l : List ℕ). 1 ≤ length l) (sym on) form.1, f.inside, f.once)
     cases f rest (inr later) = rest f.rest positions later
 
-whole_drawn : (text : List ℕ) → drawing_refusal text ≡ Accepted → WellDrawn text
+whole_drawn : (text : List ℕ) → drawing_refusal text ≡ Ok tt → WellDrawn text
 unfolding drawing_refusal joined
 whole_drawn text h = cases (lines_of text) h (lines_joined text)
   where
-    cases : (lines : List (List ℕ)) → lines_refusal lines ≡ Accepted → joined lines ≡ text → WellDrawn text
+    cases : (lines : List (List ℕ)) → lines_refusal lines ≡ Ok tt → joined lines ≡ text → WellDrawn text
     cases [] e same = let z : ◌≡◌ {A = ℕ} 0 1 = cc in absurd (omega arith)
     cases (first ∷ lines) e same =
-        let form = refuse_accepted (not (is_parts_line first)) wrong_line 1 _ e in
+        let form = refuse_accepted (not (is_parts_line first)) WrongLine 1 _ e in
         let parts = parts_right 1 (number_on first) _ form.1 in
-        let some = refuse_accepted (eqb (length lines) 0) empty_list 1 _ parts.2 in
+        let some = refuse_accepted (eqb (length lines) 0) EmptyList 1 _ parts.2 in
         let line = (parts_line_exactly first).0 (not-false (is_parts_line first) form.0) in
         let on : number_on first ≡ line.0 = ap number_on line.1 ∙ ap (λ (numbers : List ℕ). get_or numbers 0 0) (parts_line_numbers line.0) in
         record {
@@ -244,7 +244,7 @@ whole_drawn text h = cases (lines_of text) h (lines_joined text)
           whole = sym same ∙ ap₂ (λ (a b : List ℕ). a ++ b) (line.1 ∙ ap (λ (n : ℕ). line_of parts_word (n ∷ [])) (sym on)) (lines_shown (number_on first) 2 lines some.1);
         }
 
-pub accepted_exactly : (text : List ℕ) → (drawing_refusal text ≡ Accepted) ↔ WellDrawn text
+pub accepted_exactly : (text : List ℕ) → (drawing_refusal text ≡ Ok tt) ↔ WellDrawn text
 accepted_exactly text = (whole_drawn text, drawn_whole text)
 
 -- ---- the text of a design
@@ -264,7 +264,7 @@ module _ (d : Design) (rules : DesignRules d) where
       (positions_some d.parts.count set few (inside set f.1).0 (inside set f.1).1, positions_within d.parts.count set (inside set f.1).0, positions_once set)
 
   -- the text of a design is accepted,
-  pub written_accepted : drawing_refusal (drawing_of d) ≡ Accepted
+  pub written_accepted : drawing_refusal (drawing_of d) ≡ Ok tt
   unfolding drawing_of
   written_accepted =
       drawn_whole (drawing_of d)

@@ -8,11 +8,8 @@ use mathlib.Core.List.{List, [], ◌∷◌, Memᴰ}
 use Prim.Native.Nat.{ℕ, ◌+◌, ◌-◌, ◌≤◌, ◌<◌}
 use native.Mathlib.Omega.{arith}
 use lib.ListN.{length, take, drop, get_or}
-use Rattle.answer.specs.Outcome.{Outcome, outcome, delivered}
-use Rattle.answer.specs.declared.Verdict.{Verdict}
-use Rattle.answer.specs.declared.Verdict.TheVariants.{Accepted}
-use Rattle.answer.specs.declared.Written.{Written}
-use Rattle.answer.specs.declared.Written.TheVariants as written
+use Rattle.std.specs.Prelude.{Ok}
+use Rattle.answer.specs.Outcome.{Outcome, outcome, delivered, Numbered, Verdict}
 use Rattle.answer.proofs.Deliveries.{given, delivered_whole}
 use Rattle.numbers.specs.Tables.{tabulate}
 use Rattle.numbers.proofs.Tables.{tabulate_length, tabulate_at}
@@ -51,14 +48,14 @@ use Rattle.drawing_text.proofs.Lengths.{drawing_most}
 -- ---- a record that is made of a text
 
 -- what is written of a text is accepted again, as a record of edition 1, and read as the first design of what the text says
-pub drawn_read : (text buffer : List ℕ) (k : ℕ) → (record_of_drawing text buffer).answer ≡ written.Length k
+pub drawn_read : (text buffer : List ℕ) (k : ℕ) → (record_of_drawing text buffer).answer ≡ Ok k
     → (wrote (record_of_drawing text buffer) k ≡ record_bytes (first_design (drawn_parts text) (drawn_sets text)))
     × (whole_stored (wrote (record_of_drawing text buffer) k) ≡ found (first (first_design (drawn_parts text) (drawn_sets text))) k)
 unfolding record_of_drawing stored_bytes
 drawn_read text buffer k e =
     let d : Design = first_design (drawn_parts text) (drawn_sets text) in
     let left = (delivered (drawing_refusal text) (record_bytes d) buffer).buffer in
-    let g = given (drawing_refusal text) (record_bytes d) buffer left k (ap (λ (w : Written). outcome w left) (sym e)) in
+    let g = given (drawing_refusal text) (record_bytes d) buffer left k (ap (λ (w : Numbered). outcome w left) (sym e)) in
     let rules = first_rules (drawn_parts text) (drawn_sets text) (drawn_accepted text g.accepted) in
     (g.front, ap whole_stored g.front ∙ whole_stored_lem (first d) rules ∙ ap (found (first d)) (sym g.counted))
 
@@ -66,28 +63,28 @@ drawn_read text buffer k e =
 
 -- 553,419 bytes for the text of an accepted record, of either edition
 pub text_given : (bytes : List ℕ) → Bytes bytes → (d : Design) (next : ℕ) → whole_record bytes ≡ found d next → (buffer : List ℕ) → 553419 ≤ length buffer
-    → (drawing_of_record bytes buffer).answer ≡ written.Length (length (drawing_of d))
+    → (drawing_of_record bytes buffer).answer ≡ Ok (length (drawing_of d))
 unfolding drawing_of_record
 text_given bytes bounded d next read buffer long =
     let rules = (design_rules bytes d next bounded read).0 in
     ap (λ (r : Read Design). (drawing_read r buffer).answer) read
-    ∙ sym (ap (λ (o : Outcome Written (List ℕ)). o.answer) (delivered_whole Accepted (drawing_of d) buffer refl (length (drawing_of d)) refl _ refl (omega (arith, long, drawing_most d rules))))
+    ∙ sym (ap (λ (o : Outcome Numbered (List ℕ)). o.answer) (delivered_whole (Ok tt) (drawing_of d) buffer refl (length (drawing_of d)) refl _ refl (omega (arith, long, drawing_most d rules))))
 
 -- 38,732 for the record of an accepted text
-pub record_given : (text : List ℕ) → drawing_refusal text ≡ Accepted → (buffer : List ℕ) → 38732 ≤ length buffer
-    → (record_of_drawing text buffer).answer ≡ written.Length (length (record_bytes (first_design (drawn_parts text) (drawn_sets text))))
+pub record_given : (text : List ℕ) → drawing_refusal text ≡ Ok tt → (buffer : List ℕ) → 38732 ≤ length buffer
+    → (record_of_drawing text buffer).answer ≡ Ok (length (record_bytes (first_design (drawn_parts text) (drawn_sets text))))
 unfolding record_of_drawing
 record_given text accepted buffer long =
     let d : Design = first_design (drawn_parts text) (drawn_sets text) in
     let rules = first_rules (drawn_parts text) (drawn_sets text) (drawn_accepted text accepted) in
     sym
-    (ap (λ (o : Outcome Written (List ℕ)). o.answer)
+    (ap (λ (o : Outcome Numbered (List ℕ)). o.answer)
     (delivered_whole (drawing_refusal text) (record_bytes d) buffer accepted (length (record_bytes d)) refl _ refl (omega (arith, long, record_longest d rules))))
 
 -- ---- the order of lines and positions, repeats and nested sets do not matter
 
 -- two accepted texts of as many parts, of which each set holds one of the other text's, give the same record
-pub same_record : (text other buffer : List ℕ) → drawing_refusal text ≡ Accepted → drawing_refusal other ≡ Accepted → drawn_parts text ≡ drawn_parts other
+pub same_record : (text other buffer : List ℕ) → drawing_refusal text ≡ Ok tt → drawing_refusal other ≡ Ok tt → drawn_parts text ≡ drawn_parts other
     → Covers (drawn_sets text) (drawn_sets other) → Covers (drawn_sets other) (drawn_sets text) → record_of_drawing text buffer ≡ record_of_drawing other buffer
 unfolding record_of_drawing
 same_record text other buffer here there parts forth back =
@@ -97,7 +94,7 @@ same_record text other buffer here there parts forth back =
     (minimal_sets_same (drawn_parts other) (listed (drawn_sets text)) (listed (drawn_sets other)) (λ a small. listed_same (drawn_sets text) (drawn_sets other) forth back a)))
 
 -- so it is if they have the same sets, in whatever order and however often
-pub same_sets : (text other buffer : List ℕ) → drawing_refusal text ≡ Accepted → drawing_refusal other ≡ Accepted → drawn_parts text ≡ drawn_parts other
+pub same_sets : (text other buffer : List ℕ) → drawing_refusal text ≡ Ok tt → drawing_refusal other ≡ Ok tt → drawn_parts text ≡ drawn_parts other
     → ((set : ℕ) → Memᴰ set (drawn_sets text) → Memᴰ set (drawn_sets other)) → ((set : ℕ) → Memᴰ set (drawn_sets other) → Memᴰ set (drawn_sets text))
     → record_of_drawing text buffer ≡ record_of_drawing other buffer
 same_sets text other buffer here there parts forth back =
@@ -111,7 +108,7 @@ lines_sets text other lines set m =
     (Memᴰ.map set_on same.1)
 
 -- and so it is if each set line of one stands in the other too, its positions in whatever order
-pub same_lines : (text other buffer : List ℕ) → drawing_refusal text ≡ Accepted → drawing_refusal other ≡ Accepted → drawn_parts text ≡ drawn_parts other
+pub same_lines : (text other buffer : List ℕ) → drawing_refusal text ≡ Ok tt → drawing_refusal other ≡ Ok tt → drawn_parts text ≡ drawn_parts other
     → Redrawn text other → Redrawn other text → record_of_drawing text buffer ≡ record_of_drawing other buffer
 same_lines text other buffer here there parts forth back =
     same_sets text other buffer here there parts (lines_sets text other forth) (lines_sets other text back)
@@ -170,22 +167,22 @@ converted_bytes (first d) = refl
 converted_bytes (second d retired) = refl
 
 -- which nothing refuses where no number is retired
-converted_accepted : (s : Stored) → retired_in s ≡ [] → stored_refusal (convert First) s ≡ Accepted
+converted_accepted : (s : Stored) → retired_in s ≡ [] → stored_refusal (convert First) s ≡ Ok tt
 converted_accepted (first d) none = refl
 converted_accepted (second d retired) none = ap (back_refusal First) none
 
 -- ---- record bytes, their text, and back
 
 -- what is written of an accepted record is the text of its design
-pub text_written : (bytes : List ℕ) (d : Design) (next : ℕ) → whole_record bytes ≡ found d next → (buffer : List ℕ) (k : ℕ) → (drawing_of_record bytes buffer).answer ≡ written.Length k
+pub text_written : (bytes : List ℕ) (d : Design) (next : ℕ) → whole_record bytes ≡ found d next → (buffer : List ℕ) (k : ℕ) → (drawing_of_record bytes buffer).answer ≡ Ok k
     → text_there bytes buffer k ≡ drawing_of d
 unfolding drawing_of_record
 text_written bytes d next read buffer k e = rw read (front (rw read at e))
   where
-    front : (drawing_read (found d next) buffer).answer ≡ written.Length k → take k (drawing_read (found d next) buffer).buffer ≡ drawing_of d
+    front : (drawing_read (found d next) buffer).answer ≡ Ok k → take k (drawing_read (found d next) buffer).buffer ≡ drawing_of d
     front e =
         let left = (drawing_read (found d next) buffer).buffer in
-        (given Accepted (drawing_of d) buffer left k (ap (λ (w : Written). outcome w left) (sym e))).front
+        (given (Ok tt) (drawing_of d) buffer left k (ap (λ (w : Numbered). outcome w left) (sym e))).front
 
 -- two records of the same design, of whatever editions, give the same text
 pub editions_draw_alike : (a b : List ℕ) (s t : Stored) (i j : ℕ) → whole_stored a ≡ found s i → whole_stored b ≡ found t j → design_of s ≡ design_of t → (buffer : List ℕ)
@@ -193,11 +190,11 @@ pub editions_draw_alike : (a b : List ℕ) (s t : Stored) (i j : ℕ) → whole_
 unfolding drawing_of_record
 editions_draw_alike a b s t i j read_a read-b same buffer =
     ap (λ (r : Read Design). drawing_read r buffer) (stored_design a s i read_a)
-    ∙ ap (λ (d : Design). delivered Accepted (drawing_of d) buffer) same
+    ∙ ap (λ (d : Design). delivered (Ok tt) (drawing_of d) buffer) same
     ∙ sym (ap (λ (r : Read Design). drawing_read r buffer) (stored_design b t j read-b))
 
 -- a record that is accepted, its text in one buffer, and the record of that text in another
-module _ (bytes : List ℕ) (bounded : Bytes bytes) (s : Stored) (next : ℕ) (read : whole_stored bytes ≡ found s next) (text_buffer : List ℕ) (text_bytes : ℕ) (e : (drawing_of_record bytes text_buffer).answer ≡ written.Length text_bytes) where
+module _ (bytes : List ℕ) (bounded : Bytes bytes) (s : Stored) (next : ℕ) (read : whole_stored bytes ≡ found s next) (text_buffer : List ℕ) (text_bytes : ℕ) (e : (drawing_of_record bytes text_buffer).answer ≡ Ok text_bytes) where
   abbrev text : List ℕ
   text = text_there bytes text_buffer text_bytes
 
@@ -216,12 +213,12 @@ module _ (bytes : List ℕ) (bounded : Bytes bytes) (s : Stored) (next : ℕ) (r
 
   -- the text is read: only a buffer that is too short refuses it, and 38,732 bytes are enough
   pub text_is_read : (record_buffer : List ℕ) → 38732 ≤ length record_buffer
-      → (record_of_drawing (text_there bytes text_buffer text_bytes) record_buffer).answer ≡ written.Length (length (record_bytes (renumbered (design_of s))))
+      → (record_of_drawing (text_there bytes text_buffer text_bytes) record_buffer).answer ≡ Ok (length (record_bytes (renumbered (design_of s))))
   text_is_read record_buffer long =
       record_given text (ap drawing_refusal there ∙ written_accepted (design_of s) rules) record_buffer long
-      ∙ ap (λ (x : Design). written.Length (length (record_bytes x))) said
+      ∙ ap (λ (x : Design). Ok (length (record_bytes x))) said
 
-  module _ (record_buffer : List ℕ) (count : ℕ) (g : (record_of_drawing (text_there bytes text_buffer text_bytes) record_buffer).answer ≡ written.Length count) where
+  module _ (record_buffer : List ℕ) (count : ℕ) (g : (record_of_drawing (text_there bytes text_buffer text_bytes) record_buffer).answer ≡ Ok count) where
     -- read back, it is a record of edition 1 with the same sets, part numbers 1 to n and mark n
     pub text_read_back : (record_back bytes text_buffer text_bytes record_buffer count ≡ record_bytes (renumbered (design_of s)))
         × (whole_stored (record_back bytes text_buffer text_bytes record_buffer count) ≡ found (first (renumbered (design_of s))) count)
@@ -230,7 +227,7 @@ module _ (bytes : List ℕ) (bounded : Bytes bytes) (s : Stored) (next : ℕ) (r
         (r.0 ∙ ap record_bytes said, r.1 ∙ ap (λ (x : Design). found (first x) count) said)
 
     -- writing that gives the same text
-    pub text_again : (other : List ℕ) (other_bytes : ℕ) → (drawing_of_record (record_back bytes text_buffer text_bytes record_buffer count) other).answer ≡ written.Length other_bytes
+    pub text_again : (other : List ℕ) (other_bytes : ℕ) → (drawing_of_record (record_back bytes text_buffer text_bytes record_buffer count) other).answer ≡ Ok other_bytes
         → text_there (record_back bytes text_buffer text_bytes record_buffer count) other other_bytes ≡ text_there bytes text_buffer text_bytes
     text_again other other_bytes h =
         let back : List ℕ = record_back bytes text_buffer text_bytes record_buffer count in
@@ -251,7 +248,7 @@ module _ (bytes : List ℕ) (bounded : Bytes bytes) (s : Stored) (next : ℕ) (r
       record_converted = same_design ∙ sym (converted_bytes s)
 
       -- so that a call of that conversion gives the same bytes, where the buffer has room for them
-      pub conversion_alike : (buffer : List ℕ) → changed_record (convert First) bytes buffer ≡ delivered Accepted (record_back bytes text_buffer text_bytes record_buffer count) buffer
+      pub conversion_alike : (buffer : List ℕ) → changed_record (convert First) bytes buffer ≡ delivered (Ok tt) (record_back bytes text_buffer text_bytes record_buffer count) buffer
       unfolding changed_record
       conversion_alike buffer =
           ap (λ (r : Read Stored). changed_read (convert First) r buffer) read

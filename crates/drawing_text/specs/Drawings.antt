@@ -1,11 +1,8 @@
 -- What a text of the drawing tool says, and which refusal it meets first, at which line (02, §1).
-use Rattle.std.specs.Prelude.{not, List, [], ◌∷◌, map, ℕ, suc, ◌+◌, eqb, get_or, drop, length}
-use Rattle.answer.specs.Refusals.{empty_list, long_list, unknown_position, wrong_line, repeated_position}
-use Rattle.answer.specs.Outcome.{Outcome, at, refuse, delivered}
+use Rattle.std.specs.Prelude.{not, List, [], ◌∷◌, map, ℕ, suc, ◌+◌, eqb, get_or, drop, length, Ok, Err}
+use Rattle.answer.specs.declared.Reason.TheVariants.{EmptyList, LongList, UnknownPosition, WrongLine, RepeatedPosition}
+use Rattle.answer.specs.Outcome.{Outcome, at, refuse, delivered, Numbered, Verdict}
 use Rattle.answer.specs.Checks.{part_count_refusal}
-use Rattle.answer.specs.declared.Verdict.{Verdict}
-use Rattle.answer.specs.declared.Verdict.TheVariants.{Accepted, Refused}
-use Rattle.answer.specs.declared.Written.{Written}
 use Rattle.theory_orders.specs.Antichains.{most_sets}
 use Rattle.record.specs.RecordBytes.{record_bytes}
 use Rattle.record_lines.specs.Changes.{every, first_design}
@@ -19,15 +16,15 @@ use Rattle.drawing_text.specs.Sets.{set_of, within}
 -- the positions on a set line of n parts, 17: one that is not 1 to n; 28: one that stands twice
 abbrev pub positions_refusal : ℕ → ℕ → List ℕ → Verdict → Verdict
 positions_refusal n place positions later =
-    refuse (not (every (within n) positions)) unknown_position place (refuse (repeated positions) repeated_position place later)
+    refuse (not (every (within n) positions)) UnknownPosition place (refuse (repeated positions) RepeatedPosition place later)
 
 -- The lines behind the first, of which the next has that number. 3 at line 12,872, if there is one, before it is read; 27: a line of another
 -- form; then 17 and 28.
 unfoldable pub set_lines_refusal : ℕ → ℕ → List (List ℕ) → Verdict
-set_lines_refusal n place [] = Accepted
+set_lines_refusal n place [] = (Ok tt)
 set_lines_refusal n place (line ∷ lines) =
-    refuse (eqb place (most_sets + 2)) long_list place
-    (refuse (not (is_set_line line)) wrong_line place
+    refuse (eqb place (most_sets + 2)) LongList place
+    (refuse (not (is_set_line line)) WrongLine place
     (positions_refusal n place (numbers_in line) (set_lines_refusal n (suc place) lines)))
 
 -- the number on a first line, and the set on any other
@@ -39,10 +36,10 @@ set_on line = set_of (numbers_in line)
 
 -- All lines. An empty text has none: 27 at line 1. The first line, 27: another form; 1; 2: the text ends there.
 abbrev pub lines_refusal : List (List ℕ) → Verdict
-lines_refusal [] = Refused (at wrong_line 1)
+lines_refusal [] = Err (at WrongLine 1)
 lines_refusal (first ∷ lines) =
-    refuse (not (is_parts_line first)) wrong_line 1
-    (part_count_refusal 1 (number_on first) (refuse (eqb (length lines) 0) empty_list 1 (set_lines_refusal (number_on first) 2 lines)))
+    refuse (not (is_parts_line first)) WrongLine 1
+    (part_count_refusal 1 (number_on first) (refuse (eqb (length lines) 0) EmptyList 1 (set_lines_refusal (number_on first) 2 lines)))
 
 -- the first refusal of a text
 unfoldable pub drawing_refusal : List ℕ → Verdict
@@ -58,5 +55,5 @@ abbrev pub drawn_sets : List ℕ → List ℕ
 drawn_sets text = map set_on (drop 1 (lines_of text))
 
 -- the record of a text, for a lent buffer: one of edition 1, with part numbers 1 to n, mark n, the minimal sets
-unfoldable pub record_of_drawing : List ℕ → List ℕ → Outcome Written (List ℕ)
+unfoldable pub record_of_drawing : List ℕ → List ℕ → Outcome Numbered (List ℕ)
 record_of_drawing text buffer = delivered (drawing_refusal text) (record_bytes (first_design (drawn_parts text) (drawn_sets text))) buffer

@@ -1,8 +1,6 @@
 -- How a record is written as a text of the drawing tool, and what comes back of it (02, §1).
-use Rattle.std.specs.Prelude.{List, [], ◌∷◌, ◌++◌, map, ℕ, ◌+◌, take}
-use Rattle.answer.specs.Outcome.{Outcome, delivered}
-use Rattle.answer.specs.declared.Verdict.TheVariants.{Accepted, Refused}
-use Rattle.answer.specs.declared.Written.{Written}
+use Rattle.std.specs.Prelude.{List, [], ◌∷◌, ◌++◌, map, ℕ, ◌+◌, take, Ok, Err}
+use Rattle.answer.specs.Outcome.{Outcome, delivered, Numbered}
 use Rattle.numbers.specs.Tables.{tabulate}
 use Rattle.codec.specs.Reads.{Read, found, refused}
 use Rattle.record_parts.specs.PartLists.{list_of}
@@ -25,17 +23,17 @@ unfoldable pub drawing_of : Design → List ℕ
 drawing_of d = text_of d.parts.count d.sets
 
 -- the text of a record of either edition, for a lent buffer: the reader's refusal, or the text of its design or 11
-abbrev pub drawing_read : Read Design → List ℕ → Outcome Written (List ℕ)
-drawing_read (refused r) buffer = delivered (Refused r) [] buffer
-drawing_read (found d next) buffer = delivered Accepted (drawing_of d) buffer
+abbrev pub drawing_read : Read Design → List ℕ → Outcome Numbered (List ℕ)
+drawing_read (refused r) buffer = delivered (Err r) [] buffer
+drawing_read (found d next) buffer = delivered (Ok tt) (drawing_of d) buffer
 
-unfoldable pub drawing_of_record : List ℕ → List ℕ → Outcome Written (List ℕ)
+unfoldable pub drawing_of_record : List ℕ → List ℕ → Outcome Numbered (List ℕ)
 drawing_of_record bytes buffer = drawing_read (whole_record bytes) buffer
 
 -- ---- there and back
 
 -- what stands in front of the buffer of a call that wrote so many bytes
-abbrev pub wrote : Outcome Written (List ℕ) → ℕ → List ℕ
+abbrev pub wrote : Outcome Numbered (List ℕ) → ℕ → List ℕ
 wrote left count = take count left.buffer
 
 -- the text that a call wrote of a record, and the record that a second call wrote of that text

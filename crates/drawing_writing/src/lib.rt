@@ -12,16 +12,16 @@ ghost use Rattle.drawing_text.specs.Forms.{parts_word, set_word, spaced, line_of
 ghost use Rattle.drawing_text.specs.Sets.{positions_of};
 ghost use Rattle.drawing_text.specs.Writing.{lines_of_sets, drawing_of_record, text_of};
 
-use answer::{Verdict, Written};
+use answer::{Reason, Refusal};
 
 // The text of a record's design, into a lent buffer: its number of parts, and its sets. No text is longer than 553,419 bytes.
-pub fn drawing_of_record(bytes: &[u8], buffer: &mut [u8]) -> Written
+pub fn drawing_of_record(bytes: &[u8], buffer: &mut [u8]) -> Result<usize, Refusal>
     ensures { outcome result buffer.new ≡ drawing_of_record bytes.now buffer.old }
 {
     let opened = record_opening::open_record(bytes);
     let verdict = opened.verdict;
-    if let Verdict::Refused(refusal) = verdict {
-        return Written::Refused(refusal);
+    if let Err(refusal) = verdict {
+        return Err(refusal);
     }
     let list = opened.list;
     let sets = opened.sets;
@@ -30,18 +30,18 @@ pub fn drawing_of_record(bytes: &[u8], buffer: &mut [u8]) -> Written
 }
 
 // Writes the text of n parts and these sets into a lent buffer, or says how many bytes it needs.
-fn write_text(n: usize, sets: &[u16], buffer: &mut [u8]) -> Written
+fn write_text(n: usize, sets: &[u16], buffer: &mut [u8]) -> Result<usize, Refusal>
     requires n_le_most_parts { n ≤ most_parts }
     requires sets_len_bound { length sets.now ≤ most_sets }
-    ensures { outcome result buffer.new ≡ delivered Verdict.Accepted (text_of n sets.now) buffer.old }
+    ensures { outcome result buffer.new ≡ delivered (Ok tt) (text_of n sets.now) buffer.old }
 {
     let needed = parts_line_length(n) + set_lines_length(sets);
     if buffer.len() < needed {
-        return answer::short(needed);
+        return Err(Reason::ShortBuffer.at(needed));
     }
     let first = put_parts_line(buffer, n);
     let end = put_set_lines(buffer, first, sets);
-    Written::Length(end)
+    Ok(end)
 }
 
 // How many bytes the first line takes.

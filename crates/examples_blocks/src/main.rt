@@ -2,7 +2,6 @@
 // that they stand for; the file stdout beside this one's folder holds what it must print.
 #![tactic(auto)]
 
-use answer::Written;
 use std::io;
 use std::io::Stdout;
 use vector_kind::Kind;
@@ -112,8 +111,8 @@ fn whole(
     let mut cells = [0i64; 8];
     let wrote = blocks::path_counts_of_blocks(blocks, table, sizes, vectors, &mut cells);
     match wrote {
-        Written::Refused(refusal) => refused(out, refusal.number, refusal.place)?,
-        Written::Length(count) => {
+        Err(refusal) => refused(out, refusal.reason, refusal.place)?,
+        Ok(count) => {
             show_cells(out, &cells, count)?;
             orders_of_front(out, &cells, count)?;
         }
@@ -142,8 +141,8 @@ fn orders(out: Stdout, counts: &[i64]) -> io::Result<()> {
             &mut cells,
         );
         match wrote {
-            Written::Refused(refusal) => refused(out, refusal.number, refusal.place)?,
-            Written::Length(count) => show_cells(out, &cells, count)?,
+            Err(refusal) => refused(out, refusal.reason, refusal.place)?,
+            Ok(count) => show_cells(out, &cells, count)?,
         }
     }
     Ok(())

@@ -2,7 +2,7 @@
 // it must print.
 #![tactic(auto)]
 
-use answer::{Value, Verdict, Written};
+use answer::Refusal;
 use std::io;
 use std::io::Stdout;
 use structure_patterns::Pattern;
@@ -205,8 +205,8 @@ fn figures_of_list(out: Stdout, name: &[u8], n: usize, masks: &[u16]) -> io::Res
     let mut bytes = [0u8; 32];
     let wrote = structure_forms::table_of_list(n, masks, &mut bytes);
     match wrote {
-        Written::Refused(refusal) => refused(out, refusal.number, refusal.place)?,
-        Written::Length(length) => figures_of_front(out, n, &bytes, length)?,
+        Err(refusal) => refused(out, refusal.reason, refusal.place)?,
+        Ok(length) => figures_of_front(out, n, &bytes, length)?,
     }
     Ok(())
 }
@@ -257,20 +257,20 @@ fn importances_of_table(out: Stdout, n: usize, bytes: &[u8]) -> io::Result<()> {
     importances(out, weighed, &counts)
 }
 
-fn vector(out: Stdout, name: &[u8], answer: Written, cells: &[i64]) -> io::Result<()> {
+fn vector(out: Stdout, name: &[u8], answer: Result<usize, Refusal>, cells: &[i64]) -> io::Result<()> {
     say(out, name)?;
     match answer {
-        Written::Refused(refusal) => refused_after(out, refusal.number, refusal.place)?,
-        Written::Length(count) => show_cells(out, cells, count)?,
+        Err(refusal) => refused_after(out, refusal.reason, refusal.place)?,
+        Ok(count) => show_cells(out, cells, count)?,
     }
     say(out, b"\n")
 }
 
-fn importances(out: Stdout, answer: Written, counts: &[u64]) -> io::Result<()> {
+fn importances(out: Stdout, answer: Result<usize, Refusal>, counts: &[u64]) -> io::Result<()> {
     say(out, b"  importances")?;
     match answer {
-        Written::Refused(refusal) => refused_after(out, refusal.number, refusal.place)?,
-        Written::Length(count) => show_counts(out, counts, count)?,
+        Err(refusal) => refused_after(out, refusal.reason, refusal.place)?,
+        Ok(count) => show_counts(out, counts, count)?,
     }
     say(out, b"\n")
 }
@@ -415,8 +415,8 @@ fn table_and_minimal(out: Stdout, n: usize, masks: &[u16]) -> io::Result<()> {
     let mut bytes = [0u8; 4];
     let wrote = structure_forms::table_of_list(n, masks, &mut bytes);
     match wrote {
-        Written::Refused(refusal) => refused(out, refusal.number, refusal.place)?,
-        Written::Length(length) => {
+        Err(refusal) => refused(out, refusal.reason, refusal.place)?,
+        Ok(length) => {
             show_bytes(out, &bytes, length)?;
             minimal(out, n, &bytes, length)?;
         }
@@ -437,8 +437,8 @@ fn minimal_of_table(out: Stdout, n: usize, bytes: &[u8]) -> io::Result<()> {
     let mut sets = [0u16; 8];
     let wrote = structure_forms::minimal_sets(n, bytes, &mut sets);
     match wrote {
-        Written::Refused(refusal) => refused(out, refusal.number, refusal.place)?,
-        Written::Length(count) => show_sets(out, &sets, count)?,
+        Err(refusal) => refused(out, refusal.reason, refusal.place)?,
+        Ok(count) => show_sets(out, &sets, count)?,
     }
     Ok(())
 }
@@ -454,8 +454,8 @@ fn table_cuts_and_dual(out: Stdout, n: usize, masks: &[u16]) -> io::Result<()> {
     let mut bytes = [0u8; 4];
     let wrote = structure_cuts::table_of_cuts(n, masks, &mut bytes);
     match wrote {
-        Written::Refused(refusal) => refused(out, refusal.number, refusal.place)?,
-        Written::Length(length) => forms_of_table(out, n, &bytes, length)?,
+        Err(refusal) => refused(out, refusal.reason, refusal.place)?,
+        Ok(length) => forms_of_table(out, n, &bytes, length)?,
     }
     Ok(())
 }
@@ -474,8 +474,8 @@ fn idle(out: Stdout, name: &[u8], n: usize, bytes: &[u8]) -> io::Result<()> {
     say(out, b": ")?;
     let answer = structure_idle::idle_parts(n, bytes);
     match answer {
-        Value::Refused(refusal) => refused(out, refusal.number, refusal.place)?,
-        Value::Given(mask) => {
+        Err(refusal) => refused(out, refusal.reason, refusal.place)?,
+        Ok(mask) => {
             print!(out; "{mask}")?;
         }
     }
@@ -493,8 +493,8 @@ fn table_of_pattern(out: Stdout, shape: Pattern, n: usize, k: usize) -> io::Resu
     let mut bytes = [0u8; 4];
     let wrote = structure_patterns::table_of_pattern(shape, n, k, &mut bytes);
     match wrote {
-        Written::Refused(refusal) => refused(out, refusal.number, refusal.place)?,
-        Written::Length(length) => forms_of_table(out, n, &bytes, length)?,
+        Err(refusal) => refused(out, refusal.reason, refusal.place)?,
+        Ok(length) => forms_of_table(out, n, &bytes, length)?,
     }
     Ok(())
 }
@@ -519,8 +519,8 @@ fn cuts_of_table(out: Stdout, n: usize, bytes: &[u8]) -> io::Result<()> {
     let mut sets = [0u16; 8];
     let wrote = structure_cuts::minimal_cuts(n, bytes, &mut sets);
     match wrote {
-        Written::Refused(refusal) => refused(out, refusal.number, refusal.place)?,
-        Written::Length(count) => show_sets(out, &sets, count)?,
+        Err(refusal) => refused(out, refusal.reason, refusal.place)?,
+        Ok(count) => show_sets(out, &sets, count)?,
     }
     dual_of_table(out, n, bytes)
 }
@@ -530,18 +530,18 @@ fn dual_of_table(out: Stdout, n: usize, bytes: &[u8]) -> io::Result<()> {
     let mut turned = [0u8; 4];
     let wrote = structure_cuts::dual(n, bytes, &mut turned);
     match wrote {
-        Written::Refused(refusal) => refused(out, refusal.number, refusal.place)?,
-        Written::Length(length) => show_bytes(out, &turned, length)?,
+        Err(refusal) => refused(out, refusal.reason, refusal.place)?,
+        Ok(length) => show_bytes(out, &turned, length)?,
     }
     Ok(())
 }
 
-fn verdict(out: Stdout, answer: Verdict) -> io::Result<()> {
+fn verdict(out: Stdout, answer: Result<(), Refusal>) -> io::Result<()> {
     match answer {
-        Verdict::Accepted => {
+        Ok(()) => {
             say(out, b"accepted")?;
         }
-        Verdict::Refused(refusal) => refused(out, refusal.number, refusal.place)?,
+        Err(refusal) => refused(out, refusal.reason, refusal.place)?,
     }
     Ok(())
 }

@@ -2,7 +2,6 @@
 // stdout beside this one's folder holds what it must print.
 #![tactic(auto)]
 
-use answer::Written;
 use std::io;
 use std::io::Stdout;
 
@@ -49,8 +48,8 @@ fn pair(out: Stdout, name: &[u8], n: usize, first: &[u8], second: &[u8]) -> io::
     let mut cells = [0u64; 16];
     let wrote = joint::joint_signature(n, first, second, &mut cells);
     match wrote {
-        Written::Refused(refusal) => refused(out, refusal.number, refusal.place)?,
-        Written::Length(count) => show_counts(out, &cells, count)?,
+        Err(refusal) => refused(out, refusal.reason, refusal.place)?,
+        Ok(count) => show_counts(out, &cells, count)?,
     }
     say(out, b"\n")
 }

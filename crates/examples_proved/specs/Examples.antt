@@ -1,10 +1,8 @@
 -- The examples of 01 that are marked † ("Examples on each edge"): what is asked of a structure, given by its list of sets, or of a vector,
 -- and the answer.
-use Rattle.std.specs.Prelude.{List, [], ◌∷◌, ℕ, ℤ, pos, negsuc}
-use Rattle.answer.specs.Outcome.{at}
-use Rattle.answer.specs.Refusals.{wrong_path_count, falling_proportion}
-use Rattle.answer.specs.declared.Verdict.{Verdict}
-use Rattle.answer.specs.declared.Verdict.TheVariants.{Accepted, Refused}
+use Rattle.std.specs.Prelude.{List, [], ◌∷◌, ℕ, ℤ, pos, negsuc, Ok, Err}
+use Rattle.answer.specs.Outcome.{at, Verdict}
+use Rattle.answer.specs.declared.Reason.TheVariants.{WrongPathCount, FallingProportion}
 use Rattle.theory_sets.specs.Structures.{listed}
 use Rattle.theory_figures.specs.Figures.{importance, path_counts, tails, signatures, dominations}
 use Rattle.shares_claim.specs.SetBySet.{shares_by_sets}
@@ -111,7 +109,7 @@ examples =
     ∷ gives (counts_of idle_second both) (pos 1 ∷ pos 1 ∷ [])
     ∷ gives (importance_of idle_second 2) (pos 0 ∷ [])
     ∷ gives (counts_of idle_second second) (pos 0 ∷ [])
-    ∷ is_judged (verdict_of PathCounts 3 (pos 0 ∷ pos 3 ∷ pos 2 ∷ pos 1 ∷ [])) (Refused (at falling_proportion 1))
-    ∷ is_judged (verdict_of PathCounts 4 (pos 0 ∷ pos 0 ∷ pos 1 ∷ pos 1 ∷ pos 1 ∷ [])) Accepted
-    ∷ is_judged (verdict_of Tail 5 (pos 120 ∷ pos 120 ∷ pos 100 ∷ pos 24 ∷ pos 0 ∷ pos 0 ∷ [])) (Refused (at wrong_path_count 3))
+    ∷ is_judged (verdict_of PathCounts 3 (pos 0 ∷ pos 3 ∷ pos 2 ∷ pos 1 ∷ [])) (Err (at FallingProportion 1))
+    ∷ is_judged (verdict_of PathCounts 4 (pos 0 ∷ pos 0 ∷ pos 1 ∷ pos 1 ∷ pos 1 ∷ [])) (Ok tt)
+    ∷ is_judged (verdict_of Tail 5 (pos 120 ∷ pos 120 ∷ pos 100 ∷ pos 24 ∷ pos 0 ∷ pos 0 ∷ [])) (Err (at WrongPathCount 3))
     ∷ []

@@ -2,8 +2,7 @@
 // folder holds what it must print.
 #![tactic(auto)]
 
-use answer::Written;
-use codec::{Field, Reading};
+use codec::{Field, Found};
 use record_parts::PartList;
 use record_reader::Found;
 use std::io;
@@ -84,8 +83,8 @@ fn number(out: Stdout, name: &[u8], bytes: &[u8], field: Field) -> io::Result<()
     say(out, b": ")?;
     let found = codec::read_number(bytes, 0, field);
     match found {
-        Reading::Refused(refusal) => refused(out, refusal.number, refusal.place)?,
-        Reading::Number { value, next: _ } => {
+        Err(refusal) => refused(out, refusal.reason, refusal.place)?,
+        Ok(Found { value, next: _ }) => {
             print!(out; "{value}")?;
         }
     }
@@ -98,8 +97,8 @@ fn replayed(out: Stdout) -> io::Result<()> {
     let mut bytes = [0u8; 12];
     let made = record_changes::first_record(3, &[3, 5], &mut bytes);
     match made {
-        Written::Refused(refusal) => refused(out, refusal.number, refusal.place)?,
-        Written::Length(length) => with_spare_pump(out, &bytes, length)?,
+        Err(refusal) => refused(out, refusal.reason, refusal.place)?,
+        Ok(length) => with_spare_pump(out, &bytes, length)?,
     }
     Ok(())
 }
@@ -116,8 +115,8 @@ fn take_pump_out(out: Stdout, record: &[u8]) -> io::Result<()> {
     let mut bytes = [0u8; 12];
     let made = record_changes::take_out(record, 3, &mut bytes);
     match made {
-        Written::Refused(refusal) => refused(out, refusal.number, refusal.place)?,
-        Written::Length(length) => without_spare_pump(out, &bytes, length)?,
+        Err(refusal) => refused(out, refusal.reason, refusal.place)?,
+        Ok(length) => without_spare_pump(out, &bytes, length)?,
     }
     Ok(())
 }
@@ -134,8 +133,8 @@ fn add_sensor(out: Stdout, record: &[u8]) -> io::Result<()> {
     let mut bytes = [0u8; 12];
     let made = record_changes::add_part(record, &mut bytes);
     match made {
-        Written::Refused(refusal) => refused(out, refusal.number, refusal.place)?,
-        Written::Length(length) => with_sensor(out, &bytes, length)?,
+        Err(refusal) => refused(out, refusal.reason, refusal.place)?,
+        Ok(length) => with_sensor(out, &bytes, length)?,
     }
     Ok(())
 }
@@ -166,13 +165,13 @@ fn group(out: Stdout, name: &[u8], record: &[u8], group: usize) -> io::Result<()
     let mut bytes = [0u8; 12];
     let made = record_changes::take_out_group(record, group, &mut bytes);
     match made {
-        Written::Refused(refusal) => {
+        Err(refusal) => {
             say(out, name)?;
             say(out, b": ")?;
-            refused(out, refusal.number, refusal.place)?;
+            refused(out, refusal.reason, refusal.place)?;
             say(out, b"\n")?;
         }
-        Written::Length(length) => group_left(out, name, &bytes, length)?,
+        Ok(length) => group_left(out, name, &bytes, length)?,
     }
     Ok(())
 }
@@ -206,13 +205,13 @@ fn drawing(out: Stdout, name: &[u8], text: &[u8]) -> io::Result<()> {
     let mut bytes = [0u8; 40];
     let read = drawing_reading::record_of_drawing(text, &mut bytes);
     match read {
-        Written::Refused(refusal) => {
+        Err(refusal) => {
             say(out, name)?;
             say(out, b": ")?;
-            refused(out, refusal.number, refusal.place)?;
+            refused(out, refusal.reason, refusal.place)?;
             say(out, b"\n")?;
         }
-        Written::Length(length) => drawn(out, name, &bytes, length)?,
+        Ok(length) => drawn(out, name, &bytes, length)?,
     }
     Ok(())
 }
@@ -229,8 +228,8 @@ fn written_again(out: Stdout, name: &[u8], record: &[u8]) -> io::Result<()> {
     let mut text = [0u8; 80];
     let written = drawing_writing::drawing_of_record(record, &mut text);
     match written {
-        Written::Refused(refusal) => refused(out, refusal.number, refusal.place)?,
-        Written::Length(length) => show_text(out, &text, length)?,
+        Err(refusal) => refused(out, refusal.reason, refusal.place)?,
+        Ok(length) => show_text(out, &text, length)?,
     }
     Ok(())
 }

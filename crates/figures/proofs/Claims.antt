@@ -6,7 +6,7 @@ use Prim.Native.Nat.{ℕ, suc, ◌-◌, ◌^◌}
 use native.Mathlib.Numerals.{sub-one}
 use native.Mathlib.Omega.{arith}
 use lib.IntN.{pos}
-use Rattle.answer.specs.declared.Verdict.TheVariants.{Accepted}
+use Rattle.std.specs.Prelude.{Ok}
 use Rattle.numbers.specs.Tables.{tabulate}
 use Rattle.theory_orders.specs.Counting.{count}
 use Rattle.theory_orders.specs.Formulas.{path_count}
@@ -21,7 +21,7 @@ use Rattle.theory_figures.proofs.Tails.{signature_is_count}
 use Rattle.theory_figures.proofs.Importances.{importance_is_count}
 use Rattle.vector_conversion.proofs.Conversions.{structure_accepted, structure_convert}
 
-module _ (n : ℕ) (table : List ℕ) (accepted : table_refusal n table ≡ Accepted) where
+module _ (n : ℕ) (table : List ℕ) (accepted : table_refusal n table ≡ Ok tt) where
   pub signature_counts : signatures n (in_table table) ≡ tabulate n (λ k. pos (count n (in_table table) (2 ^ n - 1) (suc k)))
   signature_counts =
       tabulate_same n (λ k. signature n (path_count n (in_table table)) (suc k)) (λ k. pos (count n (in_table table) (2 ^ n - 1) (suc k)))
@@ -34,7 +34,7 @@ module _ (n : ℕ) (table : List ℕ) (accepted : table_refusal n table ≡ Acce
       importance_is_count n (in_table table) (accepted_table n table accepted).semicoherent (suc i) (omega arith) h
       ∙ ap (λ (x : ℕ). count n (in_table table) (2 ^ x) 1) (sub-one (suc i)))
 
-  pub vectors_accepted : (kind : Kind) → vector_refusal kind n (figures_of kind n (in_table table)) ≡ Accepted
+  pub vectors_accepted : (kind : Kind) → vector_refusal kind n (figures_of kind n (in_table table)) ≡ Ok tt
   vectors_accepted =
       let a = accepted_table n table accepted in
       structure_accepted n a.some a.few (in_table table) a.semicoherent

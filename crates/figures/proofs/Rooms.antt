@@ -8,10 +8,9 @@ use native.Mathlib.Omega.{arith}
 use lib.IntN.{ℤ}
 use lib.ListN.{length, take, length-append}
 use lib.Seq.{take_at}
-use Rattle.answer.specs.Outcome.{at, and_then, room, front, outcome, delivered}
-use Rattle.answer.specs.Refusals.{short_buffer}
-use Rattle.answer.specs.declared.Verdict.TheVariants.{Accepted, Refused}
-use Rattle.answer.specs.declared.Written.{Written}
+use Rattle.std.specs.Prelude.{Ok, Err}
+use Rattle.answer.specs.Outcome.{at, and_then, room, front, outcome, delivered, Numbered}
+use Rattle.answer.specs.declared.Reason.TheVariants.{ShortBuffer}
 use Rattle.answer.proofs.Outcomes as outcomes
 use Rattle.answer.proofs.Outcomes.{then_accepted, then_passed, then_refused, room_short}
 use Rattle.answer.proofs.Deliveries.{delivered_front}
@@ -31,7 +30,7 @@ pub record Room (n counts signature domination importance : ℕ) : Type 0 where
   pub for_importance : n ≤ importance
 
 module _ (n counts signature domination importance : ℕ) where
-  pub room_accepted : room_refusal n counts signature domination importance ≡ Accepted → Room n counts signature domination importance
+  pub room_accepted : room_refusal n counts signature domination importance ≡ Ok tt → Room n counts signature domination importance
   room_accepted h =
       let c1 = then_accepted (room (n + 1) counts) _ h in
       let c2 = then_accepted (room n signature) _ c1.1 in
@@ -43,37 +42,37 @@ module _ (n counts signature domination importance : ℕ) where
         for_importance = outcomes.room_accepted n importance c3.1;
       }
 
-  pub short_counts : counts < n + 1 → Refused (at short_buffer (n + 1)) ≡ room_refusal n counts signature domination importance
+  pub short_counts : counts < n + 1 → Err (at ShortBuffer (n + 1)) ≡ room_refusal n counts signature domination importance
   short_counts h = sym (then_refused _ (room_short (n + 1) counts h))
 
   module _ (h1 : n + 1 ≤ counts) where
     after_counts : room_refusal n counts signature domination importance ≡ and_then (room n signature) (and_then (room (n + 1) domination) (room n importance))
     after_counts = then_passed _ (outcomes.room_enough (n + 1) counts h1)
 
-    pub short_signature : signature < n → Refused (at short_buffer n) ≡ room_refusal n counts signature domination importance
+    pub short_signature : signature < n → Err (at ShortBuffer n) ≡ room_refusal n counts signature domination importance
     short_signature h = sym (after_counts ∙ then_refused _ (room_short n signature h))
 
     module _ (h2 : n ≤ signature) where
       after_signature : room_refusal n counts signature domination importance ≡ and_then (room (n + 1) domination) (room n importance)
       after_signature = after_counts ∙ then_passed _ (outcomes.room_enough n signature h2)
 
-      pub short_domination : domination < n + 1 → Refused (at short_buffer (n + 1)) ≡ room_refusal n counts signature domination importance
+      pub short_domination : domination < n + 1 → Err (at ShortBuffer (n + 1)) ≡ room_refusal n counts signature domination importance
       short_domination h = sym (after_signature ∙ then_refused _ (room_short (n + 1) domination h))
 
       module _ (h3 : n + 1 ≤ domination) where
         after_domination : room_refusal n counts signature domination importance ≡ room n importance
         after_domination = after_signature ∙ then_passed _ (outcomes.room_enough (n + 1) domination h3)
 
-        pub short_importance : importance < n → Refused (at short_buffer n) ≡ room_refusal n counts signature domination importance
+        pub short_importance : importance < n → Err (at ShortBuffer n) ≡ room_refusal n counts signature domination importance
         short_importance h = sym (after_domination ∙ room_short n importance h)
 
-        pub room_enough : n ≤ importance → Accepted ≡ room_refusal n counts signature domination importance
+        pub room_enough : n ≤ importance → (Ok tt) ≡ room_refusal n counts signature domination importance
         room_enough h = sym (after_domination ∙ outcomes.room_enough n importance h)
 
 -- ---- what is written
 
 -- what a conversion leaves in a buffer that is long enough, where the entries are accepted
-pub converted_stands : (target : Kind) (n : ℕ) (entries cells now : List ℤ) (answer : Written) → vector_refusal PathCounts n entries ≡ Accepted
+pub converted_stands : (target : Kind) (n : ℕ) (entries cells now : List ℤ) (answer : Numbered) → vector_refusal PathCounts n entries ≡ Ok tt
     → length_of target n ≤ length cells → outcome answer now ≡ delivered (vector_refusal PathCounts n entries) (converted target PathCounts n entries) cells
     → now ≡ front (converted target PathCounts n entries) cells
 converted_stands target n entries cells now answer accepted fits e =
@@ -90,10 +89,10 @@ module _ (n : ℕ) (f : ℕ → ℕ) (rest made : List ℕ) (is : made ≡ tabul
   made_front = ap (take n) is ∙ take_at (tabulate n f) rest n (tabulate_length n f)
 
 -- the importances handed out into a buffer that is long enough
-pub importances_front : (n : ℕ) (works : ℕ → Bool) (cells now : List ℕ) (answer : Written) → n ≤ length cells
-    → outcome answer now ≡ delivered Accepted (importances n works) cells → now ≡ front (importances n works) cells
+pub importances_front : (n : ℕ) (works : ℕ → Bool) (cells now : List ℕ) (answer : Numbered) → n ≤ length cells
+    → outcome answer now ≡ delivered (Ok tt) (importances n works) cells → now ≡ front (importances n works) cells
 importances_front n works cells now answer fits e =
-    delivered_front Accepted (importances n works) cells refl (le_trans (le_of_eq (tabulate_length n (λ i. importance n works (suc i)))) fits) e
+    delivered_front (Ok tt) (importances n works) cells refl (le_trans (le_of_eq (tabulate_length n (λ i. importance n works (suc i)))) fits) e
 
 -- all four results written
 pub all_in_front_lem : (n : ℕ) (works : ℕ → Bool) (old : Buffers) (counts signature domination : List ℤ) (importance : List ℕ)

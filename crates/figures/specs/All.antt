@@ -1,8 +1,6 @@
 -- What the call that gives all figures at once leaves behind, on every input.
-use Rattle.std.specs.Prelude.{Bool, List, ℕ, ◌+◌, ℤ, length}
-use Rattle.answer.specs.Outcome.{and_then, room, front, Outcome, outcome, settled}
-use Rattle.answer.specs.declared.Verdict.{Verdict}
-use Rattle.answer.specs.declared.Verdict.TheVariants.{Accepted, Refused}
+use Rattle.std.specs.Prelude.{Bool, List, ℕ, ◌+◌, ℤ, length, Ok, Err}
+use Rattle.answer.specs.Outcome.{and_then, room, front, Outcome, outcome, settled, Verdict}
 use Rattle.theory_sets.specs.Tables.{in_table}
 use Rattle.structure.specs.Checks.{table_refusal}
 use Rattle.theory_figures.specs.Figures.{path_counts, signatures, dominations, importances}
@@ -35,4 +33,4 @@ all_figures n table buffers =
     settled
     (and_then (table_refusal n table)
     (room_refusal n (length buffers.counts) (length buffers.signature) (length buffers.domination) (length buffers.importance)))
-    Refused buffers (outcome Accepted (all_in_front n (in_table table) buffers))
+    Err buffers (outcome (Ok tt) (all_in_front n (in_table table) buffers))

@@ -1,7 +1,6 @@
 -- What the private functions do: a reader of the promises may pass this file over.
 use Rattle.std.specs.Prelude.{List, ◌≡◌, ℕ, suc, ◌-◌, ◌*◌, ◌≤◌, ◌<◌, ℤ, pos, length, get_or}
-use Rattle.answer.specs.Outcome.{and_then}
-use Rattle.answer.specs.declared.Verdict.{Verdict}
+use Rattle.answer.specs.Outcome.{and_then, Verdict}
 use Rattle.numbers.specs.Counts.{factorial}
 use Rattle.numbers.specs.Tables.{tabulate, NoneOver}
 use Rattle.theory_sums.specs.Sums.{sum_below}

@@ -5,55 +5,54 @@ ghost use Rattle.std.specs.Prelude.{◌≡◌, ◌+◌, ◌≤◌, ◌<◌, leng
 ghost use Rattle.numbers.specs.Tables.{tabulate, NoneOver};
 ghost use Rattle.theory_sets.specs.Tables.{in_table};
 ghost use Rattle.answer.specs.Outcome.{front, outcome, delivered};
-ghost use Rattle.answer.specs.declared.Verdict.TheVariants.{Accepted};
 ghost use Rattle.structure.specs.Checks.{table_refusal};
 ghost use Rattle.theory_figures.specs.Figures.{path_counts, tails, signatures, dominations, importances};
 ghost use Rattle.vector_conversion.specs.Vectors.{vector_refusal, converted, figures_of};
 ghost use Rattle.figures.specs.All.{buffers_of, room_refusal, all_in_front, all_figures};
 ghost use Rattle.figures.specs.Inside.{part_weight as ways_of, added_sets, taken_sets, Parted, importance_by, Rows, entries_of, sized_in, rows_in, figures_refusal};
 
-use answer::{Verdict, Written};
+use answer::{Reason, Refusal};
 use vector_kind::Kind;
 
 // The path counts φ(0) to φ(n), into a lent buffer.
-pub fn path_counts(n: usize, table: &[u8], cells: &mut [i64]) -> Written
+pub fn path_counts(n: usize, table: &[u8], cells: &mut [i64]) -> Result<usize, Refusal>
     ensures { outcome result cells.new ≡ delivered (table_refusal n table.now) (path_counts n (in_table table.now)) cells.old }
 {
     vector(Kind::PathCounts, n, table, cells)
 }
 
 // The tail T(0) to T(n), into a lent buffer.
-pub fn tail(n: usize, table: &[u8], cells: &mut [i64]) -> Written
+pub fn tail(n: usize, table: &[u8], cells: &mut [i64]) -> Result<usize, Refusal>
     ensures { outcome result cells.new ≡ delivered (table_refusal n table.now) (tails n (in_table table.now)) cells.old }
 {
     vector(Kind::Tail, n, table, cells)
 }
 
 // The signature N(1) to N(n), into a lent buffer.
-pub fn signature(n: usize, table: &[u8], cells: &mut [i64]) -> Written
+pub fn signature(n: usize, table: &[u8], cells: &mut [i64]) -> Result<usize, Refusal>
     ensures { outcome result cells.new ≡ delivered (table_refusal n table.now) (signatures n (in_table table.now)) cells.old }
 {
     vector(Kind::Signature, n, table, cells)
 }
 
 // The domination d(0) to d(n), into a lent buffer.
-pub fn domination(n: usize, table: &[u8], cells: &mut [i64]) -> Written
+pub fn domination(n: usize, table: &[u8], cells: &mut [i64]) -> Result<usize, Refusal>
     ensures { outcome result cells.new ≡ delivered (table_refusal n table.now) (dominations n (in_table table.now)) cells.old }
 {
     vector(Kind::Domination, n, table, cells)
 }
 
 // The Barlow-Proschan counts of all parts by position, into a lent buffer.
-pub fn importance(n: usize, table: &[u8], cells: &mut [u64]) -> Written
+pub fn importance(n: usize, table: &[u8], cells: &mut [u64]) -> Result<usize, Refusal>
     ensures { outcome result cells.new ≡ delivered (table_refusal n table.now) (importances n (in_table table.now)) cells.old }
 {
     let checked = structure::table_verdict(n, table);
     match checked {
-        Verdict::Refused(refusal) => Written::Refused(refusal),
-        Verdict::Accepted => {
+        Err(refusal) => Err(refusal),
+        Ok(()) => {
             let rows = rows_of(table);
             let made = part_importances(n, &rows);
-            answer::hand_out_counts(&made[..n], cells)
+            answer::hand_out(&made[..n], cells)
         }
     }
 }
@@ -67,7 +66,7 @@ pub fn figures(
     signature: &mut [i64],
     domination: &mut [i64],
     importance: &mut [u64],
-) -> Verdict
+) -> Result<(), Refusal>
     ensures { outcome result (buffers_of counts.new signature.new domination.new importance.new) ≡ all_figures n table.now (buffers_of counts.old signature.old domination.old importance.old) }
 {
     let verdict = figures_verdict(
@@ -79,22 +78,22 @@ pub fn figures(
         importance.len(),
     );
     match verdict {
-        Verdict::Refused(refusal) => Verdict::Refused(refusal),
-        Verdict::Accepted => {
+        Err(refusal) => Err(refusal),
+        Ok(()) => {
             write_figures(n, table, counts, signature, domination, importance);
-            Verdict::Accepted
+            Ok(())
         }
     }
 }
 
 // A vector of a table, into a lent buffer: its path counts converted.
-fn vector(kind: Kind, n: usize, table: &[u8], cells: &mut [i64]) -> Written
+fn vector(kind: Kind, n: usize, table: &[u8], cells: &mut [i64]) -> Result<usize, Refusal>
     ensures { outcome result cells.new ≡ delivered (table_refusal n table.now) (figures_of kind n (in_table table.now)) cells.old }
 {
     let checked = structure::table_verdict(n, table);
     match checked {
-        Verdict::Refused(refusal) => Written::Refused(refusal),
-        Verdict::Accepted => {
+        Err(refusal) => Err(refusal),
+        Ok(()) => {
             let entries = entries_of(table);
             vector_conversion::convert(Kind::PathCounts, n, &entries[..n + 1], kind, cells)
         }
@@ -140,13 +139,13 @@ fn figures_verdict(
     signature: usize,
     domination: usize,
     importance: usize,
-) -> Verdict
+) -> Result<(), Refusal>
     ensures { result ≡ figures_refusal n table.now counts signature domination importance }
 {
     let checked = structure::table_verdict(n, table);
     match checked {
-        Verdict::Refused(refusal) => Verdict::Refused(refusal),
-        Verdict::Accepted => room_verdict(n, counts, signature, domination, importance),
+        Err(refusal) => Err(refusal),
+        Ok(()) => room_verdict(n, counts, signature, domination, importance),
     }
 }
 
@@ -157,23 +156,23 @@ fn room_verdict(
     signature: usize,
     domination: usize,
     importance: usize,
-) -> Verdict
+) -> Result<(), Refusal>
     requires { n ≤ 16 }
     ensures { result ≡ room_refusal n counts signature domination importance }
 {
     if counts < n + 1 {
-        return answer::refused(answer::SHORT_BUFFER, n + 1);
+        return Err(Reason::ShortBuffer.at(n + 1));
     }
     if signature < n {
-        return answer::refused(answer::SHORT_BUFFER, n);
+        return Err(Reason::ShortBuffer.at(n));
     }
     if domination < n + 1 {
-        return answer::refused(answer::SHORT_BUFFER, n + 1);
+        return Err(Reason::ShortBuffer.at(n + 1));
     }
     if importance < n {
-        return answer::refused(answer::SHORT_BUFFER, n);
+        return Err(Reason::ShortBuffer.at(n));
     }
-    Verdict::Accepted
+    Ok(())
 }
 
 // Writes the figures of an accepted table into four buffers that are long enough.
@@ -185,14 +184,14 @@ fn write_figures(
     domination: &mut [i64],
     importance: &mut [u64],
 )
-    requires { figures_refusal n table.now (length counts.old) (length signature.old) (length domination.old) (length importance.old) ≡ Accepted }
+    requires { figures_refusal n table.now (length counts.old) (length signature.old) (length domination.old) (length importance.old) ≡ Ok tt }
     ensures { buffers_of counts.new signature.new domination.new importance.new ≡ all_in_front n (in_table table.now) (buffers_of counts.old signature.old domination.old importance.old) }
 {
     let rows = rows_of(table);
     let entries = signed(&rows[272..289]);
     write_vectors(n, &entries[..n + 1], counts, signature, domination);
     let made = part_importances(n, &rows);
-    answer::hand_out_counts(&made[..n], importance);
+    answer::hand_out(&made[..n], importance);
 }
 
 // Writes the path counts, the signature and the domination by the path counts as entries.
@@ -203,7 +202,7 @@ fn write_vectors(
     signature: &mut [i64],
     domination: &mut [i64],
 )
-    requires entries_accepted { vector_refusal Kind.PathCounts n entries.now ≡ Accepted }
+    requires entries_accepted { vector_refusal Kind.PathCounts n entries.now ≡ Ok tt }
     requires counts_long { n + 1 ≤ length counts.old }
     requires signature_long { n ≤ length signature.old }
     requires domination_long { n + 1 ≤ length domination.old }

@@ -6,6 +6,7 @@ use Prim.Native.Nat.{ℕ, suc, ◌<◌, ◌^◌}
 use native.Mathlib.Nat.{zero-lt-suc}
 use native.Mathlib.Omega.{arith}
 use lib.IntN.{pos}
+use Rattle.std.specs.Prelude.{Ok}
 use Rattle.numbers.specs.Counts.{factorial}
 use Rattle.theory_sums.specs.Sums.{sum_below}
 use Rattle.theory_sums.proofs.Sums.{sum_below_same}
@@ -17,7 +18,6 @@ use Rattle.theory_joint.specs.Joint.{joint_count, joint_square, cell_of}
 use Rattle.theory_joint.specs.Formula.{joint_signature}
 use Rattle.theory_joint.proofs.Square.{joint_transposed, joint_row, joint_column, joint_total, joint_never_before, joint_diagonal, joint_beside, cell_count}
 use Rattle.theory_joint.proofs.Formula.{joint_is_formula}
-use Rattle.answer.specs.declared.Verdict.TheVariants.{Accepted}
 use Rattle.joint.specs.Refusals.{joint_refusal}
 use Rattle.joint.proofs.Tails.{tables_accepted}
 
@@ -33,7 +33,7 @@ module _ (n : ℕ) (first second : List ℕ) where
   square_transposed k l hk hl =
       cell_counts k l hk hl ∙ joint_transposed n (in_table first) (in_table second) (suc k) (suc l) ∙ sym (cell_count n (in_table second) (in_table first) l k hl hk)
 
-module _ (n : ℕ) (first second : List ℕ) (accepted : joint_refusal n first second ≡ Accepted) where
+module _ (n : ℕ) (first second : List ℕ) (accepted : joint_refusal n first second ≡ Ok tt) where
   -- and 004's joint signature times n!
   pub cell_formula : (k l : ℕ) → k < n → l < n → pos (cell_of n (joint_square n (in_table first) (in_table second)) (suc k) (suc l)) ≡ joint_signature n (in_table first) (in_table second) (suc k) (suc l)
   cell_formula k l hk hl =
@@ -68,7 +68,7 @@ module _ (n : ℕ) (first second : List ℕ) (accepted : joint_refusal n first s
       ∙ joint_never_before n (in_table first) (in_table second) (tables_accepted n first second accepted).0.semicoherent runs k l h hl
 
 -- a machine beside itself: its signature on the diagonal, and 0 elsewhere
-module _ (n : ℕ) (table : List ℕ) (accepted : joint_refusal n table table ≡ Accepted) where
+module _ (n : ℕ) (table : List ℕ) (accepted : joint_refusal n table table ≡ Ok tt) where
   pub diagonal : (k : ℕ) → k < n → pos (cell_of n (joint_square n (in_table table) (in_table table)) (suc k) (suc k)) ≡ signature n (path_count n (in_table table)) (suc k)
   diagonal k hk =
       ap pos (cell_counts n table table k k hk hk ∙ joint_diagonal n (in_table table) (suc k))

@@ -9,13 +9,13 @@ use native.Mathlib.Numerals.{add-one}
 use native.Mathlib.Omega.{arith}
 use lib.ListN.{length, get_or}
 use borrow.Author.Tests.{le-leb, lt-leb}
+use Rattle.std.specs.Prelude.{Ok}
 use Rattle.numbers.specs.Counts.{factorial}
 use Rattle.numbers.specs.Tables.{tabulate}
 use Rattle.numbers.proofs.Bounds.{below_or_above}
 use Rattle.numbers.proofs.Counts.{factorials_few, factorial_rises}
 use Rattle.numbers.proofs.Tables.{tabulate_at, tabulate_same, tabulate_length}
 use Rattle.theory_sets.specs.Tables.{in_table}
-use Rattle.answer.specs.declared.Verdict.TheVariants.{Accepted}
 use Rattle.answer.proofs.Outcomes.{then_accepted}
 use Rattle.structure_words.specs.Words.{in_words, words_of}
 use Rattle.structure_words.proofs.Words.{words_say}
@@ -126,13 +126,13 @@ square_few n h = mul-le-mul h h
 
 -- ---- the pairs of two accepted tables
 
-pub tables_accepted : (n : ℕ) (first second : List ℕ) → joint_refusal n first second ≡ Accepted → AcceptedTable n first × AcceptedTable n second
+pub tables_accepted : (n : ℕ) (first second : List ℕ) → joint_refusal n first second ≡ Ok tt → AcceptedTable n first × AcceptedTable n second
 unfolding joint_refusal
 tables_accepted n first second h =
     let both = then_accepted (table_refusal n first) (table_refusal n second) h in
     (accepted_table n first both.0, accepted_table n second both.1)
 
-module _ (n : ℕ) (first second : List ℕ) (accepted : joint_refusal n first second ≡ Accepted) (one other within around : List ℕ)
+module _ (n : ℕ) (first second : List ℕ) (accepted : joint_refusal n first second ≡ Ok tt) (one other within around : List ℕ)
     (is_one : one ≡ words_of (in_table first)) (is-other : other ≡ words_of (in_table second))
     (is_within : within ≡ pairs_by_size (min n 16) (in_words one) (in_words other)) (is_around : around ≡ pairs_by_size (min n 16) (in_words other) (in_words one)) where
   pub counted_tables : Counted n within around

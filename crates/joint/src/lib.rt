@@ -8,23 +8,22 @@ ghost use Rattle.numbers.specs.Tables.{tabulate};
 ghost use Rattle.theory_sets.specs.Tables.{in_table};
 ghost use Rattle.theory_joint.specs.Joint.{joint_square};
 ghost use Rattle.answer.specs.Outcome.{and_then, room, outcome, delivered};
-ghost use Rattle.answer.specs.declared.Verdict.TheVariants.{Accepted};
 ghost use Rattle.joint.specs.Refusals.{joint_refusal};
 ghost use Rattle.joint.specs.Inside.{tail_by, cell_by, Counted};
 
-use answer::{Verdict, Written};
+use answer::Refusal;
 
 // The n × n counts of two machines with the same n parts, into a lent buffer: that of k and l in cell (k-1) × n + l-1.
-pub fn joint_signature(n: usize, first: &[u8], second: &[u8], cells: &mut [u64]) -> Written
+pub fn joint_signature(n: usize, first: &[u8], second: &[u8], cells: &mut [u64]) -> Result<usize, Refusal>
     ensures { outcome result cells.new ≡ delivered (joint_refusal n first.now second.now) (joint_square n (in_table first.now) (in_table second.now)) cells.old }
 {
     let count = cells_needed(n);
     let judged = judge(n, first, second, count, cells.len());
     match judged {
-        Verdict::Refused(refusal) => Written::Refused(refusal),
-        Verdict::Accepted => {
+        Err(refusal) => Err(refusal),
+        Ok(()) => {
             write_square(n, first, second, cells);
-            Written::Length(count)
+            Ok(count)
         }
     }
 }
@@ -40,30 +39,30 @@ fn cells_needed(n: usize) -> usize
 }
 
 // The verdict on a call with two tables that needs so many cells for its result and is lent so many.
-fn judge(n: usize, first: &[u8], second: &[u8], needed: usize, lent: usize) -> Verdict
+fn judge(n: usize, first: &[u8], second: &[u8], needed: usize, lent: usize) -> Result<(), Refusal>
     ensures { result ≡ and_then (joint_refusal n first.now second.now) (room needed lent) }
 {
     let checked = tables_verdict(n, first, second);
     match checked {
-        Verdict::Refused(refusal) => Verdict::Refused(refusal),
-        Verdict::Accepted => answer::room(needed, lent),
+        Err(refusal) => Err(refusal),
+        Ok(()) => answer::room(needed, lent),
     }
 }
 
 // The verdict on two tables, the first before the second.
-fn tables_verdict(n: usize, first: &[u8], second: &[u8]) -> Verdict
+fn tables_verdict(n: usize, first: &[u8], second: &[u8]) -> Result<(), Refusal>
     ensures { result ≡ joint_refusal n first.now second.now }
 {
     let checked = structure::table_verdict(n, first);
     match checked {
-        Verdict::Refused(refusal) => Verdict::Refused(refusal),
-        Verdict::Accepted => structure::table_verdict(n, second),
+        Err(refusal) => Err(refusal),
+        Ok(()) => structure::table_verdict(n, second),
     }
 }
 
 // Writes the square of two accepted tables.
 fn write_square(n: usize, first: &[u8], second: &[u8], cells: &mut [u64])
-    requires second_value { joint_refusal n first.now second.now ≡ Accepted }
+    requires second_value { joint_refusal n first.now second.now ≡ Ok tt }
     requires n_in_bounds { n * n ≤ length cells.old }
     ensures { cells.new ≡ joint_square n (in_table first.now) (in_table second.now) ++ drop (n * n) cells.old }
 {

@@ -6,7 +6,7 @@ ghost use Rattle.answer.specs.Checks.{group_refusal};
 ghost use Rattle.theory_sets.specs.Masks.{size as size_of};
 ghost use Rattle.masks.specs.Groups.{meets, squeezed};
 
-use answer::Verdict;
+use answer::{Reason, Refusal};
 
 // The number of parts in a set.
 pub fn size(mask: usize) -> usize
@@ -43,16 +43,16 @@ pub fn squeezed(set: u16, group: usize) -> u16
 }
 
 // The verdict on a group of n parts.
-pub fn group_verdict(n: usize, group: usize) -> Verdict
-    ensures { result ≡ group_refusal n group Verdict.Accepted }
+pub fn group_verdict(n: usize, group: usize) -> Result<(), Refusal>
+    ensures { result ≡ group_refusal n group (Ok tt) }
 {
     if group == 0 {
-        return answer::refused(answer::EMPTY_GROUP, 0);
+        return Err(Reason::EmptyGroup.at(0));
     }
     if n < 64 {
         if 0 < group >> n {
-            return answer::refused(answer::UNKNOWN_GROUP_PART, 0);
+            return Err(Reason::UnknownGroupPart.at(0));
         }
     }
-    Verdict::Accepted
+    Ok(())
 }

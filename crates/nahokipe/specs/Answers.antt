@@ -1,12 +1,8 @@
 -- What a host is handed. A call leaves what the function behind it leaves, with its answer told in this form: number 0 where the call is given,
 -- with the length written or the number asked for; else the refusal's number, with its place.
-use Rattle.std.specs.Prelude.{ℕ, ◌-◌}
-use Rattle.answer.specs.declared.Verdict.{Verdict}
-use Rattle.answer.specs.declared.Verdict.TheVariants as verdict
-use Rattle.answer.specs.declared.Written.{Written}
-use Rattle.answer.specs.declared.Written.TheVariants as written
-use Rattle.answer.specs.declared.Value.{Value}
-use Rattle.answer.specs.declared.Value.TheVariants as value
+use Rattle.std.specs.Prelude.{ℕ, ◌-◌, Ok, Err}
+use Rattle.answer.specs.Refusals.{number_of}
+use Rattle.answer.specs.Outcome.{Numbered, Verdict}
 use Rattle.record.specs.declared.Contents.{Contents}
 use Rattle.record.specs.declared.Step.{Step}
 use Rattle.record.specs.declared.Step.TheVariants as step
@@ -21,17 +17,17 @@ abbrev pub answer : ℕ → ℕ → Answer
 answer number value = record { number = number; value = value }
 
 abbrev pub of_verdict : Verdict → Answer
-of_verdict verdict.Accepted = answer 0 0
-of_verdict (verdict.Refused r) = answer r.number r.place
+of_verdict (Ok _) = answer 0 0
+of_verdict (Err r) = answer (number_of r.reason) r.place
 
-abbrev pub of_written : Written → Answer
-of_written (written.Length n) = answer 0 n
-of_written (written.Refused r) = answer r.number r.place
+abbrev pub of_written : Numbered → Answer
+of_written (Ok n) = answer 0 n
+of_written (Err r) = answer (number_of r.reason) r.place
 
 -- of a call that gives a number: the number in the place of the length
-abbrev pub of_value : Value → Answer
-of_value (value.Given n) = answer 0 n
-of_value (value.Refused r) = answer r.number r.place
+abbrev pub of_value : Numbered → Answer
+of_value (Ok n) = answer 0 n
+of_value (Err r) = answer (number_of r.reason) r.place
 
 -- what reading a record hands out: the refusal, or 0; the part list; the sets; the stretch of their bytes as offset and length
 abbrev pub of_contents : Contents → Record

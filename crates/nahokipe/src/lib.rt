@@ -39,7 +39,7 @@ ghost use Rattle.report_lines.specs.Lines.{refused_line};
 ghost use Rattle.report_text.specs.Reporting.{report_buffers, reported};
 ghost use Rattle.nahokipe.specs.Answers.{of_verdict, of_written, of_value, of_contents, of_step, of_entries_read};
 
-use answer::{Value, Verdict, Written};
+use answer::Refusal;
 use record::{Contents, Cursor, Step};
 use sheet_entries::EntriesRead;
 use structure_patterns::Pattern;
@@ -572,51 +572,51 @@ pub extern "C" fn nahokipe_report(bytes: &[u8], table: &mut [u8], text: &mut [u8
 // The one line of a refusal.
 #[unsafe(no_mangle)]
 pub extern "C" fn nahokipe_refused_line(number: u8, place: usize, text: &mut [u8]) -> Answer
-    ensures { outcome result text.new ≡ retold of_written (delivered Verdict.Accepted (refused_line (at number place)) text.old) }
+    ensures { outcome result text.new ≡ retold of_written (delivered (Ok tt) (refused_line number place) text.old) }
 {
     of_written(report_lines::refused_line(number, place, text))
 }
 
-fn of_verdict(verdict: Verdict) -> Answer
+fn of_verdict(verdict: Result<(), Refusal>) -> Answer
     ensures { result ≡ of_verdict verdict }
 {
     match verdict {
-        Verdict::Accepted => Answer {
+        Ok(()) => Answer {
             number: 0,
             value: 0,
         },
-        Verdict::Refused(refusal) => Answer {
-            number: refusal.number,
+        Err(refusal) => Answer {
+            number: refusal.reason.number(),
             value: refusal.place,
         },
     }
 }
 
-fn of_written(written: Written) -> Answer
+fn of_written(written: Result<usize, Refusal>) -> Answer
     ensures { result ≡ of_written written }
 {
     match written {
-        Written::Length(length) => Answer {
+        Ok(length) => Answer {
             number: 0,
             value: length,
         },
-        Written::Refused(refusal) => Answer {
-            number: refusal.number,
+        Err(refusal) => Answer {
+            number: refusal.reason.number(),
             value: refusal.place,
         },
     }
 }
 
-fn of_value(value: Value) -> Answer
+fn of_value(value: Result<usize, Refusal>) -> Answer
     ensures { result ≡ of_value value }
 {
     match value {
-        Value::Given(given) => Answer {
+        Ok(given) => Answer {
             number: 0,
             value: given,
         },
-        Value::Refused(refusal) => Answer {
-            number: refusal.number,
+        Err(refusal) => Answer {
+            number: refusal.reason.number(),
             value: refusal.place,
         },
     }

@@ -7,9 +7,9 @@ use Prim.Native.Nat.{ℕ, ◌^◌, ◌≤◌, min}
 use native.Mathlib.Nat.{zero-add}
 use lib.Dec.{ltb}
 use lib.ListN.{length, replicate}
+use Rattle.std.specs.Prelude.{Ok, Err}
+use Rattle.answer.specs.Outcome.{Verdict}
 use Rattle.answer.specs.declared.Refusal.{Refusal}
-use Rattle.answer.specs.declared.Verdict.{Verdict}
-use Rattle.answer.specs.declared.Verdict.TheVariants.{Accepted, Refused}
 use Rattle.codec.specs.declared.Field.TheVariants.{Set}
 use Rattle.codec.specs.Reads.{Read, found, refused}
 use Rattle.codec.proofs.FieldReads.{fields_counted}
@@ -34,25 +34,25 @@ pub record SetsGiven (n : ℕ) (read : Read (List ℕ)) (answer : SetsRead) : Ty
   pub given : read ≡ found sets answer.end
   pub words : answer.words ≡ structure_words n sets
 
-pub sets_given : (n : ℕ) (read : Read (List ℕ)) (answer : SetsRead) → answer ≡ sets_read_of n read → answer.verdict ≡ Accepted → SetsGiven n read answer
+pub sets_given : (n : ℕ) (read : Read (List ℕ)) (answer : SetsRead) → answer ≡ sets_read_of n read → answer.verdict ≡ Ok tt → SetsGiven n read answer
 sets_given n (found sets end) answer e v =
     record { sets = sets; given = ap (found sets) (sym (ap (λ (s : SetsRead). s.end) e)); words = ap (λ (s : SetsRead). s.words) e }
 sets_given n (refused why) answer e v = not_both v (ap (λ (s : SetsRead). s.verdict) e)
 
-pub sets_refused : (n : ℕ) (read : Read (List ℕ)) (answer : SetsRead) (why : Refusal) → answer ≡ sets_read_of n read → answer.verdict ≡ Refused why → read ≡ refused why
+pub sets_refused : (n : ℕ) (read : Read (List ℕ)) (answer : SetsRead) (why : Refusal) → answer ≡ sets_read_of n read → answer.verdict ≡ Err why → read ≡ refused why
 sets_refused n (found sets end) answer why e v = not_both (ap (λ (s : SetsRead). s.verdict) e) v
-sets_refused n (refused r) answer why e v = let same : Refused r ≡ Refused why = sym (ap (λ (s : SetsRead). s.verdict) e) ∙ v in cc same
+sets_refused n (refused r) answer why e v = let same : Err r ≡ Err why = sym (ap (λ (s : SetsRead). s.verdict) e) ∙ v in cc same
 
 -- ---- the sets, from the two passes
 
-pub decided_nested : (v : Verdict) (pass : Pass) (why : Refusal) → v ≡ Refused why → decided v pass ≡ refused why
+pub decided_nested : (v : Verdict) (pass : Pass) (why : Refusal) → v ≡ Err why → decided v pass ≡ refused why
 decided_nested v pass why e = ap (λ (w : Verdict). decided w pass) e
 
-pub decided_refused : (v : Verdict) (pass : Pass) (why : Refusal) → v ≡ Accepted → pass.verdict ≡ Refused why → decided v pass ≡ refused why
-decided_refused v pass why e d = ap (λ (w : Verdict). decided w pass) e ∙ ap (λ (w : Verdict). decided Accepted (passed pass.sets pass.next w)) d
+pub decided_refused : (v : Verdict) (pass : Pass) (why : Refusal) → v ≡ Ok tt → pass.verdict ≡ Err why → decided v pass ≡ refused why
+decided_refused v pass why e d = ap (λ (w : Verdict). decided w pass) e ∙ ap (λ (w : Verdict). decided (Ok tt) (passed pass.sets pass.next w)) d
 
-pub decided_given : (v : Verdict) (pass : Pass) → v ≡ Accepted → pass.verdict ≡ Accepted → decided v pass ≡ found pass.sets pass.next
-decided_given v pass e d = ap (λ (w : Verdict). decided w pass) e ∙ ap (λ (w : Verdict). decided Accepted (passed pass.sets pass.next w)) d
+pub decided_given : (v : Verdict) (pass : Pass) → v ≡ Ok tt → pass.verdict ≡ Ok tt → decided v pass ≡ found pass.sets pass.next
+decided_given v pass e d = ap (λ (w : Verdict). decided w pass) e ∙ ap (λ (w : Verdict). decided (Ok tt) (passed pass.sets pass.next w)) d
 
 -- ---- the words
 
@@ -82,11 +82,11 @@ module _ (bytes : List ℕ) (start : ℕ) where
 
     pub record_given : (sets : List ℕ) (end : ℕ) (words : List ℕ) → head_at bytes start ≡ found head begin → sets_at bytes head.parts.count head.count [] begin ≡ found sets end
         → words ≡ structure_words head.parts.count sets
-        → record { contents = record { list = head.parts; sets = head.count; begin = begin; end = end; next = end; verdict = Accepted }; words = words } ≡ with_words_of (record_at bytes start)
+        → record { contents = record { list = head.parts; sets = head.count; begin = begin; end = end; next = end; verdict = (Ok tt) }; words = words } ≡ with_words_of (record_at bytes start)
     unfolding record_at
     record_given sets end words e d w =
         let counted : head.count ≡ length sets = sym (fields_counted bytes Set (set_refusal head.parts.count) head.count [] begin sets end d ∙ zero-add head.count) in
-        ap₂ (λ (k : ℕ) (ws : List ℕ). record { contents = record { list = head.parts; sets = k; begin = begin; end = end; next = end; verdict = Accepted }; words = ws }) counted w
+        ap₂ (λ (k : ℕ) (ws : List ℕ). record { contents = record { list = head.parts; sets = k; begin = begin; end = end; next = end; verdict = (Ok tt) }; words = ws }) counted w
         ∙ rw (e, d)
 
 -- the contents are those beside the words

@@ -14,11 +14,10 @@ use lib.Dec.{eqb, leb}
 use lib.ListN.{length, get_or, set, replicate, length-append, get_or-append}
 use lib.Pow.{pow_mono, pow-lt}
 use lib.Seq.{get_or-append-add}
-use Rattle.answer.specs.Outcome.{at, refuse}
-use Rattle.answer.specs.Refusals.{wrong_set}
+use Rattle.std.specs.Prelude.{Ok, Err}
+use Rattle.answer.specs.Outcome.{at, refuse, Verdict}
+use Rattle.answer.specs.declared.Reason.TheVariants.{WrongSet}
 use Rattle.answer.specs.declared.Refusal.{Refusal}
-use Rattle.answer.specs.declared.Verdict.{Verdict}
-use Rattle.answer.specs.declared.Verdict.TheVariants.{Accepted, Refused}
 use Rattle.answer.proofs.Outcomes.{refuse_accepted}
 use Rattle.answer.proofs.Checks.{mask_right}
 use Rattle.codec.specs.declared.Field.TheVariants.{Set}
@@ -57,10 +56,10 @@ marked_one list m h =
 
 -- ---- a set that passes
 
-pub rising_right : (n previous place set : ℕ) → rising_refusal n previous place set ≡ Accepted → (set < 2 ^ n) × (0 < set) × (previous < set)
+pub rising_right : (n previous place set : ℕ) → rising_refusal n previous place set ≡ Ok tt → (set < 2 ^ n) × (0 < set) × (previous < set)
 rising_right n previous place set e =
-    let known = mask_right n place set (refuse (leb set previous) wrong_set place Accepted) e in
-    (known.0, known.1, leb-false set previous (refuse_accepted (leb set previous) wrong_set place Accepted known.2).0)
+    let known = mask_right n place set (refuse (leb set previous) WrongSet place (Ok tt)) e in
+    (known.0, known.1, leb-false set previous (refuse_accepted (leb set previous) WrongSet place (Ok tt) known.2).0)
 
 -- what the first pass reads behind the earlier sets rises above them and is of n parts
 pub record Climb (bytes : List ℕ) (n more : ℕ) (earlier : List ℕ) (start : ℕ) : Type 0 where
@@ -158,10 +157,10 @@ module _ {bytes : List ℕ} {n count start : ℕ} {words : List ℕ} {previous n
     rest = sym (step h ∙ ap (λ (r : Read ℕ). pass_on walk.earlier next r later) (sym e));
   }
 
-  pub mark_walk_refused : read < count → (why : Refusal) → refused why ≡ field_at bytes next Set (rising_refusal n previous next) → rising_at bytes n count [] start ≡ passed walk.earlier next (Refused why)
+  pub mark_walk_refused : read < count → (why : Refusal) → refused why ≡ field_at bytes next Set (rising_refusal n previous next) → rising_at bytes n count [] start ≡ passed walk.earlier next (Err why)
   mark_walk_refused h why e = step h ∙ ap (λ (r : Read ℕ). pass_on walk.earlier next r later) (sym e)
 
-  pub mark_walk_end : count ≤ read → rising_at bytes n count [] start ≡ passed walk.earlier next Accepted
+  pub mark_walk_end : count ≤ read → rising_at bytes n count [] start ≡ passed walk.earlier next (Ok tt)
   unfolding rising_at
   mark_walk_end h =
       let none : count - read ≡ 0 = omega arith in
@@ -184,15 +183,15 @@ module _ (bytes : List ℕ) (kept : ℕ → Bool) (count index start : ℕ) wher
     on : (r : Read ℕ) → number_at bytes start Set ≡ r → nested_at bytes kept (count - index) start ≡ nested_on kept start r (λ next. nested_at bytes kept (count - (index + 1)) next)
     on r e = nested_step ∙ ap (λ (f : Read ℕ). nested_on kept start f (λ next. nested_at bytes kept (count - (index + 1)) next)) e
 
-    pub nested_ended : (why : Refusal) → number_at bytes start Set ≡ refused why → Accepted ≡ nested_at bytes kept (count - index) start
+    pub nested_ended : (why : Refusal) → number_at bytes start Set ≡ refused why → (Ok tt) ≡ nested_at bytes kept (count - index) start
     nested_ended why e = sym (on (refused why) e)
 
-    pub nested_here : (value next : ℕ) → number_at bytes start Set ≡ found value next → not (kept value) ≡ true → Refused (at wrong_set start) ≡ nested_at bytes kept (count - index) start
-    nested_here value next e k = sym (on (found value next) e ∙ ap (λ (t : Bool). refuse t wrong_set start (nested_at bytes kept (count - (index + 1)) next)) k)
+    pub nested_here : (value next : ℕ) → number_at bytes start Set ≡ found value next → not (kept value) ≡ true → Err (at WrongSet start) ≡ nested_at bytes kept (count - index) start
+    nested_here value next e k = sym (on (found value next) e ∙ ap (λ (t : Bool). refuse t WrongSet start (nested_at bytes kept (count - (index + 1)) next)) k)
 
     pub nested_past : (value next : ℕ) → number_at bytes start Set ≡ found value next → not (kept value) ≡ false → nested_at bytes kept (count - (index + 1)) next ≡ nested_at bytes kept (count - index) start
-    nested_past value next e k = sym (on (found value next) e ∙ ap (λ (t : Bool). refuse t wrong_set start (nested_at bytes kept (count - (index + 1)) next)) k)
+    nested_past value next e k = sym (on (found value next) e ∙ ap (λ (t : Bool). refuse t WrongSet start (nested_at bytes kept (count - (index + 1)) next)) k)
 
-  pub nested_none : count ≤ index → Accepted ≡ nested_at bytes kept (count - index) start
+  pub nested_none : count ≤ index → (Ok tt) ≡ nested_at bytes kept (count - index) start
   unfolding nested_at
   nested_none h = let none : count - index ≡ 0 = omega arith in sym (ap (λ (k : ℕ). nested_at bytes kept k start) none)

@@ -3,7 +3,7 @@
 use mathlib.Core.Path.{◌≡◌}
 use mathlib.Core.List.{List}
 use Prim.Native.Nat.{ℕ, ◌^◌, ◌≤◌}
-use Rattle.answer.specs.declared.Verdict.TheVariants.{Accepted}
+use Rattle.std.specs.Prelude.{Ok}
 use Rattle.theory_sets.specs.Structures.{listed, minimal, minimal_sets}
 use Rattle.theory_sets.specs.Tables.{in_table, table_of}
 use Rattle.theory_sets.proofs.Ranges.{those_elim, those_rising}
@@ -17,12 +17,12 @@ use Rattle.record.specs.RecordBytes.{SetRules, DesignRules}
 pub rules_accepted_list : (n : ℕ) (sets : List ℕ) → 1 ≤ n → n ≤ 16 → SetRules n sets → AcceptedList n sets
 rules_accepted_list n sets some few r = record { some = some; few = few; any_set = r.some; most = r.most; sets = r.within }
 
-pub design_list : (d : Design) → DesignRules d → list_refusal d.parts.count d.sets ≡ Accepted
+pub design_list : (d : Design) → DesignRules d → list_refusal d.parts.count d.sets ≡ Ok tt
 design_list d r =
     list_accepted d.parts.count d.sets (rules_accepted_list d.parts.count d.sets r.parts.rules.some r.parts.rules.few r.sets)
 
 -- so they give a table that every calculation accepts
-pub design_table_lem : (d : Design) → DesignRules d → table_refusal d.parts.count (table_of d.parts.count (listed d.sets)) ≡ Accepted
+pub design_table_lem : (d : Design) → DesignRules d → table_refusal d.parts.count (table_of d.parts.count (listed d.sets)) ≡ Ok tt
 design_table_lem d r = list_table d.parts.count d.sets (design_list d r)
 
 -- and they are the minimal sets of that table
@@ -30,7 +30,7 @@ pub design_minimal : (d : Design) → DesignRules d → minimal_sets d.parts.cou
 design_minimal d r = list_minimal d.parts.count d.sets (design_list d r) r.sets.rising r.sets.apart
 
 -- the minimal sets of an accepted table keep the rules of a record's sets
-pub minimal_rules : (n : ℕ) (table : List ℕ) → table_refusal n table ≡ Accepted → SetRules n (minimal_sets n (in_table table))
+pub minimal_rules : (n : ℕ) (table : List ℕ) → table_refusal n table ≡ Ok tt → SetRules n (minimal_sets n (in_table table))
 minimal_rules n table h =
     let works = in_table table in
     let l = accepted_list n (minimal_sets n works) (minimal_accepted n table h) in

@@ -12,11 +12,10 @@ use borrow.Author.Tests.{leb-true, eqb-false}
 use lib.Dec.{leb, eqb}
 use lib.ListN.{length}
 use lib.Pow.{pow_mono}
-use Rattle.answer.specs.Outcome.{at, refuse}
-use Rattle.answer.specs.Refusals.{unknown_part, empty_set, wrong_set}
+use Rattle.std.specs.Prelude.{Ok, Err}
+use Rattle.answer.specs.Outcome.{at, refuse, Verdict}
+use Rattle.answer.specs.declared.Reason.TheVariants.{UnknownPart, EmptySet, WrongSet}
 use Rattle.answer.specs.declared.Refusal.{Refusal}
-use Rattle.answer.specs.declared.Verdict.{Verdict}
-use Rattle.answer.specs.declared.Verdict.TheVariants.{Accepted, Refused}
 use Rattle.codec.specs.declared.Field.TheVariants.{Set}
 use Rattle.codec.specs.Reads.{Read, found, refused, then, unless}
 use Rattle.codec.specs.Reading.{number_at}
@@ -117,18 +116,18 @@ fallen earlier v some low = cases (true_or_false (misplaced earlier v))
 -- what the two judgements of one set say: both pass on to 24 against all earlier ones, or both refuse alike
 abbrev Alike : ℕ → List ℕ → ℕ → ℕ → Type 0
 Alike n earlier start v =
-    ((rising_refusal n (last_number 0 earlier) start v ≡ Accepted) × (set_refusal n earlier start v ≡ refuse (misplaced earlier v) wrong_set start Accepted))
-    ⊎ ((why : Refusal) × (rising_refusal n (last_number 0 earlier) start v ≡ Refused why) × (set_refusal n earlier start v ≡ Refused why))
+    ((rising_refusal n (last_number 0 earlier) start v ≡ Ok tt) × (set_refusal n earlier start v ≡ refuse (misplaced earlier v) WrongSet start (Ok tt)))
+    ⊎ ((why : Refusal) × (rising_refusal n (last_number 0 earlier) start v ≡ Err why) × (set_refusal n earlier start v ≡ Err why))
 
 alike : (n : ℕ) (earlier : List ℕ) (start v : ℕ) → Alike n earlier start v
 alike n earlier start v = cases (leb (2 ^ n) v) (eqb v 0) refl (leb v (last_number 0 earlier)) refl
   where
     cases : (unknown empty : Bool) → eqb v 0 ≡ empty → (low : Bool) → leb v (last_number 0 earlier) ≡ low
-        → ((refuse unknown unknown_part start (refuse empty empty_set start (refuse low wrong_set start Accepted)) ≡ Accepted) × (refuse unknown unknown_part start (refuse empty empty_set start (refuse (misplaced earlier v) wrong_set start Accepted)) ≡ refuse (misplaced earlier v) wrong_set start Accepted))
-        ⊎ ((why : Refusal) × (refuse unknown unknown_part start (refuse empty empty_set start (refuse low wrong_set start Accepted)) ≡ Refused why) × (refuse unknown unknown_part start (refuse empty empty_set start (refuse (misplaced earlier v) wrong_set start Accepted)) ≡ Refused why))
-    cases true empty z low l = inr (at unknown_part start, refl, refl)
-    cases false true z low l = inr (at empty_set start, refl, refl)
-    cases false false z true l = inr (at wrong_set start, refl, ap (λ (t : Bool). refuse t wrong_set start Accepted) (fallen earlier v z l))
+        → ((refuse unknown UnknownPart start (refuse empty EmptySet start (refuse low WrongSet start (Ok tt))) ≡ Ok tt) × (refuse unknown UnknownPart start (refuse empty EmptySet start (refuse (misplaced earlier v) WrongSet start (Ok tt))) ≡ refuse (misplaced earlier v) WrongSet start (Ok tt)))
+        ⊎ ((why : Refusal) × (refuse unknown UnknownPart start (refuse empty EmptySet start (refuse low WrongSet start (Ok tt))) ≡ Err why) × (refuse unknown UnknownPart start (refuse empty EmptySet start (refuse (misplaced earlier v) WrongSet start (Ok tt))) ≡ Err why))
+    cases true empty z low l = inr (at UnknownPart start, refl, refl)
+    cases false true z low l = inr (at EmptySet start, refl, refl)
+    cases false false z true l = inr (at WrongSet start, refl, ap (λ (t : Bool). refuse t WrongSet start (Ok tt)) (fallen earlier v z l))
     cases false false z false l = inl (refl, refl)
 
 -- ---- the passes
@@ -140,17 +139,17 @@ module _ (bytes : List ℕ) (n : ℕ) (p : Pass) (kept : ℕ → Bool) (rising :
     behind_earlier : p.sets ≡ earlier ++ rest
     same : sets_at bytes n more earlier start ≡ decided (nested_at bytes kept (length rest) start) p
 
-  nothing_more : (more : ℕ) (earlier : List ℕ) (start : ℕ) (v : Verdict) → p ≡ passed earlier start v → sets_at bytes n more earlier start ≡ decided Accepted (passed earlier start v) → Decides more earlier start
+  nothing_more : (more : ℕ) (earlier : List ℕ) (start : ℕ) (v : Verdict) → p ≡ passed earlier start v → sets_at bytes n more earlier start ≡ decided (Ok tt) (passed earlier start v) → Decides more earlier start
   unfolding nested_at
   nothing_more more earlier start v e d = record {
     rest = [];
     behind_earlier = ap (λ (q : Pass). q.sets) e ∙ sym (append-nil earlier);
-    same = d ∙ ap (decided Accepted) (sym e);
+    same = d ∙ ap (decided (Ok tt)) (sym e);
   }
 
   decides : (more : ℕ) (earlier : List ℕ) (start : ℕ) → p ≡ rising_at bytes n more earlier start → Decides more earlier start
   unfolding rising_at fields_at field_at nested_at
-  decides zero earlier start e = nothing_more zero earlier start Accepted e refl
+  decides zero earlier start e = nothing_more zero earlier start (Ok tt) e refl
   decides (suc more) earlier start e = number (λ v next k. decides more (earlier ++ (v ∷ [])) next k) (number_at bytes start Set) refl
     where
       later : ℕ → ℕ → Pass
@@ -161,7 +160,7 @@ module _ (bytes : List ℕ) (n : ℕ) (p : Pass) (kept : ℕ → Bool) (rising :
 
       number : ((v next : ℕ) → p ≡ later v next → Decides more (earlier ++ (v ∷ [])) next) → (r : Read ℕ) → number_at bytes start Set ≡ r → Decides (suc more) earlier start
       number on (refused why) read =
-          nothing_more (suc more) earlier start (Refused why) (e ∙ ap (λ (f : Read ℕ). pass_on earlier start (judged (rising_refusal n (last_number 0 earlier) start) f) later) read)
+          nothing_more (suc more) earlier start (Err why) (e ∙ ap (λ (f : Read ℕ). pass_on earlier start (judged (rising_refusal n (last_number 0 earlier) start) f) later) read)
           (ap (λ (f : Read ℕ). then (judged (set_refusal n earlier start) f) goes_on) read)
       number on (found v next) read = verdicts (alike n earlier start v)
         where
@@ -173,7 +172,7 @@ module _ (bytes : List ℕ) (n : ℕ) (p : Pass) (kept : ℕ → Bool) (rising :
 
           verdicts : Alike n earlier start v → Decides (suc more) earlier start
           verdicts (inr both) =
-              nothing_more (suc more) earlier start (Refused both.0)
+              nothing_more (suc more) earlier start (Err both.0)
               (pass_is ∙ ap (λ (w : Verdict). pass_on earlier start (unless w (found v next)) later) both.1)
               (sets_are ∙ ap (λ (w : Verdict). then (unless w (found v next)) goes_on) both.2)
           verdicts (inl both) =
@@ -191,7 +190,7 @@ module _ (bytes : List ℕ) (n : ℕ) (p : Pass) (kept : ℕ → Bool) (rising :
               }
             where
               twice : (wrong keep : Bool) → keep ≡ not wrong → (nested : Verdict) (goes : ℕ → ℕ → Read (List ℕ)) → goes v next ≡ decided nested p
-                  → then (unless (refuse wrong wrong_set start Accepted) (found v next)) goes ≡ decided (refuse (not keep) wrong_set start nested) p
+                  → then (unless (refuse wrong WrongSet start (Ok tt)) (found v next)) goes ≡ decided (refuse (not keep) WrongSet start nested) p
               twice true true k nested goes s = clash {p = true} refl k
               twice true false k nested goes s = refl
               twice false true k nested goes s = s

@@ -11,9 +11,9 @@ use native.Mathlib.Omega.{arith}
 use borrow.Author.Tests.{leb-false, lt-leb}
 use lib.Dec.{leb}
 use lib.Pow.{pow_mono}
-use Rattle.answer.specs.Refusals.{wrong_set}
+use Rattle.std.specs.Prelude.{Ok}
+use Rattle.answer.specs.declared.Reason.TheVariants.{WrongSet}
 use Rattle.answer.specs.Outcome.{refuse}
-use Rattle.answer.specs.declared.Verdict.TheVariants.{Accepted}
 use Rattle.answer.proofs.Outcomes.{refuse_accepted, refuse_passed}
 use Rattle.answer.proofs.Checks.{mask_passed, mask_right}
 use Rattle.codec.specs.declared.Field.TheVariants.{Set}
@@ -54,15 +54,15 @@ none_misplaced (y ∷ earlier) x h =
 
 module _ (n : ℕ) where
   -- a set that passes is of n parts, is not empty and is right after the earlier ones
-  pub set_right : (earlier : List ℕ) (place set : ℕ) → set_refusal n earlier place set ≡ Accepted → (set < 2 ^ n) × (0 < set) × (misplaced earlier set ≡ false)
+  pub set_right : (earlier : List ℕ) (place set : ℕ) → set_refusal n earlier place set ≡ Ok tt → (set < 2 ^ n) × (0 < set) × (misplaced earlier set ≡ false)
   set_right earlier place set e =
-      let known = mask_right n place set (refuse (misplaced earlier set) wrong_set place Accepted) e in
-      (known.0, known.1, (refuse_accepted (misplaced earlier set) wrong_set place Accepted known.2).0)
+      let known = mask_right n place set (refuse (misplaced earlier set) WrongSet place (Ok tt)) e in
+      (known.0, known.1, (refuse_accepted (misplaced earlier set) WrongSet place (Ok tt) known.2).0)
 
-  right_set : (earlier : List ℕ) (place set : ℕ) → set < 2 ^ n → 0 < set → misplaced earlier set ≡ false → set_refusal n earlier place set ≡ Accepted
+  right_set : (earlier : List ℕ) (place set : ℕ) → set < 2 ^ n → 0 < set → misplaced earlier set ≡ false → set_refusal n earlier place set ≡ Ok tt
   right_set earlier place set known some free =
-      mask_passed n place set (refuse (misplaced earlier set) wrong_set place Accepted) known some
-      ∙ refuse_passed (misplaced earlier set) wrong_set place Accepted free
+      mask_passed n place set (refuse (misplaced earlier set) WrongSet place (Ok tt)) known some
+      ∙ refuse_passed (misplaced earlier set) WrongSet place (Ok tt) free
 
   pub sets_any_place : AnyPlace (set_refusal n)
   sets_any_place earlier place other set e = let right = set_right earlier place set e in right_set earlier other set right.0 right.1 right.2

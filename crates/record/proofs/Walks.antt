@@ -5,11 +5,10 @@ use mathlib.Core.List.{List, [], ◌∷◌, ◌++◌, append_assoc, append-nil}
 use Prim.Native.Nat.{ℕ, zero, suc, ◌-◌}
 use native.Mathlib.Nat.{pos_of_ne-zero}
 use native.Mathlib.Omega.{arith}
+use Rattle.std.specs.Prelude.{Err}
 use Rattle.answer.specs.declared.Refusal.{Refusal}
 use Rattle.codec.specs.declared.Field.TheVariants as field
-use Rattle.codec.specs.declared.Reading.{Reading}
-use Rattle.codec.specs.declared.Reading.TheVariants as reading
-use Rattle.codec.specs.Reads.{Read, found, reading_of}
+use Rattle.codec.specs.Reads.{Read, found, reading_of, answered, Reading}
 use Rattle.codec.specs.Reading.{number_at}
 use Rattle.codec.specs.FieldReads.{field_at, fields_at}
 use Rattle.codec.proofs.Found.{then_found, field_number, answer_number, answer_refused}
@@ -39,13 +38,13 @@ module _ (bytes : List ℕ) (next left : ℕ) where
   unfolding step_at
   step_none e = sym (ap (step_from bytes next) e)
 
-  module _ (some : left ≡ 0 → ⊥) {r : Reading} (read : r ≡ reading_of (number_at bytes next field.Set)) where
+  module _ (some : left ≡ 0 → ⊥) {r : Reading ℕ} (read : r ≡ reading_of (number_at bytes next field.Set)) where
     here : step_on (number_at bytes next field.Set) (left - 1) ≡ step_at bytes (cursor next left)
     unfolding step_at
     here = let more : left ≡ suc (left - 1) = omega (arith, pos_of_ne-zero some) in sym (ap (step_from bytes next) more)
 
-    pub step_ended : (why : Refusal) → r ≡ reading.Refused why → End ≡ step_at bytes (cursor next left)
+    pub step_ended : (why : Refusal) → r ≡ Err why → End ≡ step_at bytes (cursor next left)
     step_ended why e = sym (ap (λ (f : Read ℕ). step_on f (left - 1)) (answer_refused (number_at bytes next field.Set) why (sym e ∙ read))) ∙ here
 
-    pub step_set : (value after : ℕ) → r ≡ reading.Number value after → Set value (cursor after (left - 1)) ≡ step_at bytes (cursor next left)
+    pub step_set : (value after : ℕ) → r ≡ answered value after → Set value (cursor after (left - 1)) ≡ step_at bytes (cursor next left)
     step_set value after e = sym (ap (λ (f : Read ℕ). step_on f (left - 1)) (answer_number (number_at bytes next field.Set) value after (sym e ∙ read))) ∙ here

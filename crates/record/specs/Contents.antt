@@ -1,7 +1,6 @@
 -- What the reading functions answer: the contents of a record, the stretch of its sets, and a walk along them.
-use Rattle.std.specs.Prelude.{◌&&◌, List, [], ◌∷◌, ℕ, zero, suc, ◌-◌, ◌^◌, ltb, length, take, drop}
+use Rattle.std.specs.Prelude.{◌&&◌, List, [], ◌∷◌, ℕ, zero, suc, ◌-◌, ◌^◌, ltb, length, take, drop, Ok, Err}
 use Rattle.answer.specs.declared.Refusal.{Refusal}
-use Rattle.answer.specs.declared.Verdict.TheVariants.{Accepted, Refused}
 use Rattle.codec.specs.declared.Field.TheVariants as field
 use Rattle.codec.specs.Reads.{Read, found, refused}
 use Rattle.codec.specs.Reading.{number_at}
@@ -19,7 +18,7 @@ use Rattle.record.specs.Records.{DesignAt}
 
 -- of a refused record: the refusal, a list of no parts and an empty stretch
 abbrev pub nothing : Refusal → Contents
-nothing refusal = record { list = list_of 0 []; sets = 0; begin = 0; end = 0; next = 0; verdict = Refused refusal }
+nothing refusal = record { list = list_of 0 []; sets = 0; begin = 0; end = 0; next = 0; verdict = Err refusal }
 
 -- The contents of a record: its part list, the number of its sets, from where to where their bytes stand, and the position after the record.
 abbrev pub contents_of : Read DesignAt → Contents
@@ -29,7 +28,7 @@ contents_of (found here next) = record {
   begin = here.begin;
   end = here.end;
   next = next;
-  verdict = Accepted;
+  verdict = (Ok tt);
 }
 contents_of (refused refusal) = nothing refusal
 

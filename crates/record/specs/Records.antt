@@ -1,11 +1,9 @@
 -- What design record of edition 1 stands at bytes from a position on (01, "Records on disk"), or which refusal at which place: each number is
 -- judged as it is read, and places are counted in the whole input. In a record of edition 2 the same fields stand behind the edition.
-use Rattle.std.specs.Prelude.{Bool, false, ◌||◌, List, [], ◌∷◌, ℕ, leb}
-use Rattle.answer.specs.Refusals.{wrong_set}
-use Rattle.answer.specs.Outcome.{refuse}
+use Rattle.std.specs.Prelude.{Bool, false, ◌||◌, List, [], ◌∷◌, ℕ, leb, Ok}
+use Rattle.answer.specs.declared.Reason.TheVariants.{WrongSet}
+use Rattle.answer.specs.Outcome.{refuse, Verdict}
 use Rattle.answer.specs.Checks.{mask_refusal}
-use Rattle.answer.specs.declared.Verdict.{Verdict}
-use Rattle.answer.specs.declared.Verdict.TheVariants as verdict
 use Rattle.codec.specs.declared.Field.TheVariants.{Set}
 use Rattle.codec.specs.Reads.{Read, found, then}
 use Rattle.codec.specs.FieldReads.{fields_at}
@@ -22,7 +20,7 @@ misplaced (other ∷ earlier) set = leb set other || (holds set other || misplac
 
 -- a set of n parts: 4, 5, and then 24 against every earlier one. It is a number of 32 bits before it is a mask.
 abbrev pub set_refusal : ℕ → List ℕ → ℕ → ℕ → Verdict
-set_refusal n earlier place set = mask_refusal n place set (refuse (misplaced earlier set) wrong_set place verdict.Accepted)
+set_refusal n earlier place set = mask_refusal n place set (refuse (misplaced earlier set) WrongSet place (Ok tt))
 
 -- ---- the record
 

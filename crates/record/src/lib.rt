@@ -10,8 +10,8 @@ ghost use Rattle.record.specs.Records.{sets_at, record_at};
 ghost use Rattle.record.specs.Contents.{structure_words, with_words_of, table_of_words, step_at};
 ghost use Rattle.record.specs.Inside.{sets_read_of, rising_refusal, rising_at, marked_of, nested_at};
 
-use answer::{Refusal, Verdict, Written};
-use codec::{Field, Reading};
+use answer::{Reason, Refusal};
+use codec::{Field, Standing};
 use record_parts::PartList;
 
 // What reading a record finds: its part list, the number of its sets, where their bytes begin and end, and the position after the record.
@@ -23,7 +23,7 @@ pub struct Contents {
     pub begin: usize,
     pub end: usize,
     pub next: usize,
-    pub verdict: Verdict,
+    pub verdict: Result<(), Refusal>,
 }
 
 // The contents of a record and the words of its structure: the bit of each set of its parts that holds one of its sets. Of a refused record
@@ -55,7 +55,7 @@ struct Marked {
     words: [u64; 1024],
     read: usize,
     next: usize,
-    verdict: Verdict,
+    verdict: Result<(), Refusal>,
 }
 
 // The words of the structure that the sets of a record give and where the sets end, or why they are refused.
@@ -63,7 +63,7 @@ struct Marked {
 struct SetsRead {
     words: [u64; 1024],
     end: usize,
-    verdict: Verdict,
+    verdict: Result<(), Refusal>,
 }
 
 // The contents and the structure of the record of edition 1 that stands at a position. What comes after it is not looked at.
@@ -73,16 +73,16 @@ pub fn read_with_words(bytes: &[u8], start: usize) -> WithWords
     let heading = record_head::read_heading(bytes, start);
     let verdict = heading.verdict;
     match verdict {
-        Verdict::Refused(refusal) => refused_with_words(refusal.number, refusal.place),
-        Verdict::Accepted => {
+        Err(refusal) => refused_with_words(refusal.reason, refusal.place),
+        Ok(()) => {
             let list = heading.list;
             let sets = heading.sets;
             let begin = heading.begin;
             let read = read_sets(bytes, begin, list.count, sets);
             let judged = read.verdict;
             match judged {
-                Verdict::Refused(refusal) => refused_with_words(refusal.number, refusal.place),
-                Verdict::Accepted => {
+                Err(refusal) => refused_with_words(refusal.reason, refusal.place),
+                Ok(()) => {
                     let end = read.end;
                     let words = read.words;
                     let contents = Contents {
@@ -91,7 +91,7 @@ pub fn read_with_words(bytes: &[u8], start: usize) -> WithWords
                         begin,
                         end,
                         next: end,
-                        verdict: Verdict::Accepted,
+                        verdict: Ok(()),
                     };
                     WithWords { contents, words }
                 }
@@ -112,8 +112,8 @@ impl Cursor {
         let next = self.next;
         let number = codec::read_number(bytes, next, Field::Set);
         match number {
-            Reading::Refused(_) => Step::End,
-            Reading::Number { value, next: after } => Step::Set {
+            Err(_) => Step::End,
+            Ok(Standing { value, next: after }) => Step::Set {
                 set: value,
                 cursor: Cursor {
                     next: after,
@@ -125,14 +125,14 @@ impl Cursor {
 }
 
 // The table of a record that was read with its words, into a lent buffer.
-pub fn store_table(read: WithWords, table: &mut [u8]) -> Written
+pub fn store_table(read: WithWords, table: &mut [u8]) -> Result<usize, Refusal>
     ensures { outcome result table.new ≡ delivered read.contents.verdict (table_of_words read.contents.list.count read.words) table.old }
 {
     let contents = read.contents;
     let verdict = contents.verdict;
     match verdict {
-        Verdict::Refused(refusal) => Written::Refused(refusal),
-        Verdict::Accepted => {
+        Err(refusal) => Err(refusal),
+        Ok(()) => {
             let list = contents.list;
             let words = read.words;
             structure::hand_out_table(list.count, &words, table)
@@ -141,31 +141,31 @@ pub fn store_table(read: WithWords, table: &mut [u8]) -> Written
 }
 
 // A set of n parts that rises above the one before it; whether it holds an earlier one is not asked here.
-fn read_set(bytes: &[u8], start: usize, n: usize, previous: u64) -> Reading
+fn read_set(bytes: &[u8], start: usize, n: usize, previous: u64) -> Result<Standing<u64>, Refusal>
     requires { n ≤ 16 }
     ensures { result ≡ reading_of (field_at bytes.now start Field.Set (rising_refusal n previous start)) }
 {
     let number = codec::read_number(bytes, start, Field::Set);
     match number {
-        Reading::Refused(refusal) => Reading::Refused(refusal),
-        Reading::Number { value, next } => {
+        Err(refusal) => Err(refusal),
+        Ok(Standing { value, next }) => {
             if numbers::power_of_two(n) as u64 <= value {
-                return codec::refused(answer::UNKNOWN_PART, start);
+                return Err(Reason::UnknownPart.at(start));
             }
             if value == 0 {
-                return codec::refused(answer::EMPTY_SET, start);
+                return Err(Reason::EmptySet.at(start));
             }
             if value <= previous {
-                return codec::refused(answer::WRONG_SET, start);
+                return Err(Reason::WrongSet.at(start));
             }
-            Reading::Number { value, next }
+            Ok(Standing { value, next })
         }
     }
 }
 
 // Of a refused record, by its number and place.
-pub fn refused_with_words(number: u8, place: usize) -> WithWords
-    ensures { result ≡ with_words_of (refused (at number place)) }
+pub fn refused_with_words(reason: Reason, place: usize) -> WithWords
+    ensures { result ≡ with_words_of (refused (at reason place)) }
 {
     let contents = Contents {
         list: PartList {
@@ -177,7 +177,7 @@ pub fn refused_with_words(number: u8, place: usize) -> WithWords
         begin: 0,
         end: 0,
         next: 0,
-        verdict: Verdict::Refused(Refusal { number, place }),
+        verdict: Err(Refusal { reason, place }),
     };
     WithWords {
         contents,
@@ -196,27 +196,27 @@ fn read_sets(bytes: &[u8], start: usize, n: usize, count: usize) -> SetsRead
     let reached = structure_closure::spread(&words, n);
     let minimal = structure_closure::irredundant(&reached, n);
     let nested = first_nested(bytes, start, marked.read, &minimal);
-    if let Verdict::Refused(refusal) = nested {
-        return refused_sets(refusal.number, refusal.place);
+    if let Err(refusal) = nested {
+        return refused_sets(refusal.reason, refusal.place);
     }
     let verdict = marked.verdict;
     match verdict {
-        Verdict::Refused(refusal) => refused_sets(refusal.number, refusal.place),
-        Verdict::Accepted => SetsRead {
+        Err(refusal) => refused_sets(refusal.reason, refusal.place),
+        Ok(()) => SetsRead {
             words: reached,
             end: marked.next,
-            verdict: Verdict::Accepted,
+            verdict: Ok(()),
         },
     }
 }
 
-fn refused_sets(number: u8, place: usize) -> SetsRead
-    ensures { result ≡ record { words = structure_words 0 []; end = 0; verdict = Verdict.Refused (at number place) } }
+fn refused_sets(reason: Reason, place: usize) -> SetsRead
+    ensures { result ≡ record { words = structure_words 0 []; end = 0; verdict = Err (at reason place) } }
 {
     SetsRead {
         words: [0u64; 1024],
         end: 0,
-        verdict: Verdict::Refused(Refusal { number, place }),
+        verdict: Err(Refusal { reason, place }),
     }
 }
 
@@ -232,15 +232,15 @@ fn mark_sets(bytes: &[u8], start: usize, n: usize, count: usize) -> Marked
     while read < count {
         let set = read_set(bytes, next, n, previous);
         match set {
-            Reading::Refused(refusal) => {
+            Err(refusal) => {
                 return Marked {
                     words,
                     read,
                     next,
-                    verdict: Verdict::Refused(refusal),
+                    verdict: Err(refusal),
                 };
             }
-            Reading::Number { value, next: after } => {
+            Ok(Standing { value, next: after }) => {
                 let at = value as usize / 64;
                 words[at] = words[at] | (1 << (value % 64));
                 previous = value;
@@ -253,26 +253,26 @@ fn mark_sets(bytes: &[u8], start: usize, n: usize, count: usize) -> Marked
         words,
         read,
         next,
-        verdict: Verdict::Accepted,
+        verdict: Ok(()),
     }
 }
 
 // The second pass: 24 at the first of so many sets that is none of the minimal ones.
-fn first_nested(bytes: &[u8], start: usize, count: usize, minimal: &[u64]) -> Verdict
+fn first_nested(bytes: &[u8], start: usize, count: usize, minimal: &[u64]) -> Result<(), Refusal>
     ensures { result ≡ nested_at bytes.now (in_words minimal.now) count start }
 {
     let mut next = start;
     let mut index = 0;
     while index < count {
         let number = codec::read_number(bytes, next, Field::Set);
-        let Reading::Number { value, next: after } = number else {
-            return Verdict::Accepted;
+        let Ok(Standing { value, next: after }) = number else {
+            return Ok(());
         };
         if !structure_words::works(minimal, value as usize) {
-            return answer::refused(answer::WRONG_SET, next);
+            return Err(Reason::WrongSet.at(next));
         }
         next = after;
         index += 1;
     }
-    Verdict::Accepted
+    Ok(())
 }

@@ -7,12 +7,8 @@ use mathlib.Core.Logic.{◌↔◌}
 use Prim.Native.Nat.{ℕ, ◌-◌, ◌≤◌}
 use native.Mathlib.Omega.{arith}
 use lib.ListN.{length}
-use Rattle.answer.specs.Outcome.{Outcome, valued}
-use Rattle.answer.specs.declared.Verdict.{Verdict}
-use Rattle.answer.specs.declared.Value.{Value}
-use Rattle.answer.specs.declared.Value.TheVariants as value
-use Rattle.answer.specs.declared.Written.{Written}
-use Rattle.answer.specs.declared.Written.TheVariants as written
+use Rattle.std.specs.Prelude.{Ok, Err}
+use Rattle.answer.specs.Outcome.{Outcome, valued, Numbered, Verdict}
 use Rattle.answer.proofs.Outcomes.{given_valued}
 use Rattle.codec.specs.Bytes.{Bytes}
 use Rattle.codec.specs.Reads.{found}
@@ -41,14 +37,14 @@ use Rattle.record_by_number.specs.Parts.{looked_up, part_position, parts_mask, c
 use Rattle.record_by_number.specs.Effects.{Leave, SetComes}
 
 -- a change that was made was one where the parts stand
-record There (change : ℕ → Change) (v : Value) (bytes buffer : List ℕ) : Type 0 where
+record There (change : ℕ → Change) (v : Numbered) (bytes buffer : List ℕ) : Type 0 where
   there : ℕ
-  given : v ≡ value.Given there
+  given : v ≡ Ok there
   same : changed_there change v bytes buffer ≡ changed_record (change there) bytes buffer
 
-made_there : (change : ℕ → Change) (v : Value) (bytes buffer : List ℕ) (k : ℕ) → (changed_there change v bytes buffer).answer ≡ written.Length k → There change v bytes buffer
-made_there change (value.Refused why) bytes buffer k e = let z : ◌≡◌ {A = ℕ} 0 1 = cc in absurd (omega arith)
-made_there change (value.Given there) bytes buffer k e = record { there = there; given = refl; same = refl }
+made_there : (change : ℕ → Change) (v : Numbered) (bytes buffer : List ℕ) (k : ℕ) → (changed_there change v bytes buffer).answer ≡ Ok k → There change v bytes buffer
+made_there change (Err why) bytes buffer k e = let z : ◌≡◌ {A = ℕ} 0 1 = cc in absurd (omega arith)
+made_there change (Ok there) bytes buffer k e = record { there = there; given = refl; same = refl }
 
 module _ (bytes : List ℕ) (d : Design) (next : ℕ) (small : Bytes bytes) (read : whole_record bytes ≡ found d next) where
   abbrev numbers : List ℕ
@@ -70,7 +66,7 @@ module _ (bytes : List ℕ) (d : Design) (next : ℕ) (small : Bytes bytes) (rea
 
   -- The position that is found is the one whose part number that is.
   pub part_position_exactly : (number position : ℕ)
-      → (part_position bytes number ≡ value.Given position) ↔ ((1 ≤ position) × (position ≤ d.parts.count) × (part_number_at d position ≡ number))
+      → (part_position bytes number ≡ Ok position) ↔ ((1 ≤ position) × (position ≤ d.parts.count) × (part_number_at d position ≡ number))
   part_position_exactly number position =
       let exactly = position_exactly 0 d.parts.mark numbers rules.parts.rules.rising number position in (
         λ e. let p = exactly.0 (sym (position_looked number) ∙ e) in (p.0, omega (arith, p.1, counted), p.2),
@@ -84,7 +80,7 @@ module _ (bytes : List ℕ) (d : Design) (next : ℕ) (small : Bytes bytes) (rea
       mask_looked wanted
       ∙ ap (λ (v : Verdict). valued v (mask_of numbers wanted)) (mask_counted numbers wanted (omega (arith, w.some, counted)) (omega (arith, w.few, counted)))
 
-  module _ (wanted : List ℕ) (mask : ℕ) (e : parts_mask bytes wanted ≡ value.Given mask) where
+  module _ (wanted : List ℕ) (mask : ℕ) (e : parts_mask bytes wanted ≡ Ok mask) where
     -- the parts of a mask that was found are the wanted ones
     pub wanted_named : (number : ℕ) → In number (named numbers mask) ↔ In number wanted
     wanted_named number =
@@ -93,20 +89,20 @@ module _ (bytes : List ℕ) (d : Design) (next : ℕ) (small : Bytes bytes) (rea
         subst (λ (m : ℕ). In number (named numbers m) ↔ In number wanted) g.1 (mask_names numbers wanted known number)
 
   -- what a change by position or mask made
-  made : (change : Change) (buffer : List ℕ) (k : ℕ) (e : (changed_record change bytes buffer).answer ≡ written.Length k) → DesignMade change bytes buffer k e d
+  made : (change : Change) (buffer : List ℕ) (k : ℕ) (e : (changed_record change bytes buffer).answer ≡ Ok k) → DesignMade change bytes buffer k e d
   made change buffer k e = made_read change bytes buffer k e small d next read
 
   -- Exactly the part with that number leaves.
-  pub part_leaves : (number : ℕ) (buffer : List ℕ) (k : ℕ) → (changed_there take_out (part_position bytes number) bytes buffer).answer ≡ written.Length k
+  pub part_leaves : (number : ℕ) (buffer : List ℕ) (k : ℕ) → (changed_there take_out (part_position bytes number) bytes buffer).answer ≡ Ok k
       → Leave (number ∷ []) d (changed_there take_out (part_position bytes number) bytes buffer).buffer k
   part_leaves number buffer k e =
       let t = made_there take_out (part_position bytes number) bytes buffer k e in
       let position : ℕ = t.there in
-      let m = made (take_out position) buffer k (ap (λ (o : Outcome Written (List ℕ)). o.answer) (sym t.same) ∙ e) in
+      let m = made (take_out position) buffer k (ap (λ (o : Outcome Numbered (List ℕ)). o.answer) (sym t.same) ∙ e) in
       let p = (part_position_exactly number position).0 t.given in
       let one : named numbers (single position) ≡ number ∷ [] =
       named_single (position - 1) numbers (omega (arith, p.0, p.1, counted)) ∙ ap (λ (x : ℕ). x ∷ []) p.2 in
-      subst (λ (o : Outcome Written (List ℕ)). Leave (number ∷ []) d o.buffer k) (sym t.same)
+      subst (λ (o : Outcome Numbered (List ℕ)). Leave (number ∷ []) d o.buffer k) (sym t.same)
       (record {
         in_use = λ other i. in_named numbers (single position) (rw one i);
         new = design_without (single position) d;
@@ -115,13 +111,13 @@ module _ (bytes : List ℕ) (d : Design) (next : ℕ) (small : Bytes bytes) (rea
       })
 
   -- Exactly the parts with the wanted numbers leave, together.
-  pub wanted_leave : (wanted buffer : List ℕ) (k : ℕ) → (changed_there take_out_group (parts_mask bytes wanted) bytes buffer).answer ≡ written.Length k
+  pub wanted_leave : (wanted buffer : List ℕ) (k : ℕ) → (changed_there take_out_group (parts_mask bytes wanted) bytes buffer).answer ≡ Ok k
       → Leave wanted d (changed_there take_out_group (parts_mask bytes wanted) bytes buffer).buffer k
   wanted_leave wanted buffer k e =
       let t = made_there take_out_group (parts_mask bytes wanted) bytes buffer k e in
       let group : ℕ = t.there in
-      let m = made (take_out_group group) buffer k (ap (λ (o : Outcome Written (List ℕ)). o.answer) (sym t.same) ∙ e) in
-      subst (λ (o : Outcome Written (List ℕ)). Leave wanted d o.buffer k) (sym t.same)
+      let m = made (take_out_group group) buffer k (ap (λ (o : Outcome Numbered (List ℕ)). o.answer) (sym t.same) ∙ e) in
+      subst (λ (o : Outcome Numbered (List ℕ)). Leave wanted d o.buffer k) (sym t.same)
       (record {
         in_use = λ number i. in_named numbers group ((wanted_named wanted group t.given number).1 i);
         new = design_without group d;
@@ -130,13 +126,13 @@ module _ (bytes : List ℕ) (d : Design) (next : ℕ) (small : Bytes bytes) (rea
       })
 
   -- The set that comes has exactly the wanted numbers.
-  pub wanted_comes : (wanted buffer : List ℕ) (k : ℕ) → (changed_there add_set (parts_mask bytes wanted) bytes buffer).answer ≡ written.Length k
+  pub wanted_comes : (wanted buffer : List ℕ) (k : ℕ) → (changed_there add_set (parts_mask bytes wanted) bytes buffer).answer ≡ Ok k
       → SetComes wanted d (changed_there add_set (parts_mask bytes wanted) bytes buffer).buffer k
   wanted_comes wanted buffer k e =
       let t = made_there add_set (parts_mask bytes wanted) bytes buffer k e in
       let mask : ℕ = t.there in
-      let m = made (add_set mask) buffer k (ap (λ (o : Outcome Written (List ℕ)). o.answer) (sym t.same) ∙ e) in
-      subst (λ (o : Outcome Written (List ℕ)). SetComes wanted d o.buffer k) (sym t.same)
+      let m = made (add_set mask) buffer k (ap (λ (o : Outcome Numbered (List ℕ)). o.answer) (sym t.same) ∙ e) in
+      subst (λ (o : Outcome Numbered (List ℕ)). SetComes wanted d o.buffer k) (sym t.same)
       (record {
         in_use = λ number i. in_named numbers mask ((wanted_named wanted mask t.given number).1 i);
         new = changed (add_set mask) d;

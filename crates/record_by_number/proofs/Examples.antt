@@ -4,8 +4,9 @@ use mathlib.Core.Path.{◌≡◌, refl, ap, ◌∙◌}
 use mathlib.Core.List.{List, [], ◌∷◌, map}
 use Prim.Native.Nat.{ℕ}
 use lib.ListN.{replicate}
+use Rattle.std.specs.Prelude.{Err}
+use Rattle.answer.specs.declared.Reason.TheVariants.{EmptySet, EmptyGroup, UnknownPosition, RepeatedPosition}
 use Rattle.answer.specs.Outcome.{at}
-use Rattle.answer.specs.declared.Written.TheVariants.{Refused}
 use Rattle.codec.specs.Reading.{number_in, number_at}
 use Rattle.codec.specs.ByteForm.{grouped, bytes_of, forms_of}
 use Rattle.codec.specs.FieldReads.{field_at, fields_at}
@@ -79,6 +80,6 @@ coming = ap (one (add_set_of_parts (6 ∷ 1 ∷ []))) coming_alone ∙ given_a_s
 refusals :
     map (λ change. (changed_by_number change left []).answer)
     (take_out_part 3 ∷ take_out_parts (2 ∷ 3 ∷ []) ∷ take_out_parts (2 ∷ 2 ∷ []) ∷ take_out_parts [] ∷ add_set_of_parts (1 ∷ 4 ∷ []) ∷ add_set_of_parts [] ∷ [])
-    ≡ Refused (at 17 0) ∷ Refused (at 17 0) ∷ Refused (at 28 0) ∷ Refused (at 15 0) ∷ Refused (at 17 0) ∷ Refused (at 5 0) ∷ []
+    ≡ Err (at UnknownPosition 0) ∷ Err (at UnknownPosition 0) ∷ Err (at RepeatedPosition 0) ∷ Err (at EmptyGroup 0) ∷ Err (at UnknownPosition 0) ∷ Err (at EmptySet 0) ∷ []
 unfolding part_position parts_mask position_from mask_of some changed_record changed_stored whole_stored whole_record only_record only_stored stored_at second_there record_at head_at parts_at fields_at field_at misplaced has holds any those listed minimal number_at number_in stored_bytes record_bytes head_bytes parts_bytes forms_of bytes_of grouped part_added part_list_refusal others meets squeezed sets_without
 refusals = refl

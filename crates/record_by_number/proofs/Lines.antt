@@ -4,8 +4,8 @@
 use mathlib.Core.Path.{◌≡◌, refl, sym, ap, ◌∙◌}
 use mathlib.Core.List.{List, [], ◌∷◌}
 use Prim.Native.Nat.{ℕ}
-use Rattle.answer.specs.declared.Value.{Value}
-use Rattle.answer.specs.declared.Value.TheVariants as value
+use Rattle.std.specs.Prelude.{Ok, Err}
+use Rattle.answer.specs.Outcome.{Numbered}
 use Rattle.record_lines.specs.Changes.{Change}
 use Rattle.record_lines.specs.Lines.{record_after, last_of}
 use Rattle.record_lines.proofs.Lines.{last_append}
@@ -13,10 +13,10 @@ use Rattle.record_by_number.specs.Parts.{part_position, parts_mask, changed_ther
 use Rattle.record_by_number.specs.Lines.{ByNumber, by_position, take_out_part, take_out_parts, add_set_of_parts, NumberCall, changed_by_number, after_by_number, last_by_number, found_change, change_of, calls_with, calls_of}
 
 -- one change, where the parts were looked up
-there_same : (change : ℕ → Change) (v : Value) (bytes buffer : List ℕ)
+there_same : (change : ℕ → Change) (v : Numbered) (bytes buffer : List ℕ)
     → record_after (changed_there change v bytes buffer).answer (changed_there change v bytes buffer).buffer bytes ≡ last_of (calls_with buffer (found_change change v)) bytes
-there_same change (value.Refused why) bytes buffer = refl
-there_same change (value.Given there) bytes buffer = refl
+there_same change (Err why) bytes buffer = refl
+there_same change (Ok there) bytes buffer = refl
 
 one_same : (change : ByNumber) (bytes buffer : List ℕ)
     → record_after (changed_by_number change bytes buffer).answer (changed_by_number change bytes buffer).buffer bytes ≡ last_of (calls_with buffer (change_of change bytes)) bytes

@@ -5,12 +5,9 @@ use mathlib.Core.List.{List}
 use Prim.Native.Nat.{ℕ, ◌≤◌, ◌<◌}
 use native.Mathlib.Omega.{arith}
 use lib.ListN.{length}
-use Rattle.answer.specs.Outcome.{outcome}
+use Rattle.std.specs.Prelude.{Ok, Err}
+use Rattle.answer.specs.Outcome.{outcome, Numbered}
 use Rattle.answer.specs.declared.Refusal.{Refusal}
-use Rattle.answer.specs.declared.Verdict.TheVariants.{Accepted, Refused}
-use Rattle.answer.specs.declared.Value.{Value}
-use Rattle.answer.specs.declared.Value.TheVariants as value
-use Rattle.answer.specs.declared.Written.TheVariants as written
 use Rattle.codec.specs.Bytes.{Bytes}
 use Rattle.codec.specs.Reads.{Read, found, refused}
 use Rattle.record_parts.specs.declared.PartList.{PartList}
@@ -37,23 +34,23 @@ pub record DesignSeen (bytes : List ℕ) (contents : Contents) : Type 0 where
   pub list : contents.list ≡ d.parts
 
 module _ (bytes : List ℕ) (small : Bytes bytes) (contents : Contents) (e : contents ≡ whole_contents bytes) where
-  pub looked_refused : (why : Refusal) → contents.verdict ≡ Refused why → (look : List ℕ → Value) → value.Refused why ≡ looked_up look (whole_record bytes)
+  pub looked_refused : (why : Refusal) → contents.verdict ≡ Err why → (look : List ℕ → Numbered) → Err why ≡ looked_up look (whole_record bytes)
   looked_refused why v look = cases (whole_record bytes) refl
     where
-      told : (whole_contents bytes).verdict ≡ Refused why
+      told : (whole_contents bytes).verdict ≡ Err why
       told = ap (λ (c : Contents). c.verdict) (sym e) ∙ v
 
-      cases : (read : Read Design) → whole_record bytes ≡ read → value.Refused why ≡ looked_up look read
+      cases : (read : Read Design) → whole_record bytes ≡ read → Err why ≡ looked_up look read
       cases (refused r) here =
-          let same : Refused r ≡ Refused why = sym (ap (λ (c : Contents). c.verdict) (refused_contents bytes r here)) ∙ told in
+          let same : Err r ≡ Err why = sym (ap (λ (c : Contents). c.verdict) (refused_contents bytes r here)) ∙ told in
           let why_same : why ≡ r = cc same in
-          ap value.Refused why_same
+          ap Err why_same
       cases (found d next) here =
-          let same : Accepted ≡ Refused why = sym (ap (λ (c : Contents). c.verdict) (design_read_lem bytes small d next here).contents) ∙ told in
+          let same : (Ok tt) ≡ Err why = sym (ap (λ (c : Contents). c.verdict) (design_read_lem bytes small d next here).contents) ∙ told in
           let z : ◌≡◌ {A = ℕ} 0 1 = cc in
           absurd (omega arith)
 
-  pub looked_design : contents.verdict ≡ Accepted → DesignSeen bytes contents
+  pub looked_design : contents.verdict ≡ Ok tt → DesignSeen bytes contents
   looked_design v =
       let a = accepted_design bytes (ap (λ (c : Contents). c.verdict) (sym e) ∙ v) in
       let r = design_read_lem bytes small a.0 a.1 a.2 in
@@ -66,23 +63,23 @@ module _ {bytes : List ℕ} {contents : Contents} (s : DesignSeen bytes contents
   pub numbers_counted : contents.list.count ≡ length (numbers_of contents.list)
   numbers_counted = rw s.list (sym (well_formed_counted s.d.parts s.rules.parts))
 
-  pub looked_up_lem : (look : List ℕ → Value) → look (numbers_of contents.list) ≡ looked_up look (whole_record bytes)
+  pub looked_up_lem : (look : List ℕ → Numbered) → look (numbers_of contents.list) ≡ looked_up look (whole_record bytes)
   looked_up_lem look = ap (λ (list : PartList). look (numbers_of list)) s.list ∙ ap (looked_up look) (sym s.read)
 
 -- ---- a change of what was looked up
 
-module _ (change : ℕ → Change) (bytes buffer : List ℕ) (v : Value) where
-  pub there_refused : (why : Refusal) → v ≡ value.Refused why → outcome (written.Refused why) buffer ≡ changed_there change v bytes buffer
-  there_refused why e = ap (λ (x : Value). changed_there change x bytes buffer) (sym e)
+module _ (change : ℕ → Change) (bytes buffer : List ℕ) (v : Numbered) where
+  pub there_refused : (why : Refusal) → v ≡ Err why → outcome (Err why) buffer ≡ changed_there change v bytes buffer
+  there_refused why e = ap (λ (x : Numbered). changed_there change x bytes buffer) (sym e)
 
-  pub there_changed : (there : ℕ) → v ≡ value.Given there → changed_record (change there) bytes buffer ≡ changed_there change v bytes buffer
-  there_changed there e = ap (λ (x : Value). changed_there change x bytes buffer) (sym e)
+  pub there_changed : (there : ℕ) → v ≡ Ok there → changed_record (change there) bytes buffer ≡ changed_there change v bytes buffer
+  there_changed there e = ap (λ (x : Numbered). changed_there change x bytes buffer) (sym e)
 
 -- a mask that was found is a set
-pub mask_is_set : (bytes wanted : List ℕ) (mask : ℕ) → parts_mask bytes wanted ≡ value.Given mask → mask < 65536
+pub mask_is_set : (bytes wanted : List ℕ) (mask : ℕ) → parts_mask bytes wanted ≡ Ok mask → mask < 65536
 unfolding parts_mask
 mask_is_set bytes wanted mask = cases (whole_record bytes)
   where
-    cases : (read : Read Design) → looked_up (λ numbers. found_mask numbers wanted) read ≡ value.Given mask → mask < 65536
+    cases : (read : Read Design) → looked_up (λ numbers. found_mask numbers wanted) read ≡ Ok mask → mask < 65536
     cases (refused why) e = let z : ◌≡◌ {A = ℕ} 0 1 = cc in absurd (omega arith)
     cases (found d next) e = found_mask_small (numbers_of d.parts) wanted mask e

@@ -8,13 +8,9 @@ use Prim.Native.Nat.{ℕ, ◌+◌, ◌^◌, ◌<◌}
 use native.Mathlib.Omega.{arith}
 use borrow.Author.Tests.{eqb-true}
 use lib.Dec.{eqb}
-use Rattle.answer.specs.Refusals.{unknown_position}
-use Rattle.answer.specs.Outcome.{at, refuse, valued, Outcome, outcome}
-use Rattle.answer.specs.declared.Verdict.TheVariants.{Accepted}
-use Rattle.answer.specs.declared.Value.{Value}
-use Rattle.answer.specs.declared.Value.TheVariants as value
-use Rattle.answer.specs.declared.Written.{Written}
-use Rattle.answer.specs.declared.Written.TheVariants as written
+use Rattle.std.specs.Prelude.{Ok, Err}
+use Rattle.answer.specs.declared.Reason.TheVariants.{UnknownPosition}
+use Rattle.answer.specs.Outcome.{at, refuse, valued, Outcome, outcome, Numbered}
 use Rattle.answer.proofs.Outcomes.{refuse_held, given_valued}
 use Rattle.answer.proofs.Deliveries.{refused_kept}
 use Rattle.answer.proofs.Checks.{group_passed}
@@ -53,24 +49,24 @@ design_read read = then read (λ s next. found (design_of s) next)
 
 module _ (number : ℕ) (buffer : List ℕ) where
   -- a part taken out where it was found, of what was read
-  abbrev found_read : Value → Read Stored → Outcome Written (List ℕ)
-  found_read (value.Refused why) read = outcome (written.Refused why) buffer
-  found_read (value.Given position) read = changed_read (take_out position) read buffer
+  abbrev found_read : Numbered → Read Stored → Outcome Numbered (List ℕ)
+  found_read (Err why) read = outcome (Err why) buffer
+  found_read (Ok position) read = changed_read (take_out position) read buffer
 
-  same_read : (v : Value) (bytes : List ℕ) → changed_there take_out v bytes buffer ≡ found_read v (whole_stored bytes)
+  same_read : (v : Numbered) (bytes : List ℕ) → changed_there take_out v bytes buffer ≡ found_read v (whole_stored bytes)
   unfolding changed_record
-  same_read (value.Refused why) bytes = refl
-  same_read (value.Given position) bytes = refl
+  same_read (Err why) bytes = refl
+  same_read (Ok position) bytes = refl
 
   -- a position that was not found is 0, which is refused as well
   same_position : (s : Stored) (next position : ℕ)
-      → found_read (valued (refuse (eqb position 0) unknown_position 0 Accepted) position) (found s next) ≡ changed_read (take_out position) (found s next) buffer
+      → found_read (valued (refuse (eqb position 0) UnknownPosition 0 (Ok tt)) position) (found s next) ≡ changed_read (take_out position) (found s next) buffer
   same_position s next position = cases (eqb position 0) refl
     where
-      cases : (p : Bool) → eqb position 0 ≡ p → found_read (valued (refuse p unknown_position 0 Accepted) position) (found s next) ≡ changed_read (take_out position) (found s next) buffer
+      cases : (p : Bool) → eqb position 0 ≡ p → found_read (valued (refuse p UnknownPosition 0 (Ok tt)) position) (found s next) ≡ changed_read (take_out position) (found s next) buffer
       cases true e =
-          refused_kept (stored_refusal (take_out position) s) (stored_bytes (changed_stored (take_out position) s)) buffer (at unknown_position 0)
-          (unconverted_refusal (take_out position) s refl ∙ refuse_held (eqb position 0) unknown_position 0 _ e)
+          refused_kept (stored_refusal (take_out position) s) (stored_bytes (changed_stored (take_out position) s)) buffer (at UnknownPosition 0)
+          (unconverted_refusal (take_out position) s refl ∙ refuse_held (eqb position 0) UnknownPosition 0 _ e)
       cases false e = refl
 
   same_call : (read : Read Stored) → found_read (looked_up (λ numbers. found_position numbers number) (design_read read)) read ≡ changed_read (take_out (position_in (design_read read) number)) read buffer
@@ -104,11 +100,11 @@ once_times (x ∷ xs) once number =
     cases false e later = omega (arith, later)
 
 module _ (bytes : List ℕ) (d : Design) (next : ℕ) (small : Bytes bytes) (read : whole_record bytes ≡ found d next) (wanted : List ℕ) (mask : ℕ)
-    (e : parts_mask bytes wanted ≡ value.Given mask) where
+    (e : parts_mask bytes wanted ≡ Ok mask) where
   abbrev numbers : List ℕ
   numbers = numbers_of d.parts
 
-  judged : (wanted_refusal numbers wanted ≡ Accepted) × (mask_of numbers wanted ≡ mask)
+  judged : (wanted_refusal numbers wanted ≡ Ok tt) × (mask_of numbers wanted ≡ mask)
   judged = given_valued (wanted_refusal numbers wanted) (mask_of numbers wanted) mask (sym (wanted_judged bytes d next small read wanted) ∙ e)
 
   -- the wanted numbers are an order of the mask's numbers
@@ -131,4 +127,4 @@ module _ (bytes : List ℕ) (d : Design) (next : ℕ) (small : Bytes bytes) (rea
   wanted_any_order some buffer parts order =
       let w = (design_rules bytes d next small read).0.parts in
       let below : mask < 2 ^ d.parts.count = rw (← well_formed_counted d.parts w, ← judged.1) (mask_below numbers wanted) in
-      any_order bytes d next small read mask (group_passed d.parts.count mask Accepted some below) buffer parts (λ number. order number ∙ wanted_order number)
+      any_order bytes d next small read mask (group_passed d.parts.count mask (Ok tt) some below) buffer parts (λ number. order number ∙ wanted_order number)

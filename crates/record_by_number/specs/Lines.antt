@@ -1,9 +1,6 @@
 -- Lines of changes by part numbers: each is a line of changes, of which record_lines speaks.
-use Rattle.std.specs.Prelude.{List, [], ◌∷◌, ◌++◌, ℕ}
-use Rattle.answer.specs.Outcome.{Outcome}
-use Rattle.answer.specs.declared.Value.{Value}
-use Rattle.answer.specs.declared.Value.TheVariants as value
-use Rattle.answer.specs.declared.Written.{Written}
+use Rattle.std.specs.Prelude.{List, [], ◌∷◌, ◌++◌, ℕ, Ok, Err}
+use Rattle.answer.specs.Outcome.{Outcome, Numbered}
 use Rattle.record_lines.specs.Changes.{Change, take_out, take_out_group, add_set}
 use Rattle.record_lines.specs.Records.{changed_record}
 use Rattle.record_lines.specs.Lines.{Call, record_after}
@@ -23,7 +20,7 @@ pub record NumberCall : Type 0 where
   pub buffer : List ℕ
 
 -- what a call leaves, by the definitions that the contracts cite
-abbrev pub changed_by_number : ByNumber → List ℕ → List ℕ → Outcome Written (List ℕ)
+abbrev pub changed_by_number : ByNumber → List ℕ → List ℕ → Outcome Numbered (List ℕ)
 changed_by_number (by_position change) bytes buffer = changed_record change bytes buffer
 changed_by_number (take_out_part number) bytes buffer = changed_there take_out (part_position bytes number) bytes buffer
 changed_by_number (take_out_parts wanted) bytes buffer = changed_there take_out_group (parts_mask bytes wanted) bytes buffer
@@ -41,9 +38,9 @@ last_by_number (call ∷ calls) bytes = last_by_number calls (after_by_number ca
 -- ---- the same by positions
 
 -- the change where the parts were found; none where they were not
-abbrev pub found_change : (ℕ → Change) → Value → List Change
-found_change change (value.Refused refusal) = []
-found_change change (value.Given there) = change there ∷ []
+abbrev pub found_change : (ℕ → Change) → Numbered → List Change
+found_change change (Err refusal) = []
+found_change change (Ok there) = change there ∷ []
 
 abbrev pub change_of : ByNumber → List ℕ → List Change
 change_of (by_position change) bytes = change ∷ []

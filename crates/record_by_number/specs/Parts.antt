@@ -1,10 +1,6 @@
 -- Changes of record bytes by part numbers: the parts are looked up in the record that is read, and then it is changed there.
-use Rattle.std.specs.Prelude.{List, ℕ}
-use Rattle.answer.specs.Outcome.{Outcome, outcome}
-use Rattle.answer.specs.declared.Value.{Value}
-use Rattle.answer.specs.declared.Value.TheVariants as value
-use Rattle.answer.specs.declared.Written.{Written}
-use Rattle.answer.specs.declared.Written.TheVariants as written
+use Rattle.std.specs.Prelude.{List, ℕ, Ok, Err}
+use Rattle.answer.specs.Outcome.{Outcome, outcome, Numbered}
 use Rattle.codec.specs.Reads.{Read, found, refused}
 use Rattle.record_parts.specs.PartLists.{numbers_of}
 use Rattle.record.specs.Records.{Design}
@@ -14,19 +10,19 @@ use Rattle.record_lines.specs.Records.{changed_record}
 use Rattle.record_naming.specs.Naming.{found_position, found_mask}
 
 -- looked up among the part numbers of the record that was read; a refused record's own refusal
-abbrev pub looked_up : (List ℕ → Value) → Read Design → Value
-looked_up look (refused refusal) = value.Refused refusal
+abbrev pub looked_up : (List ℕ → Numbered) → Read Design → Numbered
+looked_up look (refused refusal) = Err refusal
 looked_up look (found d next) = look (numbers_of d.parts)
 
 -- the position of the part with a number
-unfoldable pub part_position : List ℕ → ℕ → Value
+unfoldable pub part_position : List ℕ → ℕ → Numbered
 part_position bytes number = looked_up (λ numbers. found_position numbers number) (whole_record bytes)
 
 -- the mask of the parts that are wanted
-unfoldable pub parts_mask : List ℕ → List ℕ → Value
+unfoldable pub parts_mask : List ℕ → List ℕ → Numbered
 parts_mask bytes wanted = looked_up (λ numbers. found_mask numbers wanted) (whole_record bytes)
 
 -- A change of what was looked up: the refusal, or what the change by that position or mask leaves.
-abbrev pub changed_there : (ℕ → Change) → Value → List ℕ → List ℕ → Outcome Written (List ℕ)
-changed_there change (value.Refused refusal) bytes buffer = outcome (written.Refused refusal) buffer
-changed_there change (value.Given there) bytes buffer = changed_record (change there) bytes buffer
+abbrev pub changed_there : (ℕ → Change) → Numbered → List ℕ → List ℕ → Outcome Numbered (List ℕ)
+changed_there change (Err refusal) bytes buffer = outcome (Err refusal) buffer
+changed_there change (Ok there) bytes buffer = changed_record (change there) bytes buffer

@@ -6,17 +6,14 @@ use mathlib.Core.List.{List, [], ◌∷◌}
 use Prim.Native.Nat.{ℕ, ◌-◌, ◌≤◌}
 use native.Mathlib.Omega.{arith}
 use lib.ListN.{length, replicate, length-append}
-use Rattle.answer.specs.Refusals.{in_every_set, retired_present}
-use Rattle.answer.specs.Outcome.{at, outcome, and_then, delivered}
+use Rattle.std.specs.Prelude.{Ok, Err}
+use Rattle.answer.specs.declared.Reason.TheVariants.{InEverySet, RetiredPresent}
+use Rattle.answer.specs.Outcome.{at, outcome, and_then, delivered, Verdict}
 use Rattle.answer.specs.declared.Refusal.{Refusal}
-use Rattle.answer.specs.declared.Verdict.{Verdict}
-use Rattle.answer.specs.declared.Verdict.TheVariants.{Accepted, Refused}
-use Rattle.answer.specs.declared.Written.TheVariants as written
 use Rattle.answer.proofs.Outcomes.{refuse_passed, refuse_held, then_refused}
 use Rattle.answer.proofs.Checks.{group_passed}
 use Rattle.record_parts.specs.declared.PartList.{PartList}
 use Rattle.record_parts.specs.declared.Changed.{Changed}
-use Rattle.record_parts.specs.declared.Numbered.TheVariants as numbered
 use Rattle.record_parts.specs.declared.Listed.{Listed}
 use Rattle.record_parts.specs.PartLists.{listed_or}
 use Rattle.record_parts.specs.Changes.{add_refusal, part_added, with_part, list_without, group_taken_out}
@@ -52,7 +49,7 @@ use Rattle.record_sets.specs.Lists.{with_set_refusal}
 
 module _ (bytes : List ℕ) (o : Opened) (e : o ≡ opened_of (whole_stored bytes)) where
   -- a record that is refused refuses every change
-  pub opened_refused : (why : Refusal) → o.verdict ≡ Refused why → (change : Change) (buffer : List ℕ) → outcome (written.Refused why) buffer ≡ changed_record change bytes buffer
+  pub opened_refused : (why : Refusal) → o.verdict ≡ Err why → (change : Change) (buffer : List ℕ) → outcome (Err why) buffer ≡ changed_record change bytes buffer
   unfolding changed_record
   opened_refused why v change buffer = ap (λ (r : Read Stored). changed_read change r buffer) (sym (opened_why bytes o e why v))
 
@@ -83,25 +80,25 @@ module _ {bytes : List ℕ} {o : Opened} (w : RecordOpened bytes o) where
 
   module _ (change : Change) where
     -- what refuses a change of the record is the answer
-    pub stored_refused : (why : Refusal) → stored_refusal change w.s ≡ Refused why → (buffer : List ℕ) → outcome (written.Refused why) buffer ≡ changed_record change bytes buffer
+    pub stored_refused : (why : Refusal) → stored_refusal change w.s ≡ Err why → (buffer : List ℕ) → outcome (Err why) buffer ≡ changed_record change bytes buffer
     unfolding changed_record
     stored_refused why h buffer =
         ap (λ (v : Verdict). delivered v (stored_bytes (changed_stored change w.s)) buffer) (sym h) ∙ ap (λ (r : Read Stored). changed_read change r buffer) (sym w.read)
 
-    pub change_refused : (why : Refusal) → change_refusal change d ≡ Refused why → (buffer : List ℕ) → outcome (written.Refused why) buffer ≡ changed_record change bytes buffer
+    pub change_refused : (why : Refusal) → change_refusal change d ≡ Err why → (buffer : List ℕ) → outcome (Err why) buffer ≡ changed_record change bytes buffer
     change_refused why h = stored_refused why (then_refused (back_refusal (edition_after change (edition_of w.s)) (retired_in w.s)) h)
 
     -- the changed design keeps the rules
-    pub change_rules : change_refusal change d ≡ Accepted → (list : PartList) (sets : List ℕ) → list ≡ (changed change d).parts → sets ≡ (changed change d).sets → DesignRules (design list sets)
+    pub change_rules : change_refusal change d ≡ Ok tt → (list : PartList) (sets : List ℕ) → list ≡ (changed change d).parts → sets ≡ (changed change d).sets → DesignRules (design list sets)
     change_rules h list sets lists same = subst DesignRules (sym (ap₂ design lists same)) (changed_rules change d design_kept h)
 
     -- and where nothing refuses it, it is written in its edition, with the numbers that left filed
-    pub change_made : stored_refusal change w.s ≡ Accepted → (edition : Edition) (list : PartList) (sets retired buffer : List ℕ) → edition ≡ edition_after change (edition_of w.s) → list ≡ (changed change d).parts
+    pub change_made : stored_refusal change w.s ≡ Ok tt → (edition : Edition) (list : PartList) (sets retired buffer : List ℕ) → edition ≡ edition_after change (edition_of w.s) → list ≡ (changed change d).parts
         → sets ≡ (changed change d).sets → retired ≡ filed_all (left_in change d) (retired_in w.s)
-        → delivered Accepted (stored_bytes (in_edition edition (design list sets) retired)) buffer ≡ changed_record change bytes buffer
+        → delivered (Ok tt) (stored_bytes (in_edition edition (design list sets) retired)) buffer ≡ changed_record change bytes buffer
     unfolding changed_record changed_stored
     change_made h edition list sets retired buffer editions lists same filed =
-        ap (λ (t : Stored). delivered Accepted (stored_bytes t) buffer) (all edition (design list sets) retired editions (ap₂ design lists same) filed)
+        ap (λ (t : Stored). delivered (Ok tt) (stored_bytes t) buffer) (all edition (design list sets) retired editions (ap₂ design lists same) filed)
         ∙ ap (λ (v : Verdict). delivered v (stored_bytes (changed_stored change w.s)) buffer) (sym h)
         ∙ ap (λ (r : Read Stored). changed_read change r buffer) (sym w.read)
       where
@@ -125,36 +122,36 @@ module _ {bytes : List ℕ} {o : Opened} (w : RecordOpened bytes o) where
         ∙ ap (λ (r : Read Stored). changed_read (take_out_group group) r buffer) (sym w.read)
 
 -- 32 is said exactly where there are retired numbers
-pub back_held : (retired : List ℕ) → (length retired ≡ 0 → ⊥) → back_refusal First retired ≡ Refused (at retired_present 0)
+pub back_held : (retired : List ℕ) → (length retired ≡ 0 → ⊥) → back_refusal First retired ≡ Err (at RetiredPresent 0)
 back_held [] some = absurd (some refl)
 back_held (number ∷ numbers) some = refl
 
-pub back_passed : (retired : List ℕ) → length retired ≡ 0 → back_refusal First retired ≡ Accepted
+pub back_passed : (retired : List ℕ) → length retired ≡ 0 → back_refusal First retired ≡ Ok tt
 back_passed [] none = refl
 back_passed (number ∷ numbers) none = absurd (omega (arith, none))
 
 -- ---- what the part list answers, and what it means for the design
-module _ (v : Verdict) (list : PartList) (result : Changed) (number : ℕ) (given : result.answer ≡ numbered.Number number) where
-  unless_refused_lem : (why : Refusal) → (parts.unless v list result).answer ≡ numbered.Refused why → v ≡ Refused why
+module _ (v : Verdict) (list : PartList) (result : Changed) (number : ℕ) (given : result.answer ≡ Ok number) where
+  unless_refused_lem : (why : Refusal) → (parts.unless v list result).answer ≡ Err why → v ≡ Err why
   unless_refused_lem why = cases v
     where
-      cases : (v : Verdict) → (parts.unless v list result).answer ≡ numbered.Refused why → v ≡ Refused why
-      cases (Refused r) e = cc
-      cases Accepted e = let same : numbered.Number number ≡ numbered.Refused why = sym given ∙ e in let z : ◌≡◌ {A = ℕ} 0 1 = cc in absurd (omega arith)
+      cases : (v : Verdict) → (parts.unless v list result).answer ≡ Err why → v ≡ Err why
+      cases (Err r) e = cc
+      cases (Ok _) e = let same : Ok number ≡ Err why = sym given ∙ e in let z : ◌≡◌ {A = ℕ} 0 1 = cc in absurd (omega arith)
 
-  unless_made : (k : ℕ) → (parts.unless v list result).answer ≡ numbered.Number k → v ≡ Accepted
+  unless_made : (k : ℕ) → (parts.unless v list result).answer ≡ Ok k → v ≡ Ok tt
   unless_made k = cases v
     where
-      cases : (v : Verdict) → (parts.unless v list result).answer ≡ numbered.Number k → v ≡ Accepted
-      cases (Refused r) e = let z : ◌≡◌ {A = ℕ} 0 1 = cc in absurd (omega arith)
-      cases Accepted e = refl
+      cases : (v : Verdict) → (parts.unless v list result).answer ≡ Ok k → v ≡ Ok tt
+      cases (Err r) e = let z : ◌≡◌ {A = ℕ} 0 1 = cc in absurd (omega arith)
+      cases (Ok _) e = refl
 
 module _ (d : Design) (r : DesignRules d) where
-  pub add_refused : (why : Refusal) → (part_added d.parts).answer ≡ numbered.Refused why → change_refusal add_part d ≡ Refused why
+  pub add_refused : (why : Refusal) → (part_added d.parts).answer ≡ Err why → change_refusal add_part d ≡ Err why
   add_refused why e =
       unless_refused_lem (add_refusal d.parts) d.parts (with_part d.parts) _ refl why (sym (ap (λ (c : Changed). c.answer) (added_whole d.parts r.parts)) ∙ e)
 
-  pub add_made : (k : ℕ) → (part_added d.parts).answer ≡ numbered.Number k → change_refusal add_part d ≡ Accepted
+  pub add_made : (k : ℕ) → (part_added d.parts).answer ≡ Ok k → change_refusal add_part d ≡ Ok tt
   add_made k e =
       unless_made (add_refusal d.parts) d.parts (with_part d.parts) _ refl k (sym (ap (λ (c : Changed). c.answer) (added_whole d.parts r.parts)) ∙ e)
 
@@ -164,10 +161,10 @@ module _ (d : Design) (r : DesignRules d) where
         ap (λ (l : Listed). l.verdict) (group_taken_out_whole d.parts r.parts group)
         ∙ listed_verdict d.parts (parts.take_out_group_refusal d.parts group) (list_without group d.parts)
 
-    pub out_refused : (why : Refusal) → (group_taken_out d.parts group).verdict ≡ Refused why → take_out_group_refusal group d ≡ Refused why
+    pub out_refused : (why : Refusal) → (group_taken_out d.parts group).verdict ≡ Err why → take_out_group_refusal group d ≡ Err why
     out_refused why e = group_out_agrees group d r why (sym listed_verdict_is ∙ e)
 
-    module _ (e : (group_taken_out d.parts group).verdict ≡ Accepted) where
+    module _ (e : (group_taken_out d.parts group).verdict ≡ Ok tt) where
       -- the list is without the group
       pub out_list : (group_taken_out d.parts group).list ≡ list_without group d.parts
       out_list =
@@ -181,11 +178,11 @@ module _ (d : Design) (r : DesignRules d) where
           group_passed d.parts.count group (without_refusal group d) a.0 a.1
 
       -- 18 is said exactly where no set is left
-      pub out_none : length (sets_without group d.sets) ≡ 0 → take_out_group_refusal group d ≡ Refused (at in_every_set 0)
-      out_none none = out_left ∙ refuse_held (every (meets group) d.sets) in_every_set 0 Accepted (without_none group d.sets none)
+      pub out_none : length (sets_without group d.sets) ≡ 0 → take_out_group_refusal group d ≡ Err (at InEverySet 0)
+      out_none none = out_left ∙ refuse_held (every (meets group) d.sets) InEverySet 0 (Ok tt) (without_none group d.sets none)
 
-      pub out_some : (length (sets_without group d.sets) ≡ 0 → ⊥) → take_out_group_refusal group d ≡ Accepted
-      out_some some = out_left ∙ refuse_passed (every (meets group) d.sets) in_every_set 0 Accepted (without_some group d.sets some)
+      pub out_some : (length (sets_without group d.sets) ≡ 0 → ⊥) → take_out_group_refusal group d ≡ Ok tt
+      out_some some = out_left ∙ refuse_passed (every (meets group) d.sets) InEverySet 0 (Ok tt) (without_some group d.sets some)
 
   -- the sets of a design are a list that nothing refuses, so 4 and 5 of the new one are what is left
   pub with_set : (value : ℕ) → with_set_refusal d.parts.count d.sets value ≡ change_refusal (add_set value) d

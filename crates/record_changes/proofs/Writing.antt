@@ -10,9 +10,8 @@ use lib.ListN.{length, get_or, take, drop, length-append, take-append-drop}
 use lib.Seq.{take-suc}
 use Rattle.std.specs.List.{sum_by}
 use Rattle.std.proofs.lemmas.List.Sums.{sum_by-cons}
+use Rattle.std.specs.Prelude.{Ok}
 use Rattle.answer.specs.Outcome.{outcome, delivered}
-use Rattle.answer.specs.declared.Verdict.TheVariants.{Accepted}
-use Rattle.answer.specs.declared.Written.TheVariants.{Length}
 use Rattle.answer.proofs.Outcomes.{in_front_none, in_front_delivered}
 use Rattle.answer.proofs.Placing.{in_front_more}
 use Rattle.answer.specs.Placed.{placed}
@@ -90,7 +89,7 @@ record_length mark numbers sets =
     omega (arith, record_sum (design (list_of mark numbers) sets), ap (λ (l : List ℕ). length (forms_of l)) (numbers_of_list mark numbers))
 
 -- what is placed in front of a lent buffer that has room for it is delivered
-pub placed_delivered : (buffer form exit : List ℕ) (next : ℕ) → length form ≤ length buffer → outcome next exit ≡ placed buffer 0 form → outcome (Length next) exit ≡ delivered Accepted form buffer
+pub placed_delivered : (buffer form exit : List ℕ) (next : ℕ) → length form ≤ length buffer → outcome next exit ≡ placed buffer 0 form → outcome (Ok next) exit ≡ delivered (Ok tt) form buffer
 placed_delivered buffer form exit next fits wrote =
     in_front_delivered buffer form exit next (in_front_more (in_front_none buffer) form exit next fits wrote) fits
 
@@ -126,16 +125,16 @@ module _ (list : PartList) (sets retired buffer : List ℕ) (rules : DesignRules
   same_design = ap (λ (l : PartList). design l sets) (sym (well_formed_list list rules.parts))
 
   pub first_is : (edition : Edition) → edition ≡ First
-      → delivered Accepted (record_bytes (design (list_of list.mark (numbers_of list)) sets)) buffer ≡ delivered Accepted (stored_bytes (in_edition edition (design list sets) retired)) buffer
+      → delivered (Ok tt) (record_bytes (design (list_of list.mark (numbers_of list)) sets)) buffer ≡ delivered (Ok tt) (stored_bytes (in_edition edition (design list sets) retired)) buffer
   unfolding stored_bytes
   first_is edition e =
-      ap (λ (d : Design). delivered Accepted (record_bytes d) buffer) same_design
-      ∙ ap (λ (x : Edition). delivered Accepted (stored_bytes (in_edition x (design list sets) retired)) buffer) (sym e)
+      ap (λ (d : Design). delivered (Ok tt) (record_bytes d) buffer) same_design
+      ∙ ap (λ (x : Edition). delivered (Ok tt) (stored_bytes (in_edition x (design list sets) retired)) buffer) (sym e)
 
   pub second_is : (counts : List ℕ) → take (list.count + 1) counts ≡ tabulate (list.count + 1) (path_count list.count (listed sets)) → (edition : Edition) → edition ≡ Second
-      → delivered Accepted (second_bytes (design (list_of list.mark (numbers_of list)) sets) retired (take (list.count + 1) counts)) buffer
-      ≡ delivered Accepted (stored_bytes (in_edition edition (design list sets) retired)) buffer
+      → delivered (Ok tt) (second_bytes (design (list_of list.mark (numbers_of list)) sets) retired (take (list.count + 1) counts)) buffer
+      ≡ delivered (Ok tt) (stored_bytes (in_edition edition (design list sets) retired)) buffer
   unfolding stored_bytes fresh_counts
   second_is counts fresh edition e =
-      ap₂ (λ (d : Design) (l : List ℕ). delivered Accepted (second_bytes d retired l) buffer) same_design fresh
-      ∙ ap (λ (x : Edition). delivered Accepted (stored_bytes (in_edition x (design list sets) retired)) buffer) (sym e)
+      ap₂ (λ (d : Design) (l : List ℕ). delivered (Ok tt) (second_bytes d retired l) buffer) same_design fresh
+      ∙ ap (λ (x : Edition). delivered (Ok tt) (stored_bytes (in_edition x (design list sets) retired)) buffer) (sym e)

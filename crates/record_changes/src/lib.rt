@@ -22,25 +22,25 @@ ghost use Rattle.record_lines.specs.Changes.{add_part, take_out, take_out_group,
 ghost use Rattle.record_lines.specs.Records.{in_edition, changed_record, entered_record, first_record};
 ghost use Rattle.record_changes.specs.Inside.{retired_numbers, second_bytes};
 
-use answer::{Verdict, Written};
+use answer::{Reason, Refusal};
 use record_editions::Edition;
 use record_parts::{Numbered, PartList};
 use record_retired::Retired;
 
 // Add part: position n+1, part number mark+1, in no set.
-pub fn add_part(bytes: &[u8], buffer: &mut [u8]) -> Written
+pub fn add_part(bytes: &[u8], buffer: &mut [u8]) -> Result<usize, Refusal>
     ensures { outcome result buffer.new ≡ changed_record add_part bytes.now buffer.old }
 {
     let opened = record_opening::open_record(bytes);
     let verdict = opened.verdict;
-    if let Verdict::Refused(refusal) = verdict {
-        return Written::Refused(refusal);
+    if let Err(refusal) = verdict {
+        return Err(refusal);
     }
     let old = opened.list;
     let changed = old.add();
     let numbered = changed.answer;
-    if let Numbered::Refused(refusal) = numbered {
-        return Written::Refused(refusal);
+    if let Err(refusal) = numbered {
+        return Err(refusal);
     }
     let list = changed.list;
     let sets = opened.sets;
@@ -51,21 +51,21 @@ pub fn add_part(bytes: &[u8], buffer: &mut [u8]) -> Written
 }
 
 // Take out the part at a position: the group of that one part.
-pub fn take_out(bytes: &[u8], position: usize, buffer: &mut [u8]) -> Written
+pub fn take_out(bytes: &[u8], position: usize, buffer: &mut [u8]) -> Result<usize, Refusal>
     ensures { outcome result buffer.new ≡ changed_record (take_out position) bytes.now buffer.old }
 {
     let opened = record_opening::open_record(bytes);
     let verdict = opened.verdict;
-    if let Verdict::Refused(refusal) = verdict {
-        return Written::Refused(refusal);
+    if let Err(refusal) = verdict {
+        return Err(refusal);
     }
     let list = opened.list;
     let n = list.count;
     if position == 0 {
-        return answer::unwritten(answer::UNKNOWN_POSITION, 0);
+        return Err(Reason::UnknownPosition.at(0));
     }
     if n < position {
-        return answer::unwritten(answer::UNKNOWN_POSITION, 0);
+        return Err(Reason::UnknownPosition.at(0));
     }
     let sets = opened.sets;
     let count = opened.count;
@@ -77,13 +77,13 @@ pub fn take_out(bytes: &[u8], position: usize, buffer: &mut [u8]) -> Written
 
 // Take out the parts of a group, a mask of positions: the sets that name one of them go, the other parts move down past all that left, part
 // numbers and mark stay.
-pub fn take_out_group(bytes: &[u8], group: usize, buffer: &mut [u8]) -> Written
+pub fn take_out_group(bytes: &[u8], group: usize, buffer: &mut [u8]) -> Result<usize, Refusal>
     ensures { outcome result buffer.new ≡ changed_record (take_out_group group) bytes.now buffer.old }
 {
     let opened = record_opening::open_record(bytes);
     let verdict = opened.verdict;
-    if let Verdict::Refused(refusal) = verdict {
-        return Written::Refused(refusal);
+    if let Err(refusal) = verdict {
+        return Err(refusal);
     }
     let list = opened.list;
     let sets = opened.sets;
@@ -94,13 +94,13 @@ pub fn take_out_group(bytes: &[u8], group: usize, buffer: &mut [u8]) -> Written
 }
 
 // Add set: the minimal sets of the old ones and the new one.
-pub fn add_set(bytes: &[u8], set: u16, buffer: &mut [u8]) -> Written
+pub fn add_set(bytes: &[u8], set: u16, buffer: &mut [u8]) -> Result<usize, Refusal>
     ensures { outcome result buffer.new ≡ changed_record (add_set set) bytes.now buffer.old }
 {
     let opened = record_opening::open_record(bytes);
     let verdict = opened.verdict;
-    if let Verdict::Refused(refusal) = verdict {
-        return Written::Refused(refusal);
+    if let Err(refusal) = verdict {
+        return Err(refusal);
     }
     let list = opened.list;
     let n = list.count;
@@ -110,23 +110,23 @@ pub fn add_set(bytes: &[u8], set: u16, buffer: &mut [u8]) -> Written
     let mut minimal = [0u16; 12870];
     let found = record_sets::minimal_with(n, &opened.sets[..count], set, &mut minimal);
     match found {
-        Written::Refused(refusal) => Written::Refused(refusal),
-        Written::Length(left) => { write_stored(edition, list, &minimal[..left], retired, buffer) }
+        Err(refusal) => Err(refusal),
+        Ok(left) => { write_stored(edition, list, &minimal[..left], retired, buffer) }
     }
 }
 
 // The record in edition 1, where it has no retired numbers.
-pub fn to_edition_1(bytes: &[u8], buffer: &mut [u8]) -> Written
+pub fn to_edition_1(bytes: &[u8], buffer: &mut [u8]) -> Result<usize, Refusal>
     ensures { outcome result buffer.new ≡ changed_record (convert First) bytes.now buffer.old }
 {
     let opened = record_opening::open_record(bytes);
     let verdict = opened.verdict;
-    if let Verdict::Refused(refusal) = verdict {
-        return Written::Refused(refusal);
+    if let Err(refusal) = verdict {
+        return Err(refusal);
     }
     let retired = opened.retired;
     if retired.count != 0 {
-        return answer::unwritten(answer::RETIRED_PRESENT, 0);
+        return Err(Reason::RetiredPresent.at(0));
     }
     let list = opened.list;
     let sets = opened.sets;
@@ -135,13 +135,13 @@ pub fn to_edition_1(bytes: &[u8], buffer: &mut [u8]) -> Written
 }
 
 // The record in edition 2: from edition 1 it comes with no retired numbers.
-pub fn to_edition_2(bytes: &[u8], buffer: &mut [u8]) -> Written
+pub fn to_edition_2(bytes: &[u8], buffer: &mut [u8]) -> Result<usize, Refusal>
     ensures { outcome result buffer.new ≡ changed_record (convert Second) bytes.now buffer.old }
 {
     let opened = record_opening::open_record(bytes);
     let verdict = opened.verdict;
-    if let Verdict::Refused(refusal) = verdict {
-        return Written::Refused(refusal);
+    if let Err(refusal) = verdict {
+        return Err(refusal);
     }
     let list = opened.list;
     let sets = opened.sets;
@@ -152,29 +152,29 @@ pub fn to_edition_2(bytes: &[u8], buffer: &mut [u8]) -> Written
 
 // A record of parts that already have numbers, from these and the mark, which is the highest number ever issued, and a list of sets over the
 // positions of the numbers: these numbers, this mark, the minimal sets.
-pub fn entered_record(mark: u64, numbers: &[u64], list: &[u16], buffer: &mut [u8]) -> Written
+pub fn entered_record(mark: u64, numbers: &[u64], list: &[u16], buffer: &mut [u8]) -> Result<usize, Refusal>
     ensures { outcome result buffer.new ≡ entered_record mark numbers.now list.now buffer.old }
 {
     let mut sets = [0u16; 12870];
     let found = record_sets::minimal_of_list(numbers.len(), list, &mut sets);
     match found {
-        Written::Refused(refusal) => Written::Refused(refusal),
-        Written::Length(count) => {
+        Err(refusal) => Err(refusal),
+        Ok(count) => {
             let verdict = record_numbers::judge(mark, numbers);
             match verdict {
-                Verdict::Refused(refusal) => Written::Refused(refusal),
-                Verdict::Accepted => write_record(mark, numbers, &sets[..count], buffer),
+                Err(refusal) => Err(refusal),
+                Ok(()) => write_record(mark, numbers, &sets[..count], buffer),
             }
         }
     }
 }
 
 // A first record, from the number of parts and a list of sets: part numbers 1 to n, mark n, the minimal sets.
-pub fn first_record(n: usize, list: &[u16], buffer: &mut [u8]) -> Written
+pub fn first_record(n: usize, list: &[u16], buffer: &mut [u8]) -> Result<usize, Refusal>
     ensures { outcome result buffer.new ≡ first_record n list.now buffer.old }
 {
     if record_numbers::MOST_PARTS < n {
-        return answer::unwritten(answer::WRONG_PART_COUNT, 0);
+        return Err(Reason::WrongPartCount.at(0));
     }
     let numbers: [u64; 16] = [1, 2, 3, 4, 5, 6, 7, 8, 9, 10, 11, 12, 13, 14, 15, 16];
     entered_record(n as u64, &numbers[..n], list, buffer)
@@ -188,7 +188,7 @@ fn write_without(
     retired: Retired,
     group: usize,
     buffer: &mut [u8],
-) -> Written
+) -> Result<usize, Refusal>
     requires design_rules { DesignRules (design list sets.now) }
     requires count_le_most_retired { retired.count ≤ most_retired }
     requires count_in_bounds { retired.count ≤ length retired.numbers }
@@ -196,14 +196,14 @@ fn write_without(
 {
     let listed = list.take_out_group(group);
     let verdict = listed.verdict;
-    if let Verdict::Refused(refusal) = verdict {
-        return Written::Refused(refusal);
+    if let Err(refusal) = verdict {
+        return Err(refusal);
     }
     let others = listed.list;
     let mut kept = [0u16; 12870];
     let left = sets_left(sets, group, &mut kept);
     if left == 0 {
-        return answer::unwritten(answer::IN_EVERY_SET, 0);
+        return Err(Reason::InEverySet.at(0));
     }
     let filed = file_group(list, retired, group);
     write_stored(edition, others, &kept[..left], filed, buffer)
@@ -226,12 +226,12 @@ fn file_group(list: PartList, retired: Retired, group: usize) -> Retired
 // The sets that have no part of a group, with higher positions moved down, into a local array, and how many they are.
 fn sets_left(sets: &[u16], group: usize, kept: &mut [u16]) -> usize
     requires { length sets.now ≤ length kept.old }
-    ensures { outcome (Written.Length result) kept.new ≡ delivered Verdict.Accepted (sets_without group sets.now) kept.old }
+    ensures { outcome (Ok result) kept.new ≡ delivered (Ok tt) (sets_without group sets.now) kept.old }
 {
     let written = record_sets::sets_without(sets, group, kept);
     match written {
-        Written::Refused(_) => 0,
-        Written::Length(left) => left,
+        Err(_) => 0,
+        Ok(left) => left,
     }
 }
 
@@ -243,11 +243,11 @@ fn write_stored(
     sets: &[u16],
     retired: Retired,
     buffer: &mut [u8],
-) -> Written
+) -> Result<usize, Refusal>
     requires design_rules { DesignRules (design list sets.now) }
     requires count_le_most_retired { retired.count ≤ most_retired }
     requires count_in_bounds { retired.count ≤ length retired.numbers }
-    ensures { outcome result buffer.new ≡ delivered Verdict.Accepted (stored_bytes (in_edition edition (design list sets.now) (retired_numbers retired))) buffer.old }
+    ensures { outcome result buffer.new ≡ delivered (Ok tt) (stored_bytes (in_edition edition (design list sets.now) (retired_numbers retired))) buffer.old }
 {
     let numbers = list.numbers;
     let n = list.count;
@@ -281,17 +281,17 @@ fn fresh_counts(n: usize, sets: &[u16]) -> [u64; 17]
 }
 
 // Writes the record with this mark, these part numbers and these sets into a lent buffer, or says how many bytes it needs.
-fn write_record(mark: u64, numbers: &[u64], sets: &[u16], buffer: &mut [u8]) -> Written
+fn write_record(mark: u64, numbers: &[u64], sets: &[u16], buffer: &mut [u8]) -> Result<usize, Refusal>
     requires numbers_len_bound { length numbers.now ≤ most_parts }
     requires sets_len_bound { length sets.now ≤ most_sets }
-    ensures { outcome result buffer.new ≡ delivered Verdict.Accepted (record_bytes (design (list_of mark numbers.now) sets.now)) buffer.old }
+    ensures { outcome result buffer.new ≡ delivered (Ok tt) (record_bytes (design (list_of mark numbers.now) sets.now)) buffer.old }
 {
     let needed = record_length(mark, numbers, sets);
     if buffer.len() < needed {
-        return answer::short(needed);
+        return Err(Reason::ShortBuffer.at(needed));
     }
     let end = write_pieces(mark, numbers, sets, buffer, 0);
-    Written::Length(end)
+    Ok(end)
 }
 
 // Writes the record of edition 2 with these retired numbers and these path counts behind the sets into a lent buffer, or says how many bytes it
@@ -303,22 +303,22 @@ fn write_second(
     retired: &[u64],
     counts: &[u64],
     buffer: &mut [u8],
-) -> Written
+) -> Result<usize, Refusal>
     requires numbers_len_bound { length numbers.now ≤ most_parts }
     requires sets_len_bound { length sets.now ≤ most_sets }
     requires retired_len_bound { length retired.now ≤ most_retired }
     requires counts_len_bound { length counts.now ≤ most_retired }
-    ensures { outcome result buffer.new ≡ delivered Verdict.Accepted (second_bytes (design (list_of mark numbers.now) sets.now) retired.now counts.now) buffer.old }
+    ensures { outcome result buffer.new ≡ delivered (Ok tt) (second_bytes (design (list_of mark numbers.now) sets.now) retired.now counts.now) buffer.old }
 {
     let body = record_length(mark, numbers, sets);
     let whole = 2 + body + tail_length(retired, counts);
     if buffer.len() < whole {
-        return answer::short(whole);
+        return Err(Reason::ShortBuffer.at(whole));
     }
     let begin = write_edition(buffer);
     let middle = write_pieces(mark, numbers, sets, buffer, begin);
     let end = write_tail(buffer, middle, retired, counts);
-    Written::Length(end)
+    Ok(end)
 }
 
 // Writes the numbers 0 and 2 in front of a buffer.

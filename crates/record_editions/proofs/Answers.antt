@@ -10,12 +10,12 @@ use native.Mathlib.Omega.{arith}
 use borrow.Author.Tests.{eq-eqb, ne_eqb, lt-ltb, le-ltb}
 use lib.Dec.{eqb}
 use lib.ListN.{length, get_or, get_or-eq_default}
+use Rattle.std.specs.Prelude.{Ok, Err}
 use Rattle.numbers.proofs.Bools.{clash}
 use Rattle.numbers.proofs.Bounds.{below_or_above}
 use Rattle.answer.specs.Outcome.{at}
-use Rattle.answer.specs.Refusals.{bytes_left}
+use Rattle.answer.specs.declared.Reason.TheVariants.{BytesLeft}
 use Rattle.answer.specs.declared.Refusal.{Refusal}
-use Rattle.answer.specs.declared.Verdict.TheVariants.{Accepted, Refused}
 use Rattle.codec.specs.Reads.{Read, found, refused, then, alone}
 use Rattle.codec.specs.Bytes.{Bytes}
 use Rattle.record_parts.specs.PartLists.{numbers_of}
@@ -92,22 +92,22 @@ module _ (bytes : List ℕ) (start : ℕ) (w : WithWords) where
     unfolding stored_at
     here = ap (λ (b : Bool). stored_read_of (edition_at b bytes start)) (sym there)
 
-    pub second_refused : (why : Refusal) → w.contents.verdict ≡ Refused why → first_read w ≡ stored_read_of (stored_at bytes start)
+    pub second_refused : (why : Refusal) → w.contents.verdict ≡ Err why → first_read w ≡ stored_read_of (stored_at bytes start)
     second_refused why v = ap first_read e ∙ cases (record_at bytes (start + 2)) (sym (ap (λ (k : WithWords). k.contents.verdict) e) ∙ v) ∙ here
       where
-        cases : (read : Read DesignAt) → (with_words_of read).contents.verdict ≡ Refused why → first_read (with_words_of read) ≡ stored_read_of (then read (second_at bytes))
+        cases : (read : Read DesignAt) → (with_words_of read).contents.verdict ≡ Err why → first_read (with_words_of read) ≡ stored_read_of (then read (second_at bytes))
         cases (found here next) v = not_both refl v
         cases (refused r) v = refl
 
-    pub second_few : Bytes bytes → w.contents.verdict ≡ Accepted → (w.contents.list.count ≤ 16) × (w.contents.list.count ≤ length w.contents.list.numbers)
+    pub second_few : Bytes bytes → w.contents.verdict ≡ Ok tt → (w.contents.list.count ≤ 16) × (w.contents.list.count ≤ length w.contents.list.numbers)
     second_few small v = subst (λ (k : WithWords). (k.contents.list.count ≤ 16) × (k.contents.list.count ≤ length k.contents.list.numbers)) (sym e) (cases (record_at bytes (start + 2)) refl (sym (ap (λ (k : WithWords). k.contents.verdict) e) ∙ v))
       where
-        cases : (read : Read DesignAt) → record_at bytes (start + 2) ≡ read → (with_words_of read).contents.verdict ≡ Accepted
+        cases : (read : Read DesignAt) → record_at bytes (start + 2) ≡ read → (with_words_of read).contents.verdict ≡ Ok tt
             → ((with_words_of read).contents.list.count ≤ 16) × ((with_words_of read).contents.list.count ≤ length (with_words_of read).contents.list.numbers)
         cases (found here next) read v = let r = (record_found bytes (start + 2) here next small read).rules.parts in (r.rules.few, cells_enough here.design.parts r)
         cases (refused r) read v = not_both v refl
 
-    pub second_given : Bytes bytes → w.contents.verdict ≡ Accepted → second_read w (behind_at bytes w) ≡ stored_read_of (stored_at bytes start)
+    pub second_given : Bytes bytes → w.contents.verdict ≡ Ok tt → second_read w (behind_at bytes w) ≡ stored_read_of (stored_at bytes start)
     second_given small v =
         ap (λ (k : WithWords). second_read k (behind_at bytes k)) e
         ∙ cases (record_at bytes (start + 2)) refl (sym (ap (λ (k : WithWords). k.contents.verdict) e) ∙ v)
@@ -118,7 +118,7 @@ module _ (bytes : List ℕ) (start : ℕ) (w : WithWords) where
         behind here next (found retired end) = refl
         behind here next (refused why) = refl
 
-        cases : (read : Read DesignAt) → record_at bytes (start + 2) ≡ read → (with_words_of read).contents.verdict ≡ Accepted
+        cases : (read : Read DesignAt) → record_at bytes (start + 2) ≡ read → (with_words_of read).contents.verdict ≡ Ok tt
             → second_read (with_words_of read) (behind_at bytes (with_words_of read)) ≡ stored_read_of (then read (second_at bytes))
         cases (found here next) read v =
             let d : Design = here.design in
@@ -130,13 +130,13 @@ module _ (bytes : List ℕ) (start : ℕ) (w : WithWords) where
 -- ---- what stands behind the body
 
 module _ (w : WithWords) (tail : Tail) (read : Read (List ℕ)) (e : tail ≡ tail_of read) where
-  pub behind_refused : (why : Refusal) → tail.verdict ≡ Refused why → first_read (with_words_of (refused why)) ≡ second_read w read
+  pub behind_refused : (why : Refusal) → tail.verdict ≡ Err why → first_read (with_words_of (refused why)) ≡ second_read w read
   behind_refused why v = sym (ap (second_read w) (tail_refused read tail why e v))
 
-  pub behind_given : tail.verdict ≡ Accepted → record { body = record { contents = record { list = w.contents.list; sets = w.contents.sets; begin = w.contents.begin; end = w.contents.end; next = tail.next; verdict = Accepted }; words = w.words }; edition = Second; retired = tail.retired } ≡ second_read w read
+  pub behind_given : tail.verdict ≡ Ok tt → record { body = record { contents = record { list = w.contents.list; sets = w.contents.sets; begin = w.contents.begin; end = w.contents.end; next = tail.next; verdict = (Ok tt) }; words = w.words }; edition = Second; retired = tail.retired } ≡ second_read w read
   behind_given v =
       let g = tail_given read tail e v in
-      ap (λ (r : Retired). record { body = record { contents = record { list = w.contents.list; sets = w.contents.sets; begin = w.contents.begin; end = w.contents.end; next = tail.next; verdict = Accepted }; words = w.words }; edition = Second; retired = r }) g.cells
+      ap (λ (r : Retired). record { body = record { contents = record { list = w.contents.list; sets = w.contents.sets; begin = w.contents.begin; end = w.contents.end; next = tail.next; verdict = (Ok tt) }; words = w.words }; edition = Second; retired = r }) g.cells
       ∙ sym (ap (second_read w) g.given)
 
 -- ---- the contents
@@ -162,32 +162,32 @@ contents_whole bytes w e = ap (λ (x : WithWords). x.contents) e ∙ words_conte
 -- ---- 25, after the record
 
 module _ (bytes : List ℕ) where
-  left_refused : (read : Read StoredAt) (why : Refusal) → (stored_read_of read).body.contents.verdict ≡ Refused why → stored_read_of read ≡ stored_read_of (then read (alone bytes))
+  left_refused : (read : Read StoredAt) (why : Refusal) → (stored_read_of read).body.contents.verdict ≡ Err why → stored_read_of read ≡ stored_read_of (then read (alone bytes))
   left_refused (refused r) why v = refl
   left_refused (found here next) why v = not_both refl v
 
-  left_some : (read : Read StoredAt) → (stored_read_of read).body.contents.verdict ≡ Accepted → (stored_read_of read).body.contents.next < length bytes
-      → stored_read_of (refused (at bytes_left (stored_read_of read).body.contents.next)) ≡ stored_read_of (then read (alone bytes))
+  left_some : (read : Read StoredAt) → (stored_read_of read).body.contents.verdict ≡ Ok tt → (stored_read_of read).body.contents.next < length bytes
+      → stored_read_of (refused (at BytesLeft (stored_read_of read).body.contents.next)) ≡ stored_read_of (then read (alone bytes))
   left_some (refused r) v h = not_both v refl
-  left_some (found here next) v h = sym (ap (λ (t : Bool). stored_read_of (cond t (refused (at bytes_left next)) (found here next))) (lt-ltb next (length bytes) h))
+  left_some (found here next) v h = sym (ap (λ (t : Bool). stored_read_of (cond t (refused (at BytesLeft next)) (found here next))) (lt-ltb next (length bytes) h))
 
-  left_none : (read : Read StoredAt) → (stored_read_of read).body.contents.verdict ≡ Accepted → length bytes ≤ (stored_read_of read).body.contents.next
+  left_none : (read : Read StoredAt) → (stored_read_of read).body.contents.verdict ≡ Ok tt → length bytes ≤ (stored_read_of read).body.contents.next
       → stored_read_of read ≡ stored_read_of (then read (alone bytes))
   left_none (refused r) v h = not_both v refl
-  left_none (found here next) v h = sym (ap (λ (t : Bool). stored_read_of (cond t (refused (at bytes_left next)) (found here next))) (le-ltb next (length bytes) h))
+  left_none (found here next) v h = sym (ap (λ (t : Bool). stored_read_of (cond t (refused (at BytesLeft next)) (found here next))) (le-ltb next (length bytes) h))
 
 module _ (bytes : List ℕ) (w : StoredRead) (read : w ≡ stored_read_of (stored_at bytes 0)) where
-  pub whole_refused : (why : Refusal) → w.body.contents.verdict ≡ Refused why → w ≡ whole_stored_read bytes
+  pub whole_refused : (why : Refusal) → w.body.contents.verdict ≡ Err why → w ≡ whole_stored_read bytes
   unfolding whole_stored_read only_stored
   whole_refused why v = read ∙ left_refused bytes (stored_at bytes 0) why (sym (ap (λ (k : StoredRead). k.body.contents.verdict) read) ∙ v)
 
-  pub whole_left : w.body.contents.verdict ≡ Accepted → w.body.contents.next < length bytes → first_read (with_words_of (refused (at bytes_left w.body.contents.next))) ≡ whole_stored_read bytes
+  pub whole_left : w.body.contents.verdict ≡ Ok tt → w.body.contents.next < length bytes → first_read (with_words_of (refused (at BytesLeft w.body.contents.next))) ≡ whole_stored_read bytes
   unfolding whole_stored_read only_stored
   whole_left v h =
-      ap (λ (k : StoredRead). stored_read_of (refused (at bytes_left k.body.contents.next))) read
+      ap (λ (k : StoredRead). stored_read_of (refused (at BytesLeft k.body.contents.next))) read
       ∙ left_some bytes (stored_at bytes 0) (sym (ap (λ (k : StoredRead). k.body.contents.verdict) read) ∙ v) (subst (λ (k : StoredRead). k.body.contents.next < length bytes) read h)
 
-  pub whole_alone : w.body.contents.verdict ≡ Accepted → length bytes ≤ w.body.contents.next → w ≡ whole_stored_read bytes
+  pub whole_alone : w.body.contents.verdict ≡ Ok tt → length bytes ≤ w.body.contents.next → w ≡ whole_stored_read bytes
   unfolding whole_stored_read only_stored
   whole_alone v h =
       read ∙ left_none bytes (stored_at bytes 0) (sym (ap (λ (k : StoredRead). k.body.contents.verdict) read) ∙ v) (subst (λ (k : StoredRead). length bytes ≤ k.body.contents.next) read h)

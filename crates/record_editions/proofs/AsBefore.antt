@@ -10,7 +10,7 @@ use borrow.Author.Tests.{le-ltb}
 use lib.Dec.{ltb}
 use lib.ListN.{length, drop}
 use Rattle.answer.specs.Outcome.{at}
-use Rattle.answer.specs.Refusals.{wrong_part_count, bytes_left}
+use Rattle.answer.specs.declared.Reason.TheVariants.{WrongPartCount, BytesLeft}
 use Rattle.answer.specs.declared.Refusal.{Refusal}
 use Rattle.codec.specs.declared.Field.TheVariants.{Count}
 use Rattle.codec.specs.ByteForm.{bytes_of}
@@ -35,7 +35,7 @@ pub other_as_before : (bytes : List ℕ) → second_there bytes 0 ≡ false → 
 unfolding only_record only_stored stored_at former_only
 other_as_before bytes other = ap (λ (b : Bool). body_of (then (edition_at b bytes 0) (alone bytes))) other ∙ cases (record_at bytes 0)
   where
-    left : (over : Bool) (here : DesignAt) (next : ℕ) → body_of (cond over (refused (at bytes_left next)) (first_at here next)) ≡ cond over (refused (at bytes_left next)) (found here next)
+    left : (over : Bool) (here : DesignAt) (next : ℕ) → body_of (cond over (refused (at BytesLeft next)) (first_at here next)) ≡ cond over (refused (at BytesLeft next)) (found here next)
     left true here next = refl
     left false here next = refl
 
@@ -62,16 +62,16 @@ unfolding whole_stored
 read_as_before bytes small here next e = ap (λ (f : Read StoredAt). then f (λ there after. found there.stored after)) (accepted_as_before bytes small here next e)
 
 -- "a first byte 00 without 02 as the next byte is refused as 1 at place 0": it is the number of parts
-zero_read : (bytes : List ℕ) → field_at (0 ∷ bytes) 0 Count (parts_refusal 0) ≡ refused (at wrong_part_count 0)
+zero_read : (bytes : List ℕ) → field_at (0 ∷ bytes) 0 Count (parts_refusal 0) ≡ refused (at WrongPartCount 0)
 unfolding field_at
 zero_read bytes =
     let form : 0 ∷ bytes ≡ bytes_of 0 ++ bytes = ap (λ (l : List ℕ). l ++ bytes) (sym (bytes_small 0 (omega arith))) in
     let read : number_at (0 ∷ bytes) 0 Count ≡ found 0 (0 + length (bytes_of 0)) = form_read (0 ∷ bytes) 0 Count 0 bytes form in
     ap (judged (parts_refusal 0)) read
 
-pub zero_first : (bytes : List ℕ) → second_there (0 ∷ bytes) 0 ≡ false → whole_stored (0 ∷ bytes) ≡ refused (at wrong_part_count 0)
+pub zero_first : (bytes : List ℕ) → second_there (0 ∷ bytes) 0 ≡ false → whole_stored (0 ∷ bytes) ≡ refused (at WrongPartCount 0)
 unfolding whole_stored only_stored stored_at
 zero_first bytes other =
-    let why : Refusal = at wrong_part_count 0 in
+    let why : Refusal = at WrongPartCount 0 in
     let none : record_at (0 ∷ bytes) 0 ≡ refused why = record_no_head (0 ∷ bytes) 0 why (head_no_parts (0 ∷ bytes) 0 why (parts_no_count (0 ∷ bytes) 0 why (zero_read bytes))) in
     rw (other, none) refl

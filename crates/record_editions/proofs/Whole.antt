@@ -7,12 +7,9 @@ use Prim.Native.Nat.{ℕ, ◌+◌, ◌-◌, ◌*◌, ◌≤◌}
 use native.Mathlib.Omega.{arith}
 use lib.ListN.{length, take, drop, replicate, length-append}
 use lib.Seq.{take-append_seam, length-take-le}
-use Rattle.answer.specs.Outcome.{outcome, delivered, valued}
-use Rattle.answer.specs.declared.Value.TheVariants as value
-use Rattle.answer.specs.declared.Written.TheVariants as written
+use Rattle.std.specs.Prelude.{Ok, Err}
+use Rattle.answer.specs.Outcome.{outcome, delivered, valued, Verdict}
 use Rattle.answer.specs.declared.Refusal.{Refusal}
-use Rattle.answer.specs.declared.Verdict.{Verdict}
-use Rattle.answer.specs.declared.Verdict.TheVariants.{Accepted, Refused}
 use Rattle.codec.specs.ByteForm.{forms_of}
 use Rattle.codec.specs.Reads.{Read, found, refused, then}
 use Rattle.codec.specs.Bytes.{Bytes}
@@ -41,20 +38,20 @@ use Rattle.record_editions.proofs.Answers.{contents_whole}
 -- ---- accepted or refused
 
 -- an accepted record has a design
-pub accepted_design : (bytes : List ℕ) → (whole_contents bytes).verdict ≡ Accepted → (d : Design) × (end : ℕ) × (whole_record bytes ≡ found d end)
+pub accepted_design : (bytes : List ℕ) → (whole_contents bytes).verdict ≡ Ok tt → (d : Design) × (end : ℕ) × (whole_record bytes ≡ found d end)
 unfolding whole_contents whole_record
 accepted_design bytes = cases (only_record bytes)
   where
-    cases : (only : Read DesignAt) → (contents_of only).verdict ≡ Accepted → (d : Design) × (end : ℕ) × (then only (λ here next. found here.design next) ≡ found d end)
+    cases : (only : Read DesignAt) → (contents_of only).verdict ≡ Ok tt → (d : Design) × (end : ℕ) × (then only (λ here next. found here.design next) ≡ found d end)
     cases (refused why) v = let z : ◌≡◌ {A = ℕ} 0 1 = cc in absurd (omega arith)
     cases (found here next) v = (here.design, next, refl)
 
 -- a refused one has nothing
-pub refused_nothing : (bytes : List ℕ) (why : Refusal) → (whole_contents bytes).verdict ≡ Refused why → whole_contents bytes ≡ nothing why
+pub refused_nothing : (bytes : List ℕ) (why : Refusal) → (whole_contents bytes).verdict ≡ Err why → whole_contents bytes ≡ nothing why
 unfolding whole_contents
 refused_nothing bytes why = cases (only_record bytes)
   where
-    cases : (only : Read DesignAt) → (contents_of only).verdict ≡ Refused why → contents_of only ≡ nothing why
+    cases : (only : Read DesignAt) → (contents_of only).verdict ≡ Err why → contents_of only ≡ nothing why
     cases (refused r) v = let same : r ≡ why = cc v in ap nothing same
     cases (found here next) v = let z : ◌≡◌ {A = ℕ} 0 1 = cc in absurd (omega arith)
 
@@ -74,7 +71,7 @@ pub record DesignRead (bytes : List ℕ) (d : Design) (next : ℕ) : Type 0 wher
   pub rules : DesignRules d
   pub begin : ℕ
   pub end : ℕ
-  pub contents : whole_contents bytes ≡ record { list = d.parts; sets = length d.sets; begin = begin; end = end; next = next; verdict = Accepted }
+  pub contents : whole_contents bytes ≡ record { list = d.parts; sets = length d.sets; begin = begin; end = end; next = next; verdict = (Ok tt) }
   pub with_words : whole_with_words bytes ≡ record { contents = whole_contents bytes; words = structure_words d.parts.count d.sets }
   pub sets_at_lem : sets_at bytes d.parts.count (length d.sets) [] begin ≡ found d.sets end
   pub stands : Stands bytes begin end (forms_of d.sets)
@@ -105,11 +102,11 @@ pub stretch_inside : (bytes : List ℕ) → Bytes bytes → ((whole_contents byt
 stretch_inside bytes small = cases (whole_contents bytes).verdict refl
   where
     cases : (v : Verdict) → (whole_contents bytes).verdict ≡ v → ((whole_contents bytes).begin ≤ (whole_contents bytes).end) × ((whole_contents bytes).end ≤ length bytes)
-    cases Accepted v =
+    cases (Ok _) v =
         let a = accepted_design bytes v in
         let r = design_read_lem bytes small a.0 a.1 a.2 in
         subst (λ (k : Contents). (k.begin ≤ k.end) × (k.end ≤ length bytes)) (sym r.contents) (omega (arith, r.stands.position), r.stands.inside)
-    cases (Refused why) v =
+    cases (Err why) v =
         subst (λ (k : Contents). (k.begin ≤ k.end) × (k.end ≤ length bytes)) (sym (refused_nothing bytes why v)) (omega arith, omega arith)
 
 -- the stretch of an accepted record is the byte forms of its sets, one after the other
@@ -145,11 +142,11 @@ pub record WordsRead (d : Design) (w : WithWords) : Type 0 where
   pub few : d.parts.count ≤ 16
   pub words : w.words ≡ structure_words d.parts.count d.sets
 
-pub words_read : (bytes : List ℕ) (w : WithWords) → Bytes bytes → w ≡ whole_with_words bytes → w.contents.verdict ≡ Accepted → WordsRead (design_in bytes) w
+pub words_read : (bytes : List ℕ) (w : WithWords) → Bytes bytes → w ≡ whole_with_words bytes → w.contents.verdict ≡ Ok tt → WordsRead (design_in bytes) w
 unfolding design_in
 words_read bytes w small e v =
     let same : w.contents ≡ whole_contents bytes = contents_whole bytes w e in
-    let accepts : (whole_contents bytes).verdict ≡ Accepted = sym (ap (λ (k : Contents). k.verdict) same) ∙ v in
+    let accepts : (whole_contents bytes).verdict ≡ Ok tt = sym (ap (λ (k : Contents). k.verdict) same) ∙ v in
     let a = accepted_design bytes accepts in
     let r = design_read_lem bytes small a.0 a.1 a.2 in
     subst (λ (d : Design). WordsRead d w) (sym (ap design_or a.2))
@@ -170,10 +167,10 @@ words_delivered bytes w small e buffer = cases w.contents.verdict refl
 
     cases : (v : Verdict) → w.contents.verdict ≡ v → delivered w.contents.verdict (table_of_words w.contents.list.count w.words) buffer
         ≡ delivered (record_refusal bytes) (table_of (design_in bytes).parts.count (listed (design_in bytes).sets)) buffer
-    cases (Refused why) v =
+    cases (Err why) v =
         ap (λ (x : Verdict). delivered x (table_of_words w.contents.list.count w.words) buffer) v
         ∙ sym (ap (λ (x : Verdict). delivered x (table_of (design_in bytes).parts.count (listed (design_in bytes).sets)) buffer) (sym judged ∙ v))
-    cases Accepted v =
+    cases (Ok _) v =
         let r = words_read bytes w small e v in
         let d : Design = design_in bytes in
         let n : ℕ = d.parts.count in
@@ -211,13 +208,13 @@ stored_told bytes w e = record {
     retired (refused why) = refl
 
 module _ (bytes : List ℕ) (w : StoredRead) (told : Told bytes w) where
-  pub edition_refused : (why : Refusal) → w.body.contents.verdict ≡ Refused why → value.Refused why ≡ edition_given bytes
+  pub edition_refused : (why : Refusal) → w.body.contents.verdict ≡ Err why → Err why ≡ edition_given bytes
   unfolding edition_given
   edition_refused why v = ap (λ (x : Verdict). valued x (edition_number (edition_or (whole_stored bytes)))) (sym v ∙ told.judged)
 
-  pub edition_given_lem : w.body.contents.verdict ≡ Accepted → (edition : Edition) → w.edition ≡ edition → value.Given (edition_number edition) ≡ edition_given bytes
+  pub edition_given_lem : w.body.contents.verdict ≡ Ok tt → (edition : Edition) → w.edition ≡ edition → Ok (edition_number edition) ≡ edition_given bytes
   unfolding edition_given
-  edition_given_lem v edition e = ap (λ (k : Edition). value.Given (edition_number k)) (sym e ∙ told.edition) ∙ ap (λ (x : Verdict). valued x (edition_number (edition_or (whole_stored bytes)))) (sym v ∙ told.judged)
+  edition_given_lem v edition e = ap (λ (k : Edition). Ok (edition_number k)) (sym e ∙ told.edition) ∙ ap (λ (x : Verdict). valued x (edition_number (edition_or (whole_stored bytes)))) (sym v ∙ told.judged)
 
   -- the numbers stand in front of the cells
   pub retired_room : w.retired.count ≤ length w.retired.numbers
@@ -228,32 +225,32 @@ module _ (bytes : List ℕ) (w : StoredRead) (told : Told bytes w) where
   retired_counted = sym (length-take-le w.retired.count w.retired.numbers retired_room)
 
   module _ (buffer : List ℕ) where
-    pub retired_refused : (why : Refusal) → w.body.contents.verdict ≡ Refused why → outcome (written.Refused why) buffer ≡ retired_given bytes buffer
+    pub retired_refused : (why : Refusal) → w.body.contents.verdict ≡ Err why → outcome (Err why) buffer ≡ retired_given bytes buffer
     unfolding retired_given
     retired_refused why v = ap (λ (x : Verdict). delivered x (retired_or (whole_stored bytes)) buffer) (sym v ∙ told.judged)
 
-    pub retired_given_lem : w.body.contents.verdict ≡ Accepted → delivered Accepted (take w.retired.count w.retired.numbers) buffer ≡ retired_given bytes buffer
+    pub retired_given_lem : w.body.contents.verdict ≡ Ok tt → delivered (Ok tt) (take w.retired.count w.retired.numbers) buffer ≡ retired_given bytes buffer
     unfolding retired_given
     retired_given_lem v =
         let l : List ℕ = retired_or (whole_stored bytes) in
-        ap (λ (r : Retired). delivered Accepted (take r.count r.numbers) buffer) told.retired
-        ∙ ap (λ (k : List ℕ). delivered Accepted k buffer) (take-append_seam l _)
+        ap (λ (r : Retired). delivered (Ok tt) (take r.count r.numbers) buffer) told.retired
+        ∙ ap (λ (k : List ℕ). delivered (Ok tt) k buffer) (take-append_seam l _)
         ∙ ap (λ (x : Verdict). delivered x l buffer) (sym v ∙ told.judged)
 
 -- the edition that is given of an accepted record is its own
-pub edition_read : (bytes : List ℕ) (s : Stored) (next : ℕ) → whole_stored bytes ≡ found s next → edition_given bytes ≡ value.Given (edition_number (edition_of s))
+pub edition_read : (bytes : List ℕ) (s : Stored) (next : ℕ) → whole_stored bytes ≡ found s next → edition_given bytes ≡ Ok (edition_number (edition_of s))
 unfolding edition_given whole_contents only_record
 edition_read bytes s next e =
     let w = whole_found bytes s next e in
-    let accepted : (contents_of (body_of (only_stored bytes))).verdict ≡ Accepted = ap (λ (k : Read StoredAt). (contents_of (body_of k)).verdict) w.only in
-    ap (λ (v : Verdict). valued v (edition_number (edition_or (whole_stored bytes)))) accepted ∙ ap (λ (r : Read Stored). value.Given (edition_number (edition_or r))) e
+    let accepted : (contents_of (body_of (only_stored bytes))).verdict ≡ Ok tt = ap (λ (k : Read StoredAt). (contents_of (body_of k)).verdict) w.only in
+    ap (λ (v : Verdict). valued v (edition_number (edition_or (whole_stored bytes)))) accepted ∙ ap (λ (r : Read Stored). Ok (edition_number (edition_or r))) e
 
 -- the position after a record
 module _ (bytes : List ℕ) (start : ℕ) (k : Contents) (e : k ≡ contents_at bytes start) where
-  pub end_refused : (why : Refusal) → k.verdict ≡ Refused why → value.Refused why ≡ end_given bytes start
+  pub end_refused : (why : Refusal) → k.verdict ≡ Err why → Err why ≡ end_given bytes start
   unfolding end_given
   end_refused why v = sym (ap (λ (x : Verdict). valued x k.next) v) ∙ ap (λ (x : Contents). valued x.verdict x.next) e
 
-  pub end_given_lem : k.verdict ≡ Accepted → value.Given k.next ≡ end_given bytes start
+  pub end_given_lem : k.verdict ≡ Ok tt → Ok k.next ≡ end_given bytes start
   unfolding end_given
   end_given_lem v = sym (ap (λ (x : Verdict). valued x k.next) v) ∙ ap (λ (x : Contents). valued x.verdict x.next) e

@@ -1,9 +1,6 @@
 -- What the reading functions answer: the contents of a record of either edition, the stretch of its sets, its edition and its retired numbers.
 use Rattle.std.specs.Prelude.{List, [], ℕ}
-use Rattle.answer.specs.Outcome.{Outcome, valued, delivered}
-use Rattle.answer.specs.declared.Value.{Value}
-use Rattle.answer.specs.declared.Verdict.{Verdict}
-use Rattle.answer.specs.declared.Written.{Written}
+use Rattle.answer.specs.Outcome.{Outcome, valued, delivered, Numbered, Verdict}
 use Rattle.codec.specs.Reads.{Read, found, refused}
 use Rattle.record_parts.specs.PartLists.{list_of}
 use Rattle.record_retired.specs.Retired.{retired_of}
@@ -72,13 +69,13 @@ retired_or (found s next) = retired_in s
 retired_or (refused refusal) = []
 
 -- the edition of the record that the bytes are: 1 or 2
-unfoldable pub edition_given : List ℕ → Value
+unfoldable pub edition_given : List ℕ → Numbered
 edition_given bytes = valued (record_refusal bytes) (edition_number (edition_or (whole_stored bytes)))
 
 -- its retired numbers, rising, for a lent buffer
-unfoldable pub retired_given : List ℕ → List ℕ → Outcome Written (List ℕ)
+unfoldable pub retired_given : List ℕ → List ℕ → Outcome Numbered (List ℕ)
 retired_given bytes buffer = delivered (record_refusal bytes) (retired_or (whole_stored bytes)) buffer
 
 -- the position after the record at a position
-unfoldable pub end_given : List ℕ → ℕ → Value
+unfoldable pub end_given : List ℕ → ℕ → Numbered
 end_given bytes start = valued (contents_at bytes start).verdict (contents_at bytes start).next

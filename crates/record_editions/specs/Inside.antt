@@ -1,7 +1,6 @@
 -- What the private functions answer on the way: a reader of the promises may pass this file over.
-use Rattle.std.specs.Prelude.{List, [], ℕ, ◌+◌, take}
+use Rattle.std.specs.Prelude.{List, [], ℕ, ◌+◌, take, Ok}
 use Rattle.numbers.specs.Tables.{tabulate}
-use Rattle.answer.specs.declared.Verdict.TheVariants.{Accepted}
 use Rattle.codec.specs.Reads.{Read, found, refused}
 use Rattle.theory_orders.specs.Formulas.{path_count}
 use Rattle.structure_words.specs.Words.{in_words}
@@ -36,7 +35,7 @@ second_read body (found retired next) = record {
       begin = body.contents.begin;
       end = body.contents.end;
       next = next;
-      verdict = Accepted;
+      verdict = (Ok tt);
     };
     words = body.words;
   };

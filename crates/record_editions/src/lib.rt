@@ -12,7 +12,7 @@ ghost use Rattle.record_editions.specs.Editions.{second_there, stored_at};
 ghost use Rattle.record_editions.specs.Contents.{contents_at, whole_contents, record_refusal, design_in, whole_with_words, first_cursor, stored_read_of, whole_stored_read, edition_given, retired_given, end_given};
 ghost use Rattle.record_editions.specs.Inside.{first_read, behind_at, second_read};
 
-use answer::{Value, Verdict, Written};
+use answer::{Reason, Refusal};
 use record::{Contents, Cursor, WithWords};
 use record_retired::Retired;
 
@@ -64,11 +64,11 @@ pub fn whole_stored(bytes: &[u8]) -> StoredRead
     let contents = read.body.contents;
     let verdict = contents.verdict;
     match verdict {
-        Verdict::Refused(_) => read,
-        Verdict::Accepted => {
+        Err(_) => read,
+        Ok(()) => {
             let next = contents.next;
             if next < bytes.len() {
-                return first_edition(record::refused_with_words(answer::BYTES_LEFT, next));
+                return first_edition(record::refused_with_words(Reason::BytesLeft, next));
             }
             read
         }
@@ -98,57 +98,57 @@ pub fn first_cursor(bytes: &[u8]) -> Cursor
 }
 
 // The table of a record, into a lent buffer.
-pub fn table_of_record(bytes: &[u8], table: &mut [u8]) -> Written
+pub fn table_of_record(bytes: &[u8], table: &mut [u8]) -> Result<usize, Refusal>
     ensures { outcome result table.new ≡ delivered (record_refusal bytes.now) (table_of (design_in bytes.now).parts.count (listed (design_in bytes.now).sets)) table.old }
 {
     record::store_table(whole_with_words(bytes), table)
 }
 
 // The edition of a record: 1 or 2.
-pub fn edition_of(bytes: &[u8]) -> Value
+pub fn edition_of(bytes: &[u8]) -> Result<usize, Refusal>
     ensures { result ≡ edition_given bytes.now }
 {
     let read = whole_stored(bytes);
     let body = read.body;
     let contents = body.contents;
     let verdict = contents.verdict;
-    if let Verdict::Refused(refusal) = verdict {
-        return Value::Refused(refusal);
+    if let Err(refusal) = verdict {
+        return Err(refusal);
     }
     let edition = read.edition;
     match edition {
-        Edition::First => Value::Given(1),
-        Edition::Second => Value::Given(2),
+        Edition::First => Ok(1),
+        Edition::Second => Ok(2),
     }
 }
 
 // The retired numbers of a record, into a lent buffer.
-pub fn retired_of(bytes: &[u8], buffer: &mut [u64]) -> Written
+pub fn retired_of(bytes: &[u8], buffer: &mut [u64]) -> Result<usize, Refusal>
     ensures { outcome result buffer.new ≡ retired_given bytes.now buffer.old }
 {
     let read = whole_stored(bytes);
     let body = read.body;
     let contents = body.contents;
     let verdict = contents.verdict;
-    if let Verdict::Refused(refusal) = verdict {
-        return Written::Refused(refusal);
+    if let Err(refusal) = verdict {
+        return Err(refusal);
     }
     let retired = read.retired;
     let numbers = retired.numbers;
     let count = retired.count;
-    answer::hand_out_counts(&numbers[..count], buffer)
+    answer::hand_out(&numbers[..count], buffer)
 }
 
 // The position after the record that stands at a position.
-pub fn record_end(bytes: &[u8], start: usize) -> Value
+pub fn record_end(bytes: &[u8], start: usize) -> Result<usize, Refusal>
     ensures { result ≡ end_given bytes.now start }
 {
     let contents = read_record(bytes, start);
     let verdict = contents.verdict;
-    if let Verdict::Refused(refusal) = verdict {
-        return Value::Refused(refusal);
+    if let Err(refusal) = verdict {
+        return Err(refusal);
     }
-    Value::Given(contents.next)
+    Ok(contents.next)
 }
 
 // All that the record at a position says.
@@ -162,8 +162,8 @@ fn read_stored(bytes: &[u8], start: usize) -> StoredRead
     let contents = body.contents;
     let verdict = contents.verdict;
     match verdict {
-        Verdict::Refused(_) => first_edition(body),
-        Verdict::Accepted => second_edition(bytes, body),
+        Err(_) => first_edition(body),
+        Ok(()) => second_edition(bytes, body),
     }
 }
 
@@ -218,11 +218,11 @@ fn second_edition(bytes: &[u8], body: WithWords) -> StoredRead
     );
     let verdict = tail.verdict;
     match verdict {
-        Verdict::Refused(refusal) => first_edition(record::refused_with_words(
-            refusal.number,
+        Err(refusal) => first_edition(record::refused_with_words(
+            refusal.reason,
             refusal.place,
         )),
-        Verdict::Accepted => {
+        Ok(()) => {
             let retired = tail.retired;
             let whole = Contents {
                 list,
@@ -230,7 +230,7 @@ fn second_edition(bytes: &[u8], body: WithWords) -> StoredRead
                 begin: contents.begin,
                 end: contents.end,
                 next: tail.next,
-                verdict: Verdict::Accepted,
+                verdict: Ok(()),
             };
             StoredRead {
                 body: WithWords {

@@ -10,13 +10,10 @@ use Prim.Native.Nat.{ℕ, ◌-◌, ◌^◌, ◌≤◌, ◌<◌}
 use native.Mathlib.Omega.{arith}
 use borrow.Author.Tests.{eqb-false}
 use lib.Dec.{eqb}
+use Rattle.std.specs.Prelude.{Ok}
 use Rattle.numbers.proofs.Bools.{false_of}
-use Rattle.answer.specs.Refusals.{full_machine, numbers_spent}
-use Rattle.answer.specs.Outcome.{outcome, delivered}
-use Rattle.answer.specs.declared.Verdict.{Verdict}
-use Rattle.answer.specs.declared.Verdict.TheVariants.{Accepted}
-use Rattle.answer.specs.declared.Written.{Written}
-use Rattle.answer.specs.declared.Written.TheVariants.{Length}
+use Rattle.answer.specs.declared.Reason.TheVariants.{FullMachine, NumbersSpent}
+use Rattle.answer.specs.Outcome.{outcome, delivered, Numbered, Verdict}
 use Rattle.answer.proofs.Outcomes.{refuse_accepted}
 use Rattle.answer.proofs.Deliveries.{given}
 use Rattle.codec.specs.declared.Field.TheVariants.{Count}
@@ -162,13 +159,13 @@ module _ (bytes : List ℕ) (small : Bytes bytes) where
   -- ---- what a change writes
 
   -- nothing that did not refuse a change then refuses it now, and it gives the same design
-  change_now : (change : FormerChange) (d : Design) → DesignRules d → d.parts.mark ≤ top former_field → former_change_refusal change d ≡ Accepted
-      → (change_refusal (as_now change) d ≡ Accepted) × (changed (as_now change) d ≡ former_changed change d)
+  change_now : (change : FormerChange) (d : Design) → DesignRules d → d.parts.mark ≤ top former_field → former_change_refusal change d ≡ Ok tt
+      → (change_refusal (as_now change) d ≡ Ok tt) × (changed (as_now change) d ≡ former_changed change d)
   change_now (take_out position) d rules low accepted = (accepted, refl)
   change_now (add_set set) d rules low accepted = (accepted, refl)
   change_now add_part d rules low accepted =
-      let s = refuse_accepted (eqb d.parts.count most_parts) full_machine 0 _ accepted in
-      let t = refuse_accepted (eqb d.parts.mark (top former_field)) numbers_spent 0 Accepted s.1 in
+      let s = refuse_accepted (eqb d.parts.count most_parts) FullMachine 0 _ accepted in
+      let t = refuse_accepted (eqb d.parts.mark (top former_field)) NumbersSpent 0 (Ok tt) s.1 in
       let few : d.parts.count < most_parts = omega (arith, eqb-false d.parts.count most_parts s.0, rules.parts.rules.few) in
       let under : d.parts.mark < top_number = omega (arith, eqb-false d.parts.mark (top former_field) t.0) in (
         (add_part_exactly d rules).1 (few, under),
@@ -184,19 +181,19 @@ module _ (bytes : List ℕ) (small : Bytes bytes) where
   change_first (add_set set) d = (unconverted_refusal (as_now (add_set set)) (first d) refl, refl)
 
   -- what a change wrote then, it writes now, and answers and leaves the buffer as it did
-  pub change_as_before : (change : FormerChange) (buffer : List ℕ) (n : ℕ) → (former_changed_record change bytes buffer).answer ≡ Length n
+  pub change_as_before : (change : FormerChange) (buffer : List ℕ) (n : ℕ) → (former_changed_record change bytes buffer).answer ≡ Ok n
       → changed_record (as_now change) bytes buffer ≡ former_changed_record change bytes buffer
   unfolding former_changed_record changed_record
   change_as_before change buffer n = cases (former_record bytes) refl
     where
-      cases : (read : Read DesignAt) → former_record bytes ≡ read → (former_changed_read change read buffer).answer ≡ Length n
+      cases : (read : Read DesignAt) → former_record bytes ≡ read → (former_changed_read change read buffer).answer ≡ Ok n
           → changed_read (as_now change) (whole_stored bytes) buffer ≡ former_changed_read change read buffer
       cases (refused r) here e = let z : ◌≡◌ {A = ℕ} 0 1 = cc in absurd (omega arith)
       cases (found at next) here e =
           let d : Design = at.design in
           let before = read_as_before at next here in
           let left = (former_changed_read change (found at next) buffer).buffer in
-          let g = given (former_change_refusal change d) (record_bytes (former_changed change d)) buffer left n (ap (λ (w : Written). outcome w left) (sym e)) in
+          let g = given (former_change_refusal change d) (record_bytes (former_changed change d)) buffer left n (ap (λ (w : Numbered). outcome w left) (sym e)) in
           let same = change_now change d (stored_written bytes (first d) next small before.edition).0 (only_marked at next here) g.accepted in
           let one = change_first change d in
           ap (λ (r : Read Stored). changed_read (as_now change) r buffer) before.edition

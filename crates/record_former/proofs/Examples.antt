@@ -4,8 +4,9 @@ use mathlib.Core.Path.{◌≡◌, refl}
 use mathlib.Core.List.{List, [], ◌∷◌, ◌++◌}
 use Prim.Native.Nat.{ℕ, ◌-◌, ◌^◌}
 use lib.ListN.{replicate}
+use Rattle.std.specs.Prelude.{Err}
+use Rattle.answer.specs.declared.Reason.TheVariants.{NumbersSpent, WrongNumber}
 use Rattle.answer.specs.Outcome.{at}
-use Rattle.answer.specs.declared.Written.TheVariants as written
 use Rattle.codec.specs.Fields.{groups, top}
 use Rattle.codec.specs.Reading.{number_in, number_at}
 use Rattle.codec.specs.Reads.{found, refused}
@@ -30,16 +31,16 @@ last_read : former_record last ≡ found (design_at (list_of (2 ^ 32 - 1) (1 ∷
 unfolding former_record former_record_at former_head_at former_parts_at fields_at field_at misplaced holds number_at number_in
 last_read = refl
 
-higher : former_record (1 ∷ replicate 4 128 ++ (16 ∷ 1 ∷ 1 ∷ 1 ∷ [])) ≡ refused (at 22 1)
+higher : former_record (1 ∷ replicate 4 128 ++ (16 ∷ 1 ∷ 1 ∷ 1 ∷ [])) ≡ refused (at WrongNumber 1)
 unfolding former_record former_record_at former_head_at former_parts_at fields_at field_at misplaced holds number_at number_in
 higher = refl
 
 -- the fifth byte of a mark was its last, and with bit 7 set 22 where the input ends
-five_carried : former_record (1 ∷ replicate 5 255) ≡ refused (at 22 1)
+five_carried : former_record (1 ∷ replicate 5 255) ≡ refused (at WrongNumber 1)
 unfolding former_record former_record_at former_head_at former_parts_at fields_at field_at misplaced holds number_at number_in
 five_carried = refl
 
 -- 20
-spent : (former_changed_record add_part last []).answer ≡ written.Refused (at 20 0)
+spent : (former_changed_record add_part last []).answer ≡ Err (at NumbersSpent 0)
 unfolding former_changed_record former_record former_record_at former_head_at former_parts_at fields_at field_at misplaced holds number_at number_in
 spent = refl

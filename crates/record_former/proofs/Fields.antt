@@ -8,8 +8,8 @@ use Prim.Native.Nat.{ℕ, ◌≤◌}
 use native.Mathlib.Omega.{arith}
 use borrow.Author.Tests.{ltb-false, le-ltb}
 use lib.Dec.{leb, ltb}
-use Rattle.answer.specs.Refusals.{wrong_part_number}
-use Rattle.answer.specs.declared.Verdict.TheVariants.{Accepted}
+use Rattle.std.specs.Prelude.{Ok}
+use Rattle.answer.specs.declared.Reason.TheVariants.{WrongPartNumber}
 use Rattle.answer.proofs.Outcomes.{refuse_accepted, refuse_passed}
 use Rattle.codec.specs.declared.Field.{Field}
 use Rattle.codec.specs.declared.Field.TheVariants.{Count, PartNumber}
@@ -40,17 +40,17 @@ retopped high other previous mark number e low =
     (under, simp (rises, kept, le-ltb other number under))
 
 -- so for both judges
-passes_now : (mark : ℕ) → mark ≤ top_number → (earlier : List ℕ) (place v : ℕ) → v ≤ top former_field → former_judge mark earlier place v ≡ Accepted
-    → (v ≤ top PartNumber) × (part_number_judge mark earlier place v ≡ Accepted)
+passes_now : (mark : ℕ) → mark ≤ top_number → (earlier : List ℕ) (place v : ℕ) → v ≤ top former_field → former_judge mark earlier place v ≡ Ok tt
+    → (v ≤ top PartNumber) × (part_number_judge mark earlier place v ≡ Ok tt)
 passes_now mark low earlier place v allowed e =
-    let r = retopped (top former_field) top_number (last_number 0 earlier) mark v (refuse_accepted _ wrong_part_number place Accepted e).0 low in
-    (r.0, refuse_passed _ wrong_part_number place Accepted r.1)
+    let r = retopped (top former_field) top_number (last_number 0 earlier) mark v (refuse_accepted _ WrongPartNumber place (Ok tt) e).0 low in
+    (r.0, refuse_passed _ WrongPartNumber place (Ok tt) r.1)
 
-passed_then : (mark : ℕ) → mark ≤ top former_field → (earlier : List ℕ) (place v : ℕ) → v ≤ top PartNumber → part_number_judge mark earlier place v ≡ Accepted
-    → (v ≤ top former_field) × (former_judge mark earlier place v ≡ Accepted)
+passed_then : (mark : ℕ) → mark ≤ top former_field → (earlier : List ℕ) (place v : ℕ) → v ≤ top PartNumber → part_number_judge mark earlier place v ≡ Ok tt
+    → (v ≤ top former_field) × (former_judge mark earlier place v ≡ Ok tt)
 passed_then mark low earlier place v allowed e =
-    let r = retopped top_number (top former_field) (last_number 0 earlier) mark v (refuse_accepted _ wrong_part_number place Accepted e).0 low in
-    (r.0, refuse_passed _ wrong_part_number place Accepted r.1)
+    let r = retopped top_number (top former_field) (last_number 0 earlier) mark v (refuse_accepted _ WrongPartNumber place (Ok tt) e).0 low in
+    (r.0, refuse_passed _ WrongPartNumber place (Ok tt) r.1)
 
 -- ---- a part list
 
@@ -73,7 +73,7 @@ module _ (bytes : List ℕ) (small : Bytes bytes) where
       subst (λ (list : PartList). list.mark ≤ top field) made (field_found bytes a.1 field mark_refusal b.0 b.1 small b.2).allowed
 
   parts_other : (field other : Field) (judge also : ℕ → Judge)
-      → ((mark : ℕ) → mark ≤ top other → (earlier : List ℕ) (place v : ℕ) → v ≤ top field → judge mark earlier place v ≡ Accepted → (v ≤ top other) × (also mark earlier place v ≡ Accepted))
+      → ((mark : ℕ) → mark ≤ top other → (earlier : List ℕ) (place v : ℕ) → v ≤ top field → judge mark earlier place v ≡ Ok tt → (v ≤ top other) × (also mark earlier place v ≡ Ok tt))
       → (start : ℕ) (parts : PartList) (next : ℕ) → parts.mark ≤ top other → parts_by field judge bytes start ≡ found parts next → parts_by other also bytes start ≡ found parts next
   parts_other field other judge also passes start parts next low e =
       let a = then_found (field_at bytes start Count (parts_refusal start)) _ parts next e in

@@ -1,11 +1,8 @@
 -- Design records as they were read and changed while part numbers reached 2^32-1 (01, "Records on disk", before 02, §7 and §8), in the one edition
 -- that there was. Kept for one claim: "Records accepted until now read as before".
-use Rattle.std.specs.Prelude.{true, cond, List, [], ◌≡◌, ℕ, leb, ltb, eqb}
-use Rattle.answer.specs.Refusals.{full_machine, numbers_spent, wrong_part_number}
-use Rattle.answer.specs.Outcome.{Outcome, refuse, delivered}
-use Rattle.answer.specs.declared.Verdict.{Verdict}
-use Rattle.answer.specs.declared.Verdict.TheVariants as verdict
-use Rattle.answer.specs.declared.Written.{Written}
+use Rattle.std.specs.Prelude.{true, cond, List, [], ◌≡◌, ℕ, leb, ltb, eqb, Ok, Err}
+use Rattle.answer.specs.declared.Reason.TheVariants.{FullMachine, NumbersSpent, WrongPartNumber}
+use Rattle.answer.specs.Outcome.{Outcome, refuse, delivered, Numbered, Verdict}
 use Rattle.codec.specs.declared.Field.{Field}
 use Rattle.codec.specs.declared.Field.TheVariants.{Count}
 use Rattle.codec.specs.Fields.{top}
@@ -35,7 +32,7 @@ former_field = Count
 -- 23: a part number not above the one before it (0 before the first), or above the mark or the top number
 abbrev pub former_judge : ℕ → Judge
 former_judge mark earlier place number =
-    refuse (cond (leb number (last_number 0 earlier)) true (cond (ltb mark number) true (ltb (top former_field) number))) wrong_part_number place verdict.Accepted
+    refuse (cond (leb number (last_number 0 earlier)) true (cond (ltb mark number) true (ltb (top former_field) number))) WrongPartNumber place (Ok tt)
 
 -- n, the mark and n part numbers
 unfoldable pub former_parts_at : List ℕ → ℕ → Read PartList
@@ -80,7 +77,7 @@ pub record ReadAsBefore (bytes : List ℕ) (here : DesignAt) (next : ℕ) : Type
   -- the words of the structure, and its table for a lent buffer
   pub words : whole_with_words bytes ≡ with_words_of (found here next)
   pub table : (buffer : List ℕ) → delivered (record_refusal bytes) (table_of (design_in bytes).parts.count (listed (design_in bytes).sets)) buffer
-      ≡ delivered verdict.Accepted (table_of here.design.parts.count (listed here.design.sets)) buffer
+      ≡ delivered (Ok tt) (table_of here.design.parts.count (listed here.design.sets)) buffer
   -- and the bytes are what is written of the design
   pub written : record_bytes here.design ≡ bytes
 
@@ -101,7 +98,7 @@ as_now (add_set set) = changes.add_set set
 -- 19 before 20, which was a mark of 2^32-1
 abbrev pub former_change_refusal : FormerChange → Design → Verdict
 former_change_refusal add_part d =
-    refuse (eqb d.parts.count most_parts) full_machine 0 (refuse (eqb d.parts.mark (top former_field)) numbers_spent 0 verdict.Accepted)
+    refuse (eqb d.parts.count most_parts) FullMachine 0 (refuse (eqb d.parts.mark (top former_field)) NumbersSpent 0 (Ok tt))
 former_change_refusal (take_out position) d = change_refusal (changes.take_out position) d
 former_change_refusal (add_set set) d = change_refusal (changes.add_set set) d
 
@@ -112,10 +109,10 @@ former_changed (take_out position) d = changed (changes.take_out position) d
 former_changed (add_set set) d = changed (changes.add_set set) d
 
 -- a change of record bytes, for a lent buffer: the reader's refusal, or the change's, or the new record's bytes or 11
-abbrev pub former_changed_read : FormerChange → Read DesignAt → List ℕ → Outcome Written (List ℕ)
-former_changed_read change (refused r) buffer = delivered (verdict.Refused r) [] buffer
+abbrev pub former_changed_read : FormerChange → Read DesignAt → List ℕ → Outcome Numbered (List ℕ)
+former_changed_read change (refused r) buffer = delivered (Err r) [] buffer
 former_changed_read change (found here next) buffer =
     delivered (former_change_refusal change here.design) (record_bytes (former_changed change here.design)) buffer
 
-unfoldable pub former_changed_record : FormerChange → List ℕ → List ℕ → Outcome Written (List ℕ)
+unfoldable pub former_changed_record : FormerChange → List ℕ → List ℕ → Outcome Numbered (List ℕ)
 former_changed_record change bytes buffer = former_changed_read change (former_record bytes) buffer

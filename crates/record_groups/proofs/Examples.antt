@@ -5,8 +5,9 @@ use mathlib.Core.List.{List, [], ◌∷◌, map}
 use Prim.Native.Nat.{ℕ}
 use lib.Count.{ones, ones_in}
 use lib.ListN.{replicate}
+use Rattle.std.specs.Prelude.{Ok, Err}
+use Rattle.answer.specs.declared.Reason.TheVariants.{ShortBuffer, UnknownPosition, InEverySet}
 use Rattle.answer.specs.Outcome.{at}
-use Rattle.answer.specs.declared.Verdict.TheVariants.{Accepted, Refused}
 use Rattle.codec.specs.Reading.{number_in, number_at}
 use Rattle.codec.specs.ByteForm.{grouped, bytes_of, forms_of}
 use Rattle.codec.specs.FieldReads.{field_at, fields_at}
@@ -53,7 +54,7 @@ singly order bytes room = series (map (λ number. record { number = number; buff
 -- parts 3 and 5 of the bridge leave together, or 3 first and then 5, which is at position 4 then, or 5 first
 left :
     together 20 bridge 12 ∷ singly (3 ∷ 5 ∷ []) bridge 12 ∷ singly (5 ∷ 3 ∷ []) bridge 12 ∷ []
-    ≡ replicate 3 (record { verdict = Accepted; bytes = 3 ∷ 5 ∷ 1 ∷ 2 ∷ 4 ∷ 1 ∷ 5 ∷ [] })
+    ≡ replicate 3 (record { verdict = (Ok tt); bytes = 3 ∷ 5 ∷ 1 ∷ 2 ∷ 4 ∷ 1 ∷ 5 ∷ [] })
 unfolding position_from changed_record changed_stored whole_stored whole_record only_record only_stored stored_at second_there record_at head_at parts_at fields_at field_at misplaced has holds number_at number_in stored_bytes record_bytes head_bytes parts_bytes forms_of bytes_of grouped part_list_refusal others meets squeezed sets_without
 left = refl
 
@@ -61,7 +62,7 @@ left = refl
 -- the machine that is left.
 left_second :
     together 20 second_bridge 22 ∷ singly (3 ∷ 5 ∷ []) second_bridge 22 ∷ singly (5 ∷ 3 ∷ []) second_bridge 22 ∷ []
-    ≡ replicate 3 (record { verdict = Accepted; bytes = 0 ∷ 2 ∷ 3 ∷ 6 ∷ 1 ∷ 2 ∷ 4 ∷ 1 ∷ 5 ∷ 3 ∷ 3 ∷ 5 ∷ 6 ∷ 0 ∷ 0 ∷ 1 ∷ 1 ∷ [] })
+    ≡ replicate 3 (record { verdict = (Ok tt); bytes = 0 ∷ 2 ∷ 3 ∷ 6 ∷ 1 ∷ 2 ∷ 4 ∷ 1 ∷ 5 ∷ 3 ∷ 3 ∷ 5 ∷ 6 ∷ 0 ∷ 0 ∷ 1 ∷ 1 ∷ [] })
 unfolding position_from changed_record changed_stored whole_stored whole_record only_record only_stored stored_at second_there record_at head_at parts_at fields_at field_at misplaced has holds number_at number_in stored_bytes record_bytes head_bytes parts_bytes forms_of bytes_of grouped part_list_refusal others meets squeezed sets_without tail_at retired_at tail_bytes fresh_counts path_count tabulate sum_below listed some ones ones_in named inserted kept filed_all
 left_second = refl
 
@@ -69,22 +70,22 @@ left_second = refl
 -- part 2 part 1 is. The record stays as it was at the start.
 refused :
     together 3 three 8 ∷ singly (1 ∷ 2 ∷ []) three 8 ∷ singly (2 ∷ 1 ∷ []) three 8 ∷ []
-    ≡ replicate 3 (record { verdict = Refused (at 18 0); bytes = three })
+    ≡ replicate 3 (record { verdict = Err (at InEverySet 0); bytes = three })
 unfolding position_from changed_record changed_stored whole_stored whole_record only_record only_stored stored_at second_there record_at head_at parts_at fields_at field_at misplaced has holds number_at number_in stored_bytes record_bytes head_bytes parts_bytes forms_of bytes_of grouped part_list_refusal others meets squeezed sets_without
 refused = refl
 
-part_two_alone : singly (2 ∷ []) three 8 ≡ record { verdict = Accepted; bytes = 2 ∷ 3 ∷ 1 ∷ 3 ∷ 1 ∷ 3 ∷ [] }
+part_two_alone : singly (2 ∷ []) three 8 ≡ record { verdict = (Ok tt); bytes = 2 ∷ 3 ∷ 1 ∷ 3 ∷ 1 ∷ 3 ∷ [] }
 unfolding position_from changed_record changed_stored whole_stored whole_record only_record only_stored stored_at second_there record_at head_at parts_at fields_at field_at misplaced has holds number_at number_in stored_bytes record_bytes head_bytes parts_bytes forms_of bytes_of grouped part_list_refusal others meets squeezed sets_without
 part_two_alone = refl
 
 -- a number that no part has is 17
-part_nine : singly (9 ∷ []) three 8 ≡ record { verdict = Refused (at 17 0); bytes = three }
+part_nine : singly (9 ∷ []) three 8 ≡ record { verdict = Err (at UnknownPosition 0); bytes = three }
 unfolding position_from changed_record changed_stored whole_stored whole_record only_record only_stored stored_at second_there record_at head_at parts_at fields_at field_at misplaced has holds number_at number_in stored_bytes record_bytes head_bytes parts_bytes forms_of bytes_of grouped part_list_refusal others meets squeezed sets_without
 part_nine = refl
 
 -- A short buffer is another matter: the bridge without part 5 takes nine bytes on the way to seven.
 short :
     (together 20 bridge 7).verdict ∷ (singly (5 ∷ 3 ∷ []) bridge 7).verdict ∷ []
-    ≡ Accepted ∷ Refused (at 11 9) ∷ []
+    ≡ Ok tt ∷ Err (at ShortBuffer 9) ∷ []
 unfolding position_from changed_record changed_stored whole_stored whole_record only_record only_stored stored_at second_there record_at head_at parts_at fields_at field_at misplaced has holds number_at number_in stored_bytes record_bytes head_bytes parts_bytes forms_of bytes_of grouped part_list_refusal others meets squeezed sets_without
 short = refl

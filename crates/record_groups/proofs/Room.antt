@@ -9,10 +9,11 @@ use native.Mathlib.Nat.{le_trans}
 use native.Mathlib.Omega.{arith}
 use lib.Dec.{eqb, ltb, leb}
 use lib.ListN.{length}
-use Rattle.answer.specs.Refusals.{short_buffer, empty_group, unknown_group_part, unknown_position, in_every_set}
-use Rattle.answer.specs.Outcome.{at, refuse}
-use Rattle.answer.specs.declared.Verdict.{Verdict}
-use Rattle.answer.specs.declared.Verdict.TheVariants.{Accepted, Refused}
+use Rattle.std.specs.Prelude.{Ok, Err}
+use Rattle.answer.specs.Refusals.{number_of}
+use Rattle.answer.specs.declared.Reason.{Reason}
+use Rattle.answer.specs.declared.Reason.TheVariants.{ShortBuffer, EmptyGroup, UnknownGroupPart, UnknownPosition, InEverySet}
+use Rattle.answer.specs.Outcome.{at, refuse, Verdict}
 use Rattle.codec.specs.Bytes.{Bytes}
 use Rattle.masks.specs.Groups.{meets}
 use Rattle.codec.specs.Reads.{found}
@@ -32,33 +33,33 @@ use Rattle.record_groups.proofs.Shorter.{taken_out_shorter}
 
 -- a verdict is not 11
 abbrev Other : Verdict → Type 0
-Other v = (needed : ℕ) → v ≡ Refused (at short_buffer needed) → ⊥
+Other v = (needed : ℕ) → v ≡ Err (at ShortBuffer needed) → ⊥
 
 -- the number of a refusal
 abbrev number_in : Verdict → ℕ
-number_in (Refused refusal) = refusal.number
-number_in Accepted = 0
+number_in (Err refusal) = number_of refusal.reason
+number_in (Ok _) = 0
 
-other_accepted : Other Accepted
+other_accepted : Other (Ok tt)
 other_accepted needed e = absurd (omega (arith, ap number_in e))
 
-other_refused : (test : Bool) (number place : ℕ) (later : Verdict) → (number ≡ short_buffer → ⊥) → Other later → Other (refuse test number place later)
-other_refused true number place later other rest needed e = other (ap number_in e)
-other_refused false number place later other rest needed e = rest needed e
+other_refused : (test : Bool) (reason : Reason) (place : ℕ) (later : Verdict) → (number_of reason ≡ 11 → ⊥) → Other later → Other (refuse test reason place later)
+other_refused true reason place later other rest needed e = other (ap number_in e)
+other_refused false reason place later other rest needed e = rest needed e
 
 -- what refuses a take-out by itself is not 11
 without_other : (group : ℕ) (d : Design) → Other (without_refusal group d)
-without_other group d = other_refused (every (meets group) d.sets) in_every_set 0 Accepted (λ e. omega arith) other_accepted
+without_other group d = other_refused (every (meets group) d.sets) InEverySet 0 (Ok tt) (λ e. omega arith) other_accepted
 
 position_other : (position : ℕ) (d : Design) → Other (take_out_refusal position d)
 position_other position d =
-    other_refused (eqb position 0) unknown_position 0 _ (λ e. omega arith)
-    (other_refused (ltb d.parts.count position) unknown_position 0 _ (λ e. omega arith) (without_other (single position) d))
+    other_refused (eqb position 0) UnknownPosition 0 _ (λ e. omega arith)
+    (other_refused (ltb d.parts.count position) UnknownPosition 0 _ (λ e. omega arith) (without_other (single position) d))
 
 group_other : (group : ℕ) (d : Design) → Other (take_out_group_refusal group d)
 group_other group d =
-    other_refused (eqb group 0) empty_group 0 _ (λ e. omega arith)
-    (other_refused (leb (2 ^ d.parts.count) group) unknown_group_part 0 _ (λ e. omega arith) (without_other group d))
+    other_refused (eqb group 0) EmptyGroup 0 _ (λ e. omega arith)
+    (other_refused (leb (2 ^ d.parts.count) group) UnknownGroupPart 0 _ (λ e. omega arith) (without_other group d))
 
 -- nor of a record, since 32 is not asked of a take-out
 stored_position_other : (position : ℕ) (s : Stored) → Other (stored_refusal (take_out position) s)
@@ -78,8 +79,8 @@ call_not_short : (call : Call) (bytes : List ℕ) (s : Stored) (next : ℕ) → 
 call_not_short call bytes s next read other room = cases (stored_refusal call.change s) refl
   where
     cases : (v : Verdict) → stored_refusal call.change s ≡ v → NotShort (result_of call bytes)
-    cases Accepted e needed short = other_accepted needed (sym (ap (λ (r : Result). r.verdict) (call_made call bytes s next read e room)) ∙ short)
-    cases (Refused why) e needed short = other needed (e ∙ sym (ap (λ (r : Result). r.verdict) (call_refused call bytes s next read why e)) ∙ short)
+    cases (Ok _) e needed short = other_accepted needed (sym (ap (λ (r : Result). r.verdict) (call_made call bytes s next read e room)) ∙ short)
+    cases (Err why) e needed short = other needed (e ∙ sym (ap (λ (r : Result). r.verdict) (call_refused call bytes s next read why e)) ∙ short)
 
 -- one part after the other
 series_room : (parts : List Leaving) (began bytes : List ℕ) (s : Stored) (next : ℕ) → whole_stored bytes ≡ found s next → StoredRules s → stored_bytes s ≡ bytes
@@ -102,11 +103,11 @@ series_room (part ∷ parts) began bytes s next read r written room =
     enough : length (stored_bytes new) ≤ length part.buffer
     enough = le_trans shorter (room part (Memᴰ.head refl))
 
-    cases : (v : Verdict) → stored_refusal call.change s ≡ v → (stored_refusal call.change s ≡ Accepted → NotShort (series_from began parts (stored_bytes new)))
+    cases : (v : Verdict) → stored_refusal call.change s ≡ v → (stored_refusal call.change s ≡ Ok tt → NotShort (series_from began parts (stored_bytes new)))
         → NotShort (series_from began (part ∷ parts) bytes)
-    cases Accepted e later needed short =
+    cases (Ok _) e later needed short =
         later e needed (sym (ap (λ (r : Result). (ending r.verdict began (series_from began parts r.bytes)).verdict) (call_made call bytes s next read e enough)) ∙ short)
-    cases (Refused why) e later needed short =
+    cases (Err why) e later needed short =
         stored_position_other (position_in (whole_record bytes) part.number) s needed
         (e ∙ sym (ap (λ (r : Result). (ending r.verdict began (series_from began parts r.bytes)).verdict) (call_refused call bytes s next read why e)) ∙ short)
 

@@ -10,13 +10,11 @@ use Prim.Native.Nat.{ℕ, suc, ◌-◌, ◌^◌, ◌≤◌, ◌<◌}
 use native.Mathlib.Omega.{arith}
 use lib.ListN.{length, drop}
 use lib.Seq.{take-append_seam}
-use Rattle.answer.specs.Refusals.{in_every_set, short_buffer}
-use Rattle.answer.specs.Outcome.{at, Outcome, delivered}
+use Rattle.std.specs.Prelude.{Ok, Err}
+use Rattle.answer.specs.declared.Reason.TheVariants.{ShortBuffer, InEverySet}
+use Rattle.answer.specs.Outcome.{at, Outcome, delivered, Numbered, Verdict}
 use Rattle.answer.specs.Checks.{group_refusal}
 use Rattle.answer.specs.declared.Refusal.{Refusal}
-use Rattle.answer.specs.declared.Verdict.{Verdict}
-use Rattle.answer.specs.declared.Verdict.TheVariants.{Accepted, Refused}
-use Rattle.answer.specs.declared.Written.{Written}
 use Rattle.answer.proofs.Outcomes.{refuse_held, refuse_passed}
 use Rattle.answer.proofs.Checks.{group_right, group_passed}
 use Rattle.answer.proofs.Deliveries.{refused_kept, delivered_short, delivered_whole}
@@ -67,23 +65,23 @@ module _ (call : Call) (bytes : List ℕ) (s : Stored) (next : ℕ) (read : whol
   call_outcome = ap (λ (r : Read Stored). changed_read call.change r call.buffer) read
 
   -- what an outcome comes to
-  abbrev told : Outcome Written (List ℕ) → Result
+  abbrev told : Outcome Numbered (List ℕ) → Result
   told o = record { verdict = verdict_of o.answer; bytes = record_after o.answer o.buffer bytes }
 
-  pub call_refused : (why : Refusal) → stored_refusal call.change s ≡ Refused why → result_of call bytes ≡ record { verdict = Refused why; bytes = bytes }
+  pub call_refused : (why : Refusal) → stored_refusal call.change s ≡ Err why → result_of call bytes ≡ record { verdict = Err why; bytes = bytes }
   call_refused why e = ap told (call_outcome ∙ sym (refused_kept (stored_refusal call.change s) result call.buffer why e))
 
-  module _ (e : stored_refusal call.change s ≡ Accepted) where
-    pub call_made : length result ≤ length call.buffer → result_of call bytes ≡ record { verdict = Accepted; bytes = result }
+  module _ (e : stored_refusal call.change s ≡ Ok tt) where
+    pub call_made : length result ≤ length call.buffer → result_of call bytes ≡ record { verdict = (Ok tt); bytes = result }
     call_made room =
         ap told (call_outcome ∙ sym (delivered_whole (stored_refusal call.change s) result call.buffer e (length result) refl _ refl room))
-        ∙ ap (λ (l : List ℕ). record { verdict = Accepted; bytes = l }) (take-append_seam result (drop (length result) call.buffer))
+        ∙ ap (λ (l : List ℕ). record { verdict = (Ok tt); bytes = l }) (take-append_seam result (drop (length result) call.buffer))
 
-    call_short : length call.buffer < length result → result_of call bytes ≡ record { verdict = Refused (at short_buffer (length result)); bytes = bytes }
+    call_short : length call.buffer < length result → result_of call bytes ≡ record { verdict = Err (at ShortBuffer (length result)); bytes = bytes }
     call_short short = ap told (call_outcome ∙ sym (delivered_short (stored_refusal call.change s) result call.buffer e (length result) refl short))
 
     -- what is not too short has room
-    call_fits : NotShort (result_of call bytes) → result_of call bytes ≡ record { verdict = Accepted; bytes = result }
+    call_fits : NotShort (result_of call bytes) → result_of call bytes ≡ record { verdict = (Ok tt); bytes = result }
     call_fits fits =
         ⊎_elim (λ short. absurd (fits (length result) (ap (λ (r : Result). r.verdict) (call_short short)))) call_made
         (below_or_above (length call.buffer) (length result))
@@ -92,10 +90,10 @@ module _ (call : Call) (bytes : List ℕ) (s : Stored) (next : ℕ) (read : whol
 
 -- 18, with the record that was there at first
 abbrev stopped : List ℕ → Result
-stopped began = record { verdict = Refused (at in_every_set 0); bytes = began }
+stopped began = record { verdict = Err (at InEverySet 0); bytes = began }
 
 abbrev left_with : Stored → Result
-left_with s = record { verdict = Accepted; bytes = stored_bytes s }
+left_with s = record { verdict = (Ok tt); bytes = stored_bytes s }
 
 -- the record of a design that is left, in the edition that was read: in edition 2 the numbers that left are filed
 abbrev filed_with : Stored → Design → List ℕ → Stored
@@ -180,7 +178,7 @@ module _ (part : Leaving) (bytes : List ℕ) (s : Stored) (f : Leads part bytes 
       record {
         refused = λ named.
             ap (λ (x : Result). ending x.verdict began (series_from began parts (after (call_for part bytes) bytes)))
-            (call_refused (call_for part bytes) bytes s f.next f.read (at in_every_set 0) (judged ∙ refuse_held all in_every_set 0 Accepted h));
+            (call_refused (call_for part bytes) bytes s f.next f.read (at InEverySet 0) (judged ∙ refuse_held all InEverySet 0 (Ok tt) h));
         left = λ some. clash (every_more (leaving parts) h) some;
       }
 
@@ -189,8 +187,8 @@ module _ (part : Leaving) (bytes : List ℕ) (s : Stored) (f : Leads part bytes 
     abbrev middle : Stored
     middle = changed_stored (take_out position) s
 
-    accepted : stored_refusal (take_out position) s ≡ Accepted
-    accepted = judged ∙ refuse_passed all in_every_set 0 Accepted some
+    accepted : stored_refusal (take_out position) s ≡ Ok tt
+    accepted = judged ∙ refuse_passed all InEverySet 0 (Ok tt) some
 
     one_without : Without (part.number ∷ []) d (design_of middle)
     one_without =
@@ -252,7 +250,7 @@ series_comes [] began bytes s next read r written apart in_use fits =
     let rules = rules_design s r in
     record {
       refused = λ all. clash all (none_named (named (numbers_of d.parts)) d.sets rules.sets.some);
-      left = λ some. (d, without_none d rules, ap (λ (l : List ℕ). record { verdict = Accepted; bytes = l }) (sym written) ∙ ap left_with (sym (filed_none s)));
+      left = λ some. (d, without_none d rules, ap (λ (l : List ℕ). record { verdict = (Ok tt); bytes = l }) (sym written) ∙ ap left_with (sym (filed_none s)));
     }
 series_comes (part ∷ parts) began bytes s next read r written apart in_use fits =
     cases (every (meets (group_of part bytes)) (design_of s).sets) refl (λ some.
@@ -278,7 +276,7 @@ series_comes (part ∷ parts) began bytes s next read r written apart in_use fit
 
 module _ (bytes : List ℕ) (s : Stored) (next : ℕ) (small : Bytes bytes) (read : whole_stored bytes ≡ found s next) where
   -- a record as it is stored
-  stored_order : (group : ℕ) → group_refusal (design_of s).parts.count group Accepted ≡ Accepted → (buffer : List ℕ)
+  stored_order : (group : ℕ) → group_refusal (design_of s).parts.count group (Ok tt) ≡ Ok tt → (buffer : List ℕ)
       → (parts : List Leaving) → Reordered (leaving parts) (named (numbers_of (design_of s).parts) group)
       → NotShort (result_of (record { change = take_out_group group; buffer = buffer }) bytes) → NotShort (series parts bytes)
       → result_of (record { change = take_out_group group; buffer = buffer }) bytes ≡ series parts bytes
@@ -323,17 +321,17 @@ module _ (bytes : List ℕ) (s : Stored) (next : ℕ) (small : Bytes bytes) (rea
 
       judged : stored_refusal (take_out_group group) s ≡ without_refusal group d
       judged =
-          let g = group_right d.parts.count group Accepted right in
+          let g = group_right d.parts.count group (Ok tt) right in
           unconverted_refusal (take_out_group group) s refl ∙ group_passed d.parts.count group (without_refusal group d) g.0 g.1
 
       cases : (p : Bool) → every (meets group) d.sets ≡ p → result_of call bytes ≡ series parts bytes
       cases true e =
-          call_refused call bytes s next read (at in_every_set 0) (judged ∙ refuse_held (every (meets group) d.sets) in_every_set 0 Accepted e)
+          call_refused call bytes s next read (at InEverySet 0) (judged ∙ refuse_held (every (meets group) d.sets) InEverySet 0 (Ok tt) e)
           ∙ sym (comes.refused (each ∙ e))
       cases false e =
           let rest = comes.left (each ∙ e) in
           let left : design_without group d ≡ rest.0 = without_once (without_group group d rules e) (without_order (leaving parts) gone same rest.1) in
-          call_fits call bytes s next read (judged ∙ refuse_passed (every (meets group) d.sets) in_every_set 0 Accepted e) fits
+          call_fits call bytes s next read (judged ∙ refuse_passed (every (meets group) d.sets) InEverySet 0 (Ok tt) e) fits
           ∙ ap₂ (λ (new : Design) (retired : List ℕ). left_with (in_edition (edition_of s) new retired)) left filed_same
           ∙ sym rest.2
 
@@ -341,7 +339,7 @@ module _ (bytes : List ℕ) (s : Stored) (next : ℕ) (small : Bytes bytes) (rea
 -- numbers, where neither is refused for a buffer that is too short: the same refusal and the record as it was, or the same record, its retired
 -- numbers included.
 pub any_order : (bytes : List ℕ) (d : Design) (next : ℕ) → Bytes bytes → whole_record bytes ≡ found d next
-    → (group : ℕ) → group_refusal d.parts.count group Accepted ≡ Accepted → (buffer : List ℕ)
+    → (group : ℕ) → group_refusal d.parts.count group (Ok tt) ≡ Ok tt → (buffer : List ℕ)
     → (parts : List Leaving) → Reordered (leaving parts) (named (numbers_of d.parts) group)
     → NotShort (result_of (record { change = take_out_group group; buffer = buffer }) bytes) → NotShort (series parts bytes)
     → result_of (record { change = take_out_group group; buffer = buffer }) bytes ≡ series parts bytes
@@ -349,5 +347,5 @@ any_order bytes d next small read group right buffer parts order fits all_fit =
     let f = design_found bytes d next read in
     let same = sym f.same in
     stored_order bytes f.stored next small f.read group
-    (subst (λ (x : Design). group_refusal x.parts.count group Accepted ≡ Accepted) same right) buffer parts
+    (subst (λ (x : Design). group_refusal x.parts.count group (Ok tt) ≡ Ok tt) same right) buffer parts
     (subst (λ (x : Design). Reordered (leaving parts) (named (numbers_of x.parts) group)) same order) fits all_fit

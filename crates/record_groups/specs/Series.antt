@@ -1,11 +1,7 @@
 -- Parts taken out of a record of either edition one after the other (02, §2 and §8): "singly in any order, each traced by its part number".
-use Rattle.std.specs.Prelude.{List, [], ◌∷◌, map, ◌≡◌, ℕ}
-use Rattle.answer.specs.Refusals.{short_buffer}
-use Rattle.answer.specs.Outcome.{at}
-use Rattle.answer.specs.declared.Verdict.{Verdict}
-use Rattle.answer.specs.declared.Verdict.TheVariants.{Accepted, Refused}
-use Rattle.answer.specs.declared.Written.{Written}
-use Rattle.answer.specs.declared.Written.TheVariants as written
+use Rattle.std.specs.Prelude.{List, [], ◌∷◌, map, ◌≡◌, ℕ, Ok, Err}
+use Rattle.answer.specs.declared.Reason.TheVariants.{ShortBuffer}
+use Rattle.answer.specs.Outcome.{at, Numbered, Verdict}
 use Rattle.codec.specs.Reads.{Read, found, refused}
 use Rattle.theory_orders.specs.Orders.{times}
 use Rattle.record_parts.specs.PartLists.{numbers_of}
@@ -22,9 +18,9 @@ pub record Result : Type 0 where
   pub verdict : Verdict
   pub bytes : List ℕ
 
-abbrev pub verdict_of : Written → Verdict
-verdict_of (written.Length n) = Accepted
-verdict_of (written.Refused refusal) = Refused refusal
+abbrev pub verdict_of : Numbered → Verdict
+verdict_of (Ok n) = (Ok tt)
+verdict_of (Err refusal) = Err refusal
 
 -- of one call
 abbrev pub result_of : Call → List ℕ → Result
@@ -32,7 +28,7 @@ result_of call bytes = record { verdict = verdict_of (outcome_of call bytes).ans
 
 -- not refused by 11, for a buffer that is too short
 abbrev pub NotShort : Result → Type 0
-NotShort result = (needed : ℕ) → result.verdict ≡ Refused (at short_buffer needed) → ⊥
+NotShort result = (needed : ℕ) → result.verdict ≡ Err (at ShortBuffer needed) → ⊥
 
 -- ---- one part after the other
 
@@ -56,12 +52,12 @@ call_for part bytes = record { change = take_out (position_in (whole_record byte
 
 -- the first refusal ends a series and is its outcome, with the record that it began with
 abbrev pub ending : Verdict → List ℕ → Result → Result
-ending (Refused refusal) began later = record { verdict = Refused refusal; bytes = began }
-ending Accepted began later = later
+ending (Err refusal) began later = record { verdict = Err refusal; bytes = began }
+ending (Ok _) began later = later
 
 -- parts taken out one after the other, in a series that began with the record `began`
 abbrev pub series_from : List ℕ → List Leaving → List ℕ → Result
-series_from began [] bytes = record { verdict = Accepted; bytes = bytes }
+series_from began [] bytes = record { verdict = (Ok tt); bytes = bytes }
 series_from began (part ∷ parts) bytes =
     ending (result_of (call_for part bytes) bytes).verdict began (series_from began parts (after (call_for part bytes) bytes))
 

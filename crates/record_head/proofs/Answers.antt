@@ -4,9 +4,9 @@ use mathlib.Core.Path.{◌≡◌, sym, ap, ap₂, ◌∙◌, subst}
 use mathlib.Core.List.{List}
 use Prim.Native.Nat.{ℕ, ◌≤◌}
 use native.Mathlib.Omega.{arith}
+use Rattle.std.specs.Prelude.{Ok, Err}
+use Rattle.answer.specs.Outcome.{Verdict}
 use Rattle.answer.specs.declared.Refusal.{Refusal}
-use Rattle.answer.specs.declared.Verdict.{Verdict}
-use Rattle.answer.specs.declared.Verdict.TheVariants.{Accepted, Refused}
 use Rattle.record_parts.specs.declared.PartList.{PartList}
 use Rattle.record_head.specs.declared.Parts.{Parts}
 use Rattle.record_head.specs.declared.Heading.{Heading}
@@ -20,29 +20,29 @@ use Rattle.codec.proofs.Found.{then_found}
 use Rattle.record_head.proofs.PartNumbers.{parts_few}
 
 -- an accepting verdict is no refusal
-pub not_both : {A : Type 0} {v : Verdict} {why : Refusal} → v ≡ Accepted → v ≡ Refused why → A
+pub not_both : {A : Type 0} {v : Verdict} {why : Refusal} → v ≡ Ok tt → v ≡ Err why → A
 not_both a b = let z : ◌≡◌ {A = ℕ} 0 1 = cc in absurd (omega arith)
 
 -- a part list
-pub parts_given : (read : Read PartList) (parts : Parts) → parts ≡ parts_of read → parts.verdict ≡ Accepted → read ≡ found parts.list parts.next
+pub parts_given : (read : Read PartList) (parts : Parts) → parts ≡ parts_of read → parts.verdict ≡ Ok tt → read ≡ found parts.list parts.next
 parts_given (found list next) parts e v = ap₂ (λ (l : PartList) (k : ℕ). found l k) (sym (ap (λ (p : Parts). p.list) e)) (sym (ap (λ (p : Parts). p.next) e))
 parts_given (refused why) parts e v = not_both v (ap (λ (p : Parts). p.verdict) e)
 
-pub parts_refused : (read : Read PartList) (parts : Parts) (why : Refusal) → parts ≡ parts_of read → parts.verdict ≡ Refused why → read ≡ refused why
+pub parts_refused : (read : Read PartList) (parts : Parts) (why : Refusal) → parts ≡ parts_of read → parts.verdict ≡ Err why → read ≡ refused why
 parts_refused (found list next) parts why e v = not_both (ap (λ (p : Parts). p.verdict) e) v
-parts_refused (refused r) parts why e v = let same : Refused r ≡ Refused why = sym (ap (λ (p : Parts). p.verdict) e) ∙ v in cc same
+parts_refused (refused r) parts why e v = let same : Err r ≡ Err why = sym (ap (λ (p : Parts). p.verdict) e) ∙ v in cc same
 
 -- what stands before the sets
-pub heading_given : (read : Read Head) (h : Heading) → h ≡ heading_of read → h.verdict ≡ Accepted → read ≡ found (record { parts = h.list; count = h.sets }) h.begin
+pub heading_given : (read : Read Head) (h : Heading) → h ≡ heading_of read → h.verdict ≡ Ok tt → read ≡ found (record { parts = h.list; count = h.sets }) h.begin
 heading_given (found head begin) h e v =
     ap₂ (λ (x : Head) (k : ℕ). found x k)
     (ap₂ (λ (l : PartList) (k : ℕ). record { parts = l; count = k }) (sym (ap (λ (p : Heading). p.list) e)) (sym (ap (λ (p : Heading). p.sets) e)))
     (sym (ap (λ (p : Heading). p.begin) e))
 heading_given (refused why) h e v = not_both v (ap (λ (p : Heading). p.verdict) e)
 
-pub heading_refused : (read : Read Head) (h : Heading) (why : Refusal) → h ≡ heading_of read → h.verdict ≡ Refused why → read ≡ refused why
+pub heading_refused : (read : Read Head) (h : Heading) (why : Refusal) → h ≡ heading_of read → h.verdict ≡ Err why → read ≡ refused why
 heading_refused (found head begin) h why e v = not_both (ap (λ (p : Heading). p.verdict) e) v
-heading_refused (refused r) h why e v = let same : Refused r ≡ Refused why = sym (ap (λ (p : Heading). p.verdict) e) ∙ v in cc same
+heading_refused (refused r) h why e v = let same : Err r ≡ Err why = sym (ap (λ (p : Heading). p.verdict) e) ∙ v in cc same
 
 -- ---- what stands before the sets, from its parts
 

@@ -7,9 +7,9 @@ use mathlib.Core.List.{List, [], ◌∷◌, ◌++◌, append_assoc}
 use Prim.Native.Nat.{ℕ, ◌+◌, ◌≤◌}
 use native.Mathlib.Omega.{arith}
 use lib.ListN.{length, drop, length-append}
-use Rattle.answer.specs.Refusals.{wrong_part_number}
+use Rattle.std.specs.Prelude.{Ok}
+use Rattle.answer.specs.declared.Reason.TheVariants.{WrongPartNumber}
 use Rattle.answer.specs.declared.Refusal.{Refusal}
-use Rattle.answer.specs.declared.Verdict.TheVariants.{Accepted}
 use Rattle.answer.proofs.Outcomes.{refuse_accepted, refuse_passed}
 use Rattle.answer.proofs.Checks.{parts_passed, parts_right}
 use Rattle.codec.specs.declared.Field.TheVariants.{Count, PartNumber}
@@ -37,19 +37,19 @@ last_more before (x ∷ earlier) number = last_more x earlier number
 pub numbers_any_place : (mark : ℕ) → AnyPlace (part_number_judge mark)
 numbers_any_place mark earlier place other number e =
     let wrong : Bool = misnumbered (last_number 0 earlier) mark number in
-    refuse_passed wrong wrong_part_number other Accepted (refuse_accepted wrong wrong_part_number place Accepted e).0
+    refuse_passed wrong WrongPartNumber other (Ok tt) (refuse_accepted wrong WrongPartNumber place (Ok tt) e).0
 
 -- part numbers pass one after the other exactly if they rise under the mark
 follow_rising : (mark : ℕ) (earlier numbers : List ℕ) → Follow (part_number_judge mark) earlier numbers → RisingWithin (last_number 0 earlier) mark numbers
 follow_rising mark earlier [] f = tt
 follow_rising mark earlier (v ∷ numbers) f =
-    let right = right_number (last_number 0 earlier) mark v (refuse_accepted _ wrong_part_number 0 Accepted (f.0 0)).0 in
+    let right = right_number (last_number 0 earlier) mark v (refuse_accepted _ WrongPartNumber 0 (Ok tt) (f.0 0)).0 in
     (right.0, right.1, subst (λ (low : ℕ). RisingWithin low mark numbers) (last_more 0 earlier v) (follow_rising mark (earlier ++ (v ∷ [])) numbers f.1))
 
 rising_follow : (mark : ℕ) → mark ≤ top_number → (earlier numbers : List ℕ) → RisingWithin (last_number 0 earlier) mark numbers → Follow (part_number_judge mark) earlier numbers
 rising_follow mark top earlier [] r = tt
 rising_follow mark top earlier (v ∷ numbers) r = (
-  λ place. refuse_passed _ wrong_part_number place Accepted (number_right (last_number 0 earlier) mark v r.0 r.1 top),
+  λ place. refuse_passed _ WrongPartNumber place (Ok tt) (number_right (last_number 0 earlier) mark v r.0 r.1 top),
   rising_follow mark top (earlier ++ (v ∷ [])) numbers (subst (λ (low : ℕ). RisingWithin low mark numbers) (sym (last_more 0 earlier v)) r.2),
 )
 
@@ -82,7 +82,7 @@ parts_found bytes start parts next small e =
     let r = fields_found bytes PartNumber (part_number_judge mark) (numbers_any_place mark) n [] b.1 numbers c.1 small g.stands.inside c.2 in
     let made : list_of mark numbers ≡ parts = cc c.3 in
     let ends : c.1 ≡ next = cc c.3 in
-    let right = parts_right start n Accepted f.passed in
+    let right = parts_right start n (Ok tt) f.passed in
     let counted : length numbers ≡ n = ap length r.behind_earlier ∙ r.counted in
     let rules : Rules (length numbers) mark numbers = record {
       some = rw counted right.0;
@@ -114,7 +114,7 @@ parts_read bytes start parts rest w e =
     let last : drop (start + length front + length middle) bytes ≡ forms_of numbers ++ rest = behind bytes (start + length front) middle (forms_of numbers ++ rest) after in
     let first : field_at bytes start Count (parts_refusal start) ≡ found n (start + length front) =
     field_read bytes start Count (parts_refusal start) n (middle ++ (forms_of numbers ++ rest)) forms (omega (arith, w.rules.few))
-    (parts_passed start n Accepted w.rules.some w.rules.few) in
+    (parts_passed start n (Ok tt) w.rules.some w.rules.few) in
     let second : field_at bytes (start + length front) PartNumber mark_refusal ≡ found mark (start + length front + length middle) =
     field_read bytes (start + length front) PartNumber mark_refusal mark (forms_of numbers ++ rest) after w.rules.top refl in
     let third : numbers_at bytes mark n [] (start + length front + length middle) ≡ found numbers (start + length front + length middle + length (forms_of numbers)) =
@@ -127,7 +127,7 @@ parts_read bytes start parts rest w e =
 -- ---- one field after the other
 
 pub count_few : (bytes : List ℕ) (start n next : ℕ) → field_at bytes start Count (parts_refusal start) ≡ found n next → n ≤ most_parts
-count_few bytes start n next e = (parts_right start n Accepted (field_checked bytes start Count (parts_refusal start) n next e)).1
+count_few bytes start n next e = (parts_right start n (Ok tt) (field_checked bytes start Count (parts_refusal start) n next e)).1
 
 module _ (bytes : List ℕ) (start : ℕ) where
   pub parts_no_count : (why : Refusal) → field_at bytes start Count (parts_refusal start) ≡ refused why → parts_at bytes start ≡ refused why

@@ -1,11 +1,9 @@
 -- What stands before the sets of a design record, at bytes from a position on (01, "Records on disk"), or which refusal at which place: each
 -- number is judged as it is read, and places are counted in the whole input.
-use Rattle.std.specs.Prelude.{List, [], ◌∷◌, ℕ, ltb, eqb}
-use Rattle.answer.specs.Refusals.{empty_list, long_list, wrong_part_number}
-use Rattle.answer.specs.Outcome.{refuse}
+use Rattle.std.specs.Prelude.{List, [], ◌∷◌, ℕ, ltb, eqb, Ok, Err}
+use Rattle.answer.specs.declared.Reason.TheVariants.{EmptyList, LongList, WrongPartNumber}
+use Rattle.answer.specs.Outcome.{refuse, Verdict}
 use Rattle.answer.specs.Checks.{part_count_refusal}
-use Rattle.answer.specs.declared.Verdict.{Verdict}
-use Rattle.answer.specs.declared.Verdict.TheVariants as verdict
 use Rattle.codec.specs.declared.Field.TheVariants.{Count, PartNumber}
 use Rattle.codec.specs.Reads.{Read, found, refused, then}
 use Rattle.codec.specs.FieldReads.{field_at, Judge, fields_at}
@@ -19,19 +17,19 @@ use Rattle.record_head.specs.declared.Heading.{Heading}
 
 -- n: 1
 abbrev pub parts_refusal : ℕ → ℕ → Verdict
-parts_refusal place n = part_count_refusal place n verdict.Accepted
+parts_refusal place n = part_count_refusal place n (Ok tt)
 
 -- the mark: none
 abbrev pub mark_refusal : ℕ → Verdict
-mark_refusal mark = verdict.Accepted
+mark_refusal mark = (Ok tt)
 
 -- a part number: 23, after the one before it (0 before the first)
 abbrev pub part_number_refusal : ℕ → ℕ → ℕ → ℕ → Verdict
-part_number_refusal mark previous place number = refuse (misnumbered previous mark number) wrong_part_number place verdict.Accepted
+part_number_refusal mark previous place number = refuse (misnumbered previous mark number) WrongPartNumber place (Ok tt)
 
 -- the count of minimal sets: 2 and 3
 abbrev pub set_count_refusal : ℕ → ℕ → Verdict
-set_count_refusal place count = refuse (eqb count 0) empty_list place (refuse (ltb most_sets count) long_list place verdict.Accepted)
+set_count_refusal place count = refuse (eqb count 0) EmptyList place (refuse (ltb most_sets count) LongList place (Ok tt))
 
 -- ---- the heading
 
@@ -69,5 +67,5 @@ head_at bytes start =
 
 -- what stands before the sets, or the refusal beside a list of no parts
 abbrev pub heading_of : Read Head → Heading
-heading_of (found head begin) = record { list = head.parts; sets = head.count; begin = begin; verdict = verdict.Accepted }
-heading_of (refused refusal) = record { list = list_of 0 []; sets = 0; begin = 0; verdict = verdict.Refused refusal }
+heading_of (found head begin) = record { list = head.parts; sets = head.count; begin = begin; verdict = (Ok tt) }
+heading_of (refused refusal) = record { list = list_of 0 []; sets = 0; begin = 0; verdict = Err refusal }

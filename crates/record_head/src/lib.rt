@@ -11,8 +11,8 @@ ghost use Rattle.codec.specs.FieldReads.{field_at};
 ghost use Rattle.record_head.specs.Headings.{parts_refusal, part_number_refusal, set_count_refusal, numbers_at, parts_at, head_at, heading_of};
 ghost use Rattle.record_head.specs.Inside.{parts_of};
 
-use answer::{Refusal, Verdict};
-use codec::{Field, Reading};
+use answer::{Reason, Refusal};
+use codec::{Field, Standing};
 use record_parts::PartList;
 
 // What stands before the sets: the part list and the number of sets, and where the sets begin. Where it is refused: a list of no parts, no
@@ -22,7 +22,7 @@ pub struct Heading {
     pub list: PartList,
     pub sets: usize,
     pub begin: usize,
-    pub verdict: Verdict,
+    pub verdict: Result<(), Refusal>,
 }
 
 // A part list and the position after it.
@@ -30,7 +30,7 @@ pub struct Heading {
 struct Parts {
     list: PartList,
     next: usize,
-    verdict: Verdict,
+    verdict: Result<(), Refusal>,
 }
 
 // What stands before the sets of the record at a position. The sets are not looked at.
@@ -40,18 +40,18 @@ pub fn read_heading(bytes: &[u8], start: usize) -> Heading
     let parts = read_parts(bytes, start);
     let verdict = parts.verdict;
     match verdict {
-        Verdict::Refused(refusal) => refused_heading(refusal.number, refusal.place),
-        Verdict::Accepted => {
+        Err(refusal) => refused_heading(refusal.reason, refusal.place),
+        Ok(()) => {
             let list = parts.list;
             let next = parts.next;
             let count = read_set_count(bytes, next);
             match count {
-                Reading::Refused(refusal) => refused_heading(refusal.number, refusal.place),
-                Reading::Number { value, next: begin } => Heading {
+                Err(refusal) => refused_heading(refusal.reason, refusal.place),
+                Ok(Standing { value, next: begin }) => Heading {
                     list,
                     sets: value as usize,
                     begin,
-                    verdict: Verdict::Accepted,
+                    verdict: Ok(()),
                 },
             }
         }
@@ -64,15 +64,15 @@ fn read_parts(bytes: &[u8], start: usize) -> Parts
 {
     let count = read_part_count(bytes, start);
     match count {
-        Reading::Refused(refusal) => refused_parts(refusal.number, refusal.place),
-        Reading::Number { value, next } => {
+        Err(refusal) => refused_parts(refusal.reason, refusal.place),
+        Ok(Standing { value, next }) => {
             let mark = codec::read_number(bytes, next, Field::PartNumber);
             match mark {
-                Reading::Refused(refusal) => refused_parts(refusal.number, refusal.place),
-                Reading::Number {
+                Err(refusal) => refused_parts(refusal.reason, refusal.place),
+                Ok(Standing {
                     value: highest,
                     next: after,
-                } => { read_part_numbers(bytes, after, value as usize, highest) }
+                }) => { read_part_numbers(bytes, after, value as usize, highest) }
             }
         }
     }
@@ -90,8 +90,8 @@ fn read_part_numbers(bytes: &[u8], start: usize, count: usize, mark: u64) -> Par
     while index < count {
         let number = read_part_number(bytes, next, previous, mark);
         match number {
-            Reading::Refused(refusal) => return refused_parts(refusal.number, refusal.place),
-            Reading::Number { value, next: after } => {
+            Err(refusal) => return refused_parts(refusal.reason, refusal.place),
+            Ok(Standing { value, next: after }) => {
                 numbers[index] = value;
                 previous = value;
                 next = after;
@@ -106,66 +106,66 @@ fn read_part_numbers(bytes: &[u8], start: usize, count: usize, mark: u64) -> Par
             numbers,
         },
         next,
-        verdict: Verdict::Accepted,
+        verdict: Ok(()),
     }
 }
 
 // n, of 1 to 16.
-fn read_part_count(bytes: &[u8], start: usize) -> Reading
+fn read_part_count(bytes: &[u8], start: usize) -> Result<Standing<u64>, Refusal>
     ensures { result ≡ reading_of (field_at bytes.now start Field.Count (parts_refusal start)) }
 {
     let number = codec::read_number(bytes, start, Field::Count);
     match number {
-        Reading::Refused(refusal) => Reading::Refused(refusal),
-        Reading::Number { value, next } => {
+        Err(refusal) => Err(refusal),
+        Ok(Standing { value, next }) => {
             if value == 0 {
-                return codec::refused(answer::WRONG_PART_COUNT, start);
+                return Err(Reason::WrongPartCount.at(start));
             }
             if (PartList::MOST_PARTS as u64) < value {
-                return codec::refused(answer::WRONG_PART_COUNT, start);
+                return Err(Reason::WrongPartCount.at(start));
             }
-            Reading::Number { value, next }
+            Ok(Standing { value, next })
         }
     }
 }
 
 // A part number, after the one before it and under the mark.
-fn read_part_number(bytes: &[u8], start: usize, previous: u64, mark: u64) -> Reading
+fn read_part_number(bytes: &[u8], start: usize, previous: u64, mark: u64) -> Result<Standing<u64>, Refusal>
     ensures { result ≡ reading_of (field_at bytes.now start Field.PartNumber (part_number_refusal mark previous start)) }
 {
     let number = codec::read_number(bytes, start, Field::PartNumber);
     match number {
-        Reading::Refused(refusal) => Reading::Refused(refusal),
-        Reading::Number { value, next } => {
+        Err(refusal) => Err(refusal),
+        Ok(Standing { value, next }) => {
             if record_numbers::misnumbered(previous, mark, value) {
-                return codec::refused(answer::WRONG_PART_NUMBER, start);
+                return Err(Reason::WrongPartNumber.at(start));
             }
-            Reading::Number { value, next }
+            Ok(Standing { value, next })
         }
     }
 }
 
 // The count of sets, of 1 to 12,870.
-fn read_set_count(bytes: &[u8], start: usize) -> Reading
+fn read_set_count(bytes: &[u8], start: usize) -> Result<Standing<u64>, Refusal>
     ensures { result ≡ reading_of (field_at bytes.now start Field.Count (set_count_refusal start)) }
 {
     let number = codec::read_number(bytes, start, Field::Count);
     match number {
-        Reading::Refused(refusal) => Reading::Refused(refusal),
-        Reading::Number { value, next } => {
+        Err(refusal) => Err(refusal),
+        Ok(Standing { value, next }) => {
             if value == 0 {
-                return codec::refused(answer::EMPTY_LIST, start);
+                return Err(Reason::EmptyList.at(start));
             }
             if 12870 < value {
-                return codec::refused(answer::LONG_LIST, start);
+                return Err(Reason::LongList.at(start));
             }
-            Reading::Number { value, next }
+            Ok(Standing { value, next })
         }
     }
 }
 
-fn refused_parts(number: u8, place: usize) -> Parts
-    ensures { result ≡ record { list = list_of 0 []; next = 0; verdict = Verdict.Refused (at number place) } }
+fn refused_parts(reason: Reason, place: usize) -> Parts
+    ensures { result ≡ record { list = list_of 0 []; next = 0; verdict = Err (at reason place) } }
 {
     Parts {
         list: PartList {
@@ -174,12 +174,12 @@ fn refused_parts(number: u8, place: usize) -> Parts
             numbers: [0; PartList::MOST_PARTS],
         },
         next: 0,
-        verdict: Verdict::Refused(Refusal { number, place }),
+        verdict: Err(Refusal { reason, place }),
     }
 }
 
-fn refused_heading(number: u8, place: usize) -> Heading
-    ensures { result ≡ record { list = list_of 0 []; sets = 0; begin = 0; verdict = Verdict.Refused (at number place) } }
+fn refused_heading(reason: Reason, place: usize) -> Heading
+    ensures { result ≡ record { list = list_of 0 []; sets = 0; begin = 0; verdict = Err (at reason place) } }
 {
     Heading {
         list: PartList {
@@ -189,6 +189,6 @@ fn refused_heading(number: u8, place: usize) -> Heading
         },
         sets: 0,
         begin: 0,
-        verdict: Verdict::Refused(Refusal { number, place }),
+        verdict: Err(Refusal { reason, place }),
     }
 }

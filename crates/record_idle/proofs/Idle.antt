@@ -11,12 +11,8 @@ use native.Mathlib.Omega.{arith}
 use lib.ListN.{length, get_or}
 use lib.Pow.{pow_pos}
 use borrow.Author.Tests.{not-true}
-use Rattle.answer.specs.Outcome.{valued}
-use Rattle.answer.specs.declared.Verdict.{Verdict}
-use Rattle.answer.specs.declared.Verdict.TheVariants.{Accepted}
-use Rattle.answer.specs.declared.Value.{Value}
-use Rattle.answer.specs.declared.Value.TheVariants as value
-use Rattle.answer.specs.declared.Written.TheVariants as written
+use Rattle.std.specs.Prelude.{Ok}
+use Rattle.answer.specs.Outcome.{valued, Numbered, Verdict}
 use Rattle.codec.specs.Bytes.{Bytes}
 use Rattle.codec.specs.Reads.{found}
 use Rattle.numbers.proofs.Bools.{clash, false_of}
@@ -129,12 +125,12 @@ module _ (d : Design) (r : DesignRules d) where
   first_set = member_at d.sets 0 r.sets.some
 
   -- nothing refuses to take out an idle part, or a group of them
-  pub idle_taken_out : (position : ℕ) → 1 ≤ position → has (idle_mask d) (position - 1) ≡ true → change_refusal (take_out position) d ≡ Accepted
+  pub idle_taken_out : (position : ℕ) → 1 ≤ position → has (idle_mask d) (position - 1) ≡ true → change_refusal (take_out position) d ≡ Ok tt
   idle_taken_out position from h =
       let inside = idle_inside (position - 1) h in
       (take_out_exactly position d).1 (from, omega arith, (get_or d.sets 0 0, first_set, (idle_by_position (position - 1) inside).0 h (get_or d.sets 0 0) first_set))
 
-  pub idle_group_taken_out : (group : ℕ) → 0 < group → holds (idle_mask d) group ≡ true → change_refusal (take_out_group group) d ≡ Accepted
+  pub idle_group_taken_out : (group : ℕ) → 0 < group → holds (idle_mask d) group ≡ true → change_refusal (take_out_group group) d ≡ Ok tt
   idle_group_taken_out group any within =
       (take_out_group_exactly group d).1 (
         any,
@@ -191,9 +187,9 @@ module _ (bytes : List ℕ) (d : Design) (next : ℕ) (small : Bytes bytes) (rea
   form = stored_written bytes s next small here.read
 
   -- a change of an idle part or group, which nothing refuses, is made where there is room for the record as it is
-  given : (change : Change) (group : ℕ) (buffer : List ℕ) → edition_after change (edition_of s) ≡ edition_of s → change_refusal change d ≡ Accepted
+  given : (change : Change) (group : ℕ) (buffer : List ℕ) → edition_after change (edition_of s) ≡ edition_of s → change_refusal change d ≡ Ok tt
       → changed_stored change s ≡ changed_stored (take_out_group group) s → length bytes ≤ length buffer
-      → (changed_record change bytes buffer).answer ≡ written.Length (length (stored_bytes (changed_stored change s)))
+      → (changed_record change bytes buffer).answer ≡ Ok (length (stored_bytes (changed_stored change s)))
   given change group buffer edition accepted same room =
       change_given change bytes buffer s next here.read
       (unconverted_refusal change s edition ∙ ap (change_refusal change) here.same ∙ accepted)
@@ -201,7 +197,7 @@ module _ (bytes : List ℕ) (d : Design) (next : ℕ) (small : Bytes bytes) (rea
 
   -- An idle part is taken out of a record by its number, and the sets stay;
   pub idle_part_leaves : (number : ℕ) (buffer : List ℕ) → In number (idle_numbers d) → length bytes ≤ length buffer
-      → (k : ℕ) × ((changed_there take_out (part_position bytes number) bytes buffer).answer ≡ written.Length k)
+      → (k : ℕ) × ((changed_there take_out (part_position bytes number) bytes buffer).answer ≡ Ok k)
       × SetsStay d (changed_there take_out (part_position bytes number) bytes buffer).buffer k
   idle_part_leaves number buffer idle room =
       (k, made, leave_stays (number ∷ []) _ k (part_leaves bytes d next small read number buffer k made) (λ other i. only i (Memᴰ.cases_cons i)))
@@ -219,7 +215,7 @@ module _ (bytes : List ℕ) (d : Design) (next : ℕ) (small : Bytes bytes) (rea
       back : position - 1 ≡ at.index
       back = omega arith
 
-      there : part_position bytes number ≡ value.Given position
+      there : part_position bytes number ≡ Ok position
       there =
           (part_position_exactly bytes d next small read number position).1
           (omega arith, omega (arith, at.inside, counted d rules), ap (λ (i : ℕ). get_or (numbers_of d.parts) i 0) back ∙ sym at.same)
@@ -230,16 +226,16 @@ module _ (bytes : List ℕ) (d : Design) (next : ℕ) (small : Bytes bytes) (rea
       same : changed_stored (take_out position) s ≡ changed_stored (take_out_group (single position)) s
       same = single_group position s
 
-      made : (changed_there take_out (part_position bytes number) bytes buffer).answer ≡ written.Length k
+      made : (changed_there take_out (part_position bytes number) bytes buffer).answer ≡ Ok k
       made =
-          ap (λ (v : Value). (changed_there take_out v bytes buffer).answer) there
+          ap (λ (v : Numbered). (changed_there take_out v bytes buffer).answer) there
           ∙ given (take_out position) (single position) buffer refl
           (idle_taken_out d rules position (omega arith) (ap (has (idle_mask d)) back ∙ at.member)) same room
 
   -- and so are idle parts together, at least one and none of them twice.
   pub idle_parts_leave : (wanted buffer : List ℕ) → ((number : ℕ) → In number wanted → In number (idle_numbers d)) → 1 ≤ length wanted → repeated wanted ≡ false
       → length bytes ≤ length buffer
-      → (k : ℕ) × ((changed_there take_out_group (parts_mask bytes wanted) bytes buffer).answer ≡ written.Length k)
+      → (k : ℕ) × ((changed_there take_out_group (parts_mask bytes wanted) bytes buffer).answer ≡ Ok k)
       × SetsStay d (changed_there take_out_group (parts_mask bytes wanted) bytes buffer).buffer k
   idle_parts_leave wanted buffer idle any once room =
       (k, made, leave_stays wanted _ k (wanted_leave bytes d next small read wanted buffer k made) idle)
@@ -253,7 +249,7 @@ module _ (bytes : List ℕ) (d : Design) (next : ℕ) (small : Bytes bytes) (rea
       known : every (λ number. names number numbers) wanted ≡ true
       known = every_intro (λ number. names number numbers) wanted (λ number i. names_intro number numbers (in_named numbers (idle_mask d) (idle number i)))
 
-      there : parts_mask bytes wanted ≡ value.Given mask
+      there : parts_mask bytes wanted ≡ Ok mask
       there =
           wanted_judged bytes d next small read wanted
           ∙ ap (λ (v : Verdict). valued v mask) (wanted_right numbers wanted known once)
@@ -274,15 +270,15 @@ module _ (bytes : List ℕ) (d : Design) (next : ℕ) (small : Bytes bytes) (rea
       k : ℕ
       k = length (stored_bytes (changed_stored (take_out_group mask) s))
 
-      made : (changed_there take_out_group (parts_mask bytes wanted) bytes buffer).answer ≡ written.Length k
+      made : (changed_there take_out_group (parts_mask bytes wanted) bytes buffer).answer ≡ Ok k
       made =
-          ap (λ (v : Value). (changed_there take_out_group v bytes buffer).answer) there
+          ap (λ (v : Numbered). (changed_there take_out_group v bytes buffer).answer) there
           ∙ given (take_out_group mask) mask buffer refl (idle_group_taken_out d rules mask some within) refl room
 
 -- ---- one part more
 
 -- a part that is added is idle
-pub added_part_idle : (d : Design) → DesignRules d → change_refusal add_part d ≡ Accepted → In (d.parts.mark + 1) (idle_numbers (changed add_part d))
+pub added_part_idle : (d : Design) → DesignRules d → change_refusal add_part d ≡ Ok tt → In (d.parts.mark + 1) (idle_numbers (changed add_part d))
 added_part_idle d r accepted =
     (idle_named (changed add_part d) (changed_rules add_part d r accepted) (d.parts.mark + 1)).1 (
       subst (λ (numbers : List ℕ). In (d.parts.mark + 1) numbers) (sym (added_numbers d r accepted)) (Memᴰ.append_right (numbers_of d.parts) (Memᴰ.head refl)),

@@ -5,7 +5,7 @@ use mathlib.Core.Path.{◌≡◌, ap, ◌∙◌, subst}
 use mathlib.Core.List.{List, []}
 use Prim.Native.Nat.{ℕ}
 use lib.ListN.{take}
-use Rattle.answer.specs.declared.Written.TheVariants as written
+use Rattle.std.specs.Prelude.{Ok}
 use Rattle.codec.specs.Bytes.{Bytes}
 use Rattle.codec.specs.Reads.{found}
 use Rattle.record.specs.Records.{Design}
@@ -25,8 +25,8 @@ converted to bytes buffer n = take n (changed_record (convert (edition_of to)) b
 module _ (bytes : List ℕ) (small : Bytes bytes) (next : ℕ) (one two : List ℕ) (i j : ℕ) where
   -- what a record becomes in an edition, and what that becomes in its own edition again
   back : (s t : Stored) → whole_stored bytes ≡ found s next → changed_stored (convert (edition_of t)) s ≡ t → changed_stored (convert (edition_of s)) t ≡ s
-      → (changed_record (convert (edition_of t)) bytes one).answer ≡ written.Length i
-      → (changed_record (convert (edition_of s)) (converted t bytes one i) two).answer ≡ written.Length j
+      → (changed_record (convert (edition_of t)) bytes one).answer ≡ Ok i
+      → (changed_record (convert (edition_of s)) (converted t bytes one i) two).answer ≡ Ok j
       → converted s (converted t bytes one i) two j ≡ bytes
   back s t read there again first_made second-made =
       let w = stored_written bytes s next small read in
@@ -35,18 +35,18 @@ module _ (bytes : List ℕ) (small : Bytes bytes) (next : ℕ) (one two : List �
       let n = made_stored (convert (edition_of s)) (converted t bytes one i) two j second-made t i now (subst StoredRules there m.again) in
       n.written ∙ ap stored_bytes again ∙ w.1
 
-  pub there_and_back : (d : Design) → whole_stored bytes ≡ found (first d) next → (changed_record (convert Second) bytes one).answer ≡ written.Length i
-      → (changed_record (convert First) (take i (changed_record (convert Second) bytes one).buffer) two).answer ≡ written.Length j
+  pub there_and_back : (d : Design) → whole_stored bytes ≡ found (first d) next → (changed_record (convert Second) bytes one).answer ≡ Ok i
+      → (changed_record (convert First) (take i (changed_record (convert Second) bytes one).buffer) two).answer ≡ Ok j
       → take j (changed_record (convert First) (take i (changed_record (convert Second) bytes one).buffer) two).buffer ≡ bytes
   there_and_back d read = back (first d) (second d []) read (to_second d).1 (to_first d).1
 
-  pub back_and_there : (d : Design) → whole_stored bytes ≡ found (second d []) next → (changed_record (convert First) bytes one).answer ≡ written.Length i
-      → (changed_record (convert Second) (take i (changed_record (convert First) bytes one).buffer) two).answer ≡ written.Length j
+  pub back_and_there : (d : Design) → whole_stored bytes ≡ found (second d []) next → (changed_record (convert First) bytes one).answer ≡ Ok i
+      → (changed_record (convert Second) (take i (changed_record (convert First) bytes one).buffer) two).answer ≡ Ok j
       → take j (changed_record (convert Second) (take i (changed_record (convert First) bytes one).buffer) two).buffer ≡ bytes
   back_and_there d read = back (second d []) (first d) read (to_first d).1 (to_second d).1
 
   -- a record already of the edition asked for comes back unchanged
-  pub comes_back : (s : Stored) → whole_stored bytes ≡ found s next → (changed_record (convert (edition_of s)) bytes one).answer ≡ written.Length i → converted s bytes one i ≡ bytes
+  pub comes_back : (s : Stored) → whole_stored bytes ≡ found s next → (changed_record (convert (edition_of s)) bytes one).answer ≡ Ok i → converted s bytes one i ≡ bytes
   comes_back s read made =
       let w = stored_written bytes s next small read in
       let m = made_stored (convert (edition_of s)) bytes one i made s next read w.0 in

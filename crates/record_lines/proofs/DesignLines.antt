@@ -8,7 +8,7 @@ use mathlib.Core.List.{List, [], ◌∷◌, ◌++◌, Memᴰ}
 use mathlib.Core.Logic.{◌⊎◌, inl, inr, ⊎_elim}
 use mathlib.Core.Bool.{Bool, true, false, not, ◌&&◌}
 use Prim.Native.Nat.{ℕ}
-use Rattle.answer.specs.declared.Verdict.TheVariants.{Accepted}
+use Rattle.std.specs.Prelude.{Ok}
 use Rattle.record_numbers.specs.Numbering.{named, names}
 use Rattle.record_parts.specs.PartLists.{numbers_of}
 use Rattle.record_parts.specs.Changes.{single}
@@ -69,7 +69,7 @@ design_line_without group d r left =
     (λ set m. absurd (Memᴰ.not-nil m))
 
 -- each change that is not refused is a line
-pub design_line_one : (change : Change) (d : Design) → DesignRules d → change_refusal change d ≡ Accepted
+pub design_line_one : (change : Change) (d : Design) → DesignRules d → change_refusal change d ≡ Ok tt
     → DesignLine d (changed change d) (issued_in change d) (left_in change d) (given_in change d)
 design_line_one add_part d r accepted =
     line (changed_rules add_part d r accepted) (line_one lines.add_part d.parts r.parts) (λ set m. inl (rw (added_names d r accepted) at m))
@@ -121,7 +121,7 @@ design_line_append {middle = middle} {last = last} {left = left} {left' = left'}
 
 abbrev pub Allowed : List Change → Design → Type 0
 Allowed [] d = Unit {0}
-Allowed (change ∷ changes) d = (change_refusal change d ≡ Accepted) × Allowed changes (changed change d)
+Allowed (change ∷ changes) d = (change_refusal change d ≡ Ok tt) × Allowed changes (changed change d)
 
 pub design_line : (changes : List Change) (d : Design) → DesignRules d → Allowed changes d
     → DesignLine d (design_after changes d) (along issued_in changes d) (along left_in changes d) (along given_in changes d)

@@ -5,9 +5,9 @@ use mathlib.Core.List.{List, [], ◌∷◌, ◌++◌, map}
 use Prim.Native.Nat.{ℕ}
 use lib.Count.{ones, ones_in}
 use lib.ListN.{replicate}
-use Rattle.answer.specs.Outcome.{at, outcome}
-use Rattle.answer.specs.declared.Written.{Written}
-use Rattle.answer.specs.declared.Written.TheVariants.{Length, Refused}
+use Rattle.std.specs.Prelude.{Ok, Err}
+use Rattle.answer.specs.declared.Reason.TheVariants.{WrongPartCount, EmptyList, UnknownPart, EmptySet, ShortBuffer, EmptyGroup, UnknownGroupPart, UnknownPosition, InEverySet, NumbersSpent, WrongPartNumber, BytesLeft, RetiredPresent}
+use Rattle.answer.specs.Outcome.{at, outcome, Numbered}
 use Rattle.codec.specs.Reading.{number_in, number_at}
 use Rattle.codec.specs.ByteForm.{grouped, bytes_of, forms_of}
 use Rattle.numbers.specs.Tables.{tabulate}
@@ -42,7 +42,7 @@ bridge = 5 ∷ 5 ∷ 1 ∷ 2 ∷ 3 ∷ 4 ∷ 5 ∷ 4 ∷ 9 ∷ 14 ∷ 18 ∷ 21 
 abbrev call : Change → Call
 call change = record { change = change; buffer = replicate 20 0 }
 
-abbrev answer : Change → List ℕ → ℕ → Written
+abbrev answer : Change → List ℕ → ℕ → Numbered
 answer change bytes room = (changed_record change bytes (replicate room 0)).answer
 
 -- Changes that are made: the highest part leaves and the mark stays; the next part gets the number after the mark, and not after the highest
@@ -65,7 +65,7 @@ not_made :
     ∷ answer (take_out 2) (1 ∷ 1 ∷ 1 ∷ 1 ∷ 1 ∷ []) 9 ∷ answer add_part (1 ∷ replicate 6 255 ++ (63 ∷ 1 ∷ 1 ∷ 1 ∷ [])) 9
     ∷ answer (add_set 0) (1 ∷ 1 ∷ 1 ∷ 1 ∷ 1 ∷ []) 9 ∷ answer (add_set 2) (1 ∷ 1 ∷ 1 ∷ 1 ∷ 1 ∷ []) 9 ∷ answer (take_out 3) bridge 8
     ∷ answer (take_out 9) bridge 0 ∷ answer (take_out 9) (1 ∷ 1 ∷ 1 ∷ 1 ∷ 1 ∷ 0 ∷ []) 9 ∷ []
-    ≡ map Refused (at 18 0 ∷ at 18 0 ∷ at 17 0 ∷ at 17 0 ∷ at 20 0 ∷ at 5 0 ∷ at 4 0 ∷ at 11 9 ∷ at 17 0 ∷ at 25 5 ∷ [])
+    ≡ map Err (at InEverySet 0 ∷ at InEverySet 0 ∷ at UnknownPosition 0 ∷ at UnknownPosition 0 ∷ at NumbersSpent 0 ∷ at EmptySet 0 ∷ at UnknownPart 0 ∷ at ShortBuffer 9 ∷ at UnknownPosition 0 ∷ at BytesLeft 5 ∷ [])
 unfolding changed_record changed_stored whole_stored only_stored stored_at second_there record_at head_at parts_at fields_at field_at misplaced has holds any those listed minimal number_at number_in stored_bytes record_bytes head_bytes parts_bytes forms_of bytes_of grouped part_added part_list_refusal others meets squeezed sets_without
 not_made = refl
 
@@ -94,7 +94,7 @@ not_together :
     answer (take_out_group 0) (1 ∷ 1 ∷ 1 ∷ 1 ∷ 1 ∷ []) 9 ∷ answer (take_out_group 2) (1 ∷ 1 ∷ 1 ∷ 1 ∷ 1 ∷ []) 9 ∷ answer (take_out_group 3) bridge 12
     ∷ answer (take_out_group 3) (3 ∷ 3 ∷ 1 ∷ 2 ∷ 3 ∷ 2 ∷ 3 ∷ 5 ∷ []) 9 ∷ answer (take_out_group 31) bridge 12 ∷ answer (take_out_group 52) bridge 12 ∷ answer (take_out_group 63) bridge 12
     ∷ answer (take_out_group 20) bridge 6 ∷ answer (take_out_group 3) bridge 0 ∷ answer (take_out_group 0) (1 ∷ 1 ∷ 1 ∷ 1 ∷ 1 ∷ 0 ∷ []) 9 ∷ []
-    ≡ map Refused (at 15 0 ∷ at 16 0 ∷ at 18 0 ∷ at 18 0 ∷ at 18 0 ∷ at 16 0 ∷ at 16 0 ∷ at 11 7 ∷ at 18 0 ∷ at 25 5 ∷ [])
+    ≡ map Err (at EmptyGroup 0 ∷ at UnknownGroupPart 0 ∷ at InEverySet 0 ∷ at InEverySet 0 ∷ at InEverySet 0 ∷ at UnknownGroupPart 0 ∷ at UnknownGroupPart 0 ∷ at ShortBuffer 7 ∷ at InEverySet 0 ∷ at BytesLeft 5 ∷ [])
 unfolding changed_record changed_stored whole_stored only_stored stored_at second_there record_at head_at parts_at fields_at field_at misplaced has holds any those listed minimal number_at number_in stored_bytes record_bytes head_bytes parts_bytes forms_of bytes_of grouped part_list_refusal others meets squeezed sets_without
 not_together = refl
 
@@ -128,7 +128,7 @@ unfolding changed_record changed_stored whole_stored only_stored stored_at secon
 counted_again = refl
 
 -- back to edition 1: 32 for the retired number, before 11; and without one the bridge as it was
-not_back : answer (convert First) second_without_3 0 ∷ answer (convert First) second_bridge 11 ∷ [] ≡ Refused (at 32 0) ∷ Refused (at 11 12) ∷ []
+not_back : answer (convert First) second_without_3 0 ∷ answer (convert First) second_bridge 11 ∷ [] ≡ Err (at RetiredPresent 0) ∷ Err (at ShortBuffer 12) ∷ []
 unfolding changed_record changed_stored whole_stored only_stored stored_at second_there record_at head_at parts_at fields_at field_at misplaced has holds any those listed minimal number_at number_in stored_bytes record_bytes head_bytes parts_bytes forms_of bytes_of grouped part_added part_list_refusal others meets squeezed sets_without tail_at retired_at tail_bytes fresh_counts path_count tabulate sum_below some ones ones_in named inserted kept filed_all
 not_back = refl
 
@@ -139,14 +139,14 @@ back = refl
 -- ---- records to start from
 
 -- a first record of a list with a repeat and a nested set
-first : first_record 2 (3 ∷ 1 ∷ 1 ∷ []) (replicate 7 9) ≡ outcome (Length 6) (2 ∷ 2 ∷ 1 ∷ 2 ∷ 1 ∷ 1 ∷ 9 ∷ [])
+first : first_record 2 (3 ∷ 1 ∷ 1 ∷ []) (replicate 7 9) ≡ outcome (Ok 6) (2 ∷ 2 ∷ 1 ∷ 2 ∷ 1 ∷ 1 ∷ 9 ∷ [])
 unfolding first_record structure.list_refusal structure.entries_refusal tabulate holds any those listed minimal stored_bytes record_bytes head_bytes parts_bytes forms_of bytes_of grouped
 first = refl
 
 -- ---- records of parts that already have numbers
 
 -- parts 3, 7 and 12 of a tab whose numbers went up to 15, with {3, 7}, {3, 12} and a set that holds one of them
-entered : entered_record 15 (3 ∷ 7 ∷ 12 ∷ []) (5 ∷ 7 ∷ 3 ∷ []) (replicate 9 0) ≡ outcome (Length 8) (3 ∷ 15 ∷ 3 ∷ 7 ∷ 12 ∷ 2 ∷ 3 ∷ 5 ∷ 0 ∷ [])
+entered : entered_record 15 (3 ∷ 7 ∷ 12 ∷ []) (5 ∷ 7 ∷ 3 ∷ []) (replicate 9 0) ≡ outcome (Ok 8) (3 ∷ 15 ∷ 3 ∷ 7 ∷ 12 ∷ 2 ∷ 3 ∷ 5 ∷ 0 ∷ [])
 unfolding entered_record structure.list_refusal structure.entries_refusal has holds any those listed minimal stored_bytes record_bytes head_bytes parts_bytes forms_of bytes_of grouped
 entered = refl
 
@@ -156,7 +156,7 @@ not_entered :
     (entered_record 15 [] (1 ∷ []) []).answer ∷ (entered_record 15 (0 ∷ []) [] []).answer ∷ (entered_record 15 (0 ∷ []) (2 ∷ []) []).answer
     ∷ (entered_record 15 (0 ∷ []) (1 ∷ []) []).answer ∷ (entered_record 15 (3 ∷ 7 ∷ 7 ∷ []) (1 ∷ []) []).answer ∷ (entered_record 15 (3 ∷ 16 ∷ []) (1 ∷ []) []).answer
     ∷ (entered_record 281474976710656 (3 ∷ 7 ∷ []) (1 ∷ []) []).answer ∷ (entered_record 15 (3 ∷ []) (1 ∷ []) []).answer ∷ []
-    ≡ Refused (at 1 0) ∷ Refused (at 2 0) ∷ Refused (at 4 0) ∷ Refused (at 23 0) ∷ Refused (at 23 2) ∷ Refused (at 23 1) ∷ Refused (at 23 2)
-    ∷ Refused (at 11 5) ∷ []
+    ≡ Err (at WrongPartCount 0) ∷ Err (at EmptyList 0) ∷ Err (at UnknownPart 0) ∷ Err (at WrongPartNumber 0) ∷ Err (at WrongPartNumber 2) ∷ Err (at WrongPartNumber 1) ∷ Err (at WrongPartNumber 2)
+    ∷ Err (at ShortBuffer 5) ∷ []
 unfolding entered_record structure.list_refusal structure.entries_refusal has holds any those listed minimal stored_bytes record_bytes head_bytes parts_bytes forms_of bytes_of grouped
 not_entered = refl

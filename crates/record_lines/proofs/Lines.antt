@@ -9,9 +9,8 @@ use Prim.Native.Nat.{ℕ, ◌≤◌}
 use native.Mathlib.Nat.{le_trans}
 use native.Mathlib.Omega.{arith}
 use lib.ListN.{take}
-use Rattle.answer.specs.declared.Verdict.TheVariants.{Accepted}
-use Rattle.answer.specs.declared.Written.{Written}
-use Rattle.answer.specs.declared.Written.TheVariants as written
+use Rattle.std.specs.Prelude.{Ok, Err}
+use Rattle.answer.specs.Outcome.{Numbered}
 use Rattle.answer.proofs.Outcomes.{then_accepted}
 use Rattle.codec.specs.Bytes.{Bytes}
 use Rattle.record_numbers.specs.Numbering.{named}
@@ -53,16 +52,16 @@ follows (call ∷ calls) bytes s next read r =
     record { allowed = on.0; next = on.1; read = on.2; rules = on.3 }
   where
     -- the rest of the line behind an answer
-    Onward : Written → Type 0
+    Onward : Numbered → Type 0
     Onward answer =
         let now : List ℕ = record_after answer (outcome_of call bytes).buffer bytes in
         let changes : List Change = unless_refused answer call.change ++ made_by calls now in
         Allowed changes (design_of s) × (next : ℕ) × (whole_stored (last_of calls now) ≡ found (stored_after changes s) next) × StoredRules (stored_after changes s)
 
-    cases : (answer : Written) → (outcome_of call bytes).answer ≡ answer → Follows calls bytes s
+    cases : (answer : Numbered) → (outcome_of call bytes).answer ≡ answer → Follows calls bytes s
         → ((n : ℕ) (now : List ℕ) (t : Stored) → whole_stored now ≡ found t n → StoredRules t → Follows calls now t) → Onward answer
-    cases (written.Refused refusal) e same later = (same.allowed, same.next, same.read, same.rules)
-    cases (written.Length n) e same later =
+    cases (Err refusal) e same later = (same.allowed, same.next, same.read, same.rules)
+    cases (Ok n) e same later =
         let change : Change = call.change in
         let made = made_stored change bytes call.buffer n e s next read r in
         let rest = later n _ (changed_stored change s) made.accepted_again made.again in
@@ -161,7 +160,7 @@ module _ (bytes : List ℕ) (s : Stored) (next : ℕ) (small : Bytes bytes) (rea
 -- ---- every line from a record that was entered
 
 -- Along every line from a record of parts that already had numbers, no number up to the mark that was given with them is issued.
-pub entered_never_issued : (mark : ℕ) (numbers list buffer : List ℕ) (k : ℕ) → (entered_record mark numbers list buffer).answer ≡ written.Length k
+pub entered_never_issued : (mark : ℕ) (numbers list buffer : List ℕ) (k : ℕ) → (entered_record mark numbers list buffer).answer ≡ Ok k
     → (calls : List Call) (number : ℕ) → number ≤ mark
     → In number (issued_by calls (take k (entered_record mark numbers list buffer).buffer) (entered_design mark numbers list)) → ⊥
 entered_never_issued mark numbers list buffer k e calls =
@@ -174,7 +173,7 @@ given_at [] d allowed set m = absurd (Memᴰ.not-nil m)
 given_at (change ∷ changes) d allowed set m =
     ⊎_elim (here change allowed.0) (λ k. behind (given_at changes (changed change d) allowed.1 set k)) (Memᴰ.append_cases (given_in change d) m)
   where
-    here : (c : Change) → change_refusal c d ≡ Accepted → Memᴰ set (given_in c d) → GivenInUse (c ∷ changes) d set
+    here : (c : Change) → change_refusal c d ≡ Ok tt → Memᴰ set (given_in c d) → GivenInUse (c ∷ changes) d set
     here add_part accepted k = absurd (Memᴰ.not-nil k)
     here (take_out position) accepted k = absurd (Memᴰ.not-nil k)
     here (take_out_group group) accepted k = absurd (Memᴰ.not-nil k)

@@ -7,7 +7,7 @@ use mathlib.Core.Logic.{◌↔◌}
 use Prim.Native.Nat.{ℕ, ◌+◌, ◌-◌, ◌^◌, ◌≤◌, ◌<◌}
 use native.Mathlib.Omega.{arith}
 use lib.ListN.{length}
-use Rattle.answer.specs.declared.Verdict.TheVariants.{Accepted}
+use Rattle.std.specs.Prelude.{Ok}
 use Rattle.record_parts.specs.declared.Changed.{Changed}
 use Rattle.record_numbers.specs.Numbering.{most_parts, RisingWithin, named, others, names}
 use Rattle.record_parts.specs.PartLists.{numbers_of}
@@ -33,7 +33,7 @@ use Rattle.record_lines.proofs.Rules.{add_accepted, take_out_accepted, with_set_
 -- ---- add part
 
 -- the numbers in use after a part is added: the old ones, and mark+1 behind them
-pub added_numbers : (d : Design) → DesignRules d → change_refusal add_part d ≡ Accepted → numbers_of (changed add_part d).parts ≡ numbers_of d.parts ++ ((d.parts.mark + 1) ∷ [])
+pub added_numbers : (d : Design) → DesignRules d → change_refusal add_part d ≡ Ok tt → numbers_of (changed add_part d).parts ≡ numbers_of d.parts ++ ((d.parts.mark + 1) ∷ [])
 added_numbers d r accepted =
     let a = add_accepted d.parts r.parts accepted in
     let issued = d.parts.mark + 1 in
@@ -50,7 +50,7 @@ within_numbers : (d : Design) → DesignRules d → (a : ℕ) → a < 2 ^ d.part
 within_numbers d r a h = rw (well_formed_counted d.parts r.parts) h
 
 -- Adding a part leaves every named minimal set as it was,
-pub added_names : (d : Design) → DesignRules d → change_refusal add_part d ≡ Accepted → named_sets (changed add_part d) ≡ named_sets d
+pub added_names : (d : Design) → DesignRules d → change_refusal add_part d ≡ Ok tt → named_sets (changed add_part d) ≡ named_sets d
 added_names d r accepted =
     ap (λ (numbers : List ℕ). map (named numbers) d.sets) (added_numbers d r accepted)
     ∙ more_names (numbers_of d.parts) (d.parts.mark + 1) d.sets (λ a m. within_numbers d r a (r.sets.within a m).0)
@@ -62,7 +62,7 @@ named_in_use d set m number i =
     in_named (numbers_of d.parts) found.0 (subst (λ (s : List ℕ). In number s) (sym found.2) i)
 
 -- and the new part is in none of them.
-pub added_unnamed : (d : Design) → DesignRules d → change_refusal add_part d ≡ Accepted → (set : List ℕ) → Memᴰ set (named_sets (changed add_part d)) → In (d.parts.mark + 1) set → ⊥
+pub added_unnamed : (d : Design) → DesignRules d → change_refusal add_part d ≡ Ok tt → (set : List ℕ) → Memᴰ set (named_sets (changed add_part d)) → In (d.parts.mark + 1) set → ⊥
 added_unnamed d r accepted set m i =
     let old : Memᴰ set (named_sets d) = rw (added_names d r accepted) at m in
     let above = added_above d.parts r.parts (d.parts.mark + 1) (named_in_use d set old (d.parts.mark + 1) i) in
@@ -113,13 +113,13 @@ without_named group d r =
     (λ a m. within_numbers d r a (r.sets.within a m).0)
 
 -- a part is taken out at a position of its own
-pub position_inside : (position : ℕ) (d : Design) → DesignRules d → change_refusal (take_out position) d ≡ Accepted → position - 1 < length (numbers_of d.parts)
+pub position_inside : (position : ℕ) (d : Design) → DesignRules d → change_refusal (take_out position) d ≡ Ok tt → position - 1 < length (numbers_of d.parts)
 position_inside position d r accepted =
     let a = take_out_accepted position d accepted in
     omega (arith, well_formed_counted d.parts r.parts, a.from, a.to)
 
 -- So taking out the part with number p leaves exactly the named minimal sets that do not name p.
-pub taken_out_names : (position : ℕ) (d : Design) → DesignRules d → change_refusal (take_out position) d ≡ Accepted
+pub taken_out_names : (position : ℕ) (d : Design) → DesignRules d → change_refusal (take_out position) d ≡ Ok tt
     → named_sets (changed (take_out position) d) ≡ keep (λ set. not (names (part_number_at d position) set)) (named_sets d)
 unfolding some
 taken_out_names position d r accepted =
@@ -129,7 +129,7 @@ taken_out_names position d r accepted =
 
 -- ---- add set
 
-module _ (set : ℕ) (d : Design) (r : DesignRules d) (accepted : change_refusal (add_set set) d ≡ Accepted) where
+module _ (set : ℕ) (d : Design) (r : DesignRules d) (accepted : change_refusal (add_set set) d ≡ Ok tt) where
   -- the old sets and the new one are sets of the numbers in use
   below_numbers : (b : ℕ) → Memᴰ b (set ∷ d.sets) → b < 2 ^ length (numbers_of d.parts)
   below_numbers b m = within_numbers d r b (with_set_within set d r accepted b m).0

@@ -11,12 +11,9 @@ use native.Mathlib.Omega.{arith}
 use borrow.Author.Tests.{ne_eqb, le-ltb, lt-leb}
 use lib.ListN.{length}
 use lib.Pow.{pow_pos, pow-lt}
-use Rattle.answer.specs.Refusals.{in_every_set}
-use Rattle.answer.specs.Outcome.{Outcome, and_then, delivered}
-use Rattle.answer.specs.declared.Verdict.{Verdict}
-use Rattle.answer.specs.declared.Verdict.TheVariants.{Accepted, Refused}
-use Rattle.answer.specs.declared.Written.{Written}
-use Rattle.answer.specs.declared.Written.TheVariants.{Length}
+use Rattle.std.specs.Prelude.{Ok, Err}
+use Rattle.answer.specs.declared.Reason.TheVariants.{InEverySet}
+use Rattle.answer.specs.Outcome.{Outcome, and_then, delivered, Numbered, Verdict}
 use Rattle.answer.proofs.Outcomes.{refuse_passed}
 use Rattle.answer.proofs.Checks.{group_passed}
 use Rattle.answer.proofs.Deliveries.{delivered_whole}
@@ -38,14 +35,14 @@ use Rattle.record_lines.proofs.Keeping.{every_elim, every_fails}
 use Rattle.record_lines.proofs.Rules.{add_accepted, take_out_accepted, group_out_accepted, set_accepted}
 
 -- a part is added while there are fewer than 16 and a number is left
-pub add_part_exactly : (d : Design) → DesignRules d → (change_refusal add_part d ≡ Accepted) ↔ ((d.parts.count < most_parts) × (d.parts.mark < top_number))
+pub add_part_exactly : (d : Design) → DesignRules d → (change_refusal add_part d ≡ Ok tt) ↔ ((d.parts.count < most_parts) × (d.parts.mark < top_number))
 add_part_exactly d r = (
   add_accepted d.parts r.parts,
   λ room. simp (ne_eqb d.parts.count most_parts (λ e. omega (arith, room.0)), ne_eqb d.parts.mark top_number (λ e. omega (arith, room.1))),
 )
 
 -- a part is taken out at a position of the machine, while some set does not name it
-pub take_out_exactly : (position : ℕ) (d : Design) → (change_refusal (take_out position) d ≡ Accepted)
+pub take_out_exactly : (position : ℕ) (d : Design) → (change_refusal (take_out position) d ≡ Ok tt)
     ↔ ((1 ≤ position) × (position ≤ d.parts.count) × ((set : ℕ) × Memᴰ set d.sets × (has set (position - 1) ≡ false)))
 take_out_exactly position d = (
   λ accepted.
@@ -60,7 +57,7 @@ take_out_exactly position d = (
 )
 
 -- a group is taken out that has a part, and only parts of the machine, while some set names none of them
-pub take_out_group_exactly : (group : ℕ) (d : Design) → (change_refusal (take_out_group group) d ≡ Accepted)
+pub take_out_group_exactly : (group : ℕ) (d : Design) → (change_refusal (take_out_group group) d ≡ Ok tt)
     ↔ ((0 < group) × (group < 2 ^ d.parts.count) × ((set : ℕ) × Memᴰ set d.sets × (meets group set ≡ false)))
 take_out_group_exactly group d = (
   λ accepted. let a = group_out_accepted group d accepted in (a.0, a.1, every_fails (meets group) d.sets a.2),
@@ -68,7 +65,7 @@ take_out_group_exactly group d = (
       let left : every (meets group) d.sets ≡ false =
       false_of (every (meets group) d.sets) (λ all. clash (every_elim (meets group) d.sets all good.2.1) good.2.2) in
       group_passed d.parts.count group (without_refusal group d) good.0 good.1
-      ∙ refuse_passed (every (meets group) d.sets) in_every_set 0 Accepted left,
+      ∙ refuse_passed (every (meets group) d.sets) InEverySet 0 (Ok tt) left,
 )
 
 -- of a position of the machine only 18 is left to be asked
@@ -89,28 +86,28 @@ position_is_group position bytes buffer s next read from to =
     ∙ ap (λ (r : Read Stored). changed_read (take_out_group (single position)) r buffer) (sym read)
 
 -- a set is added that has a part, and only parts of the machine
-pub add_set_exactly : (set : ℕ) (d : Design) → (change_refusal (add_set set) d ≡ Accepted) ↔ ((set < 2 ^ d.parts.count) × (0 < set))
+pub add_set_exactly : (set : ℕ) (d : Design) → (change_refusal (add_set set) d ≡ Ok tt) ↔ ((set < 2 ^ d.parts.count) × (0 < set))
 add_set_exactly set d = (
   set_accepted set d,
   λ good. simp (lt-leb (2 ^ d.parts.count) set good.0, ne_eqb set 0 (λ e. omega (arith, good.1))),
 )
 
 -- a change that nothing refuses is made wherever the buffer has room for the new record, whose bytes are then the front of it
-pub change_given : (change : Change) (bytes buffer : List ℕ) (s : Stored) (next : ℕ) → whole_stored bytes ≡ found s next → stored_refusal change s ≡ Accepted
-    → length (stored_bytes (changed_stored change s)) ≤ length buffer → (changed_record change bytes buffer).answer ≡ Length (length (stored_bytes (changed_stored change s)))
+pub change_given : (change : Change) (bytes buffer : List ℕ) (s : Stored) (next : ℕ) → whole_stored bytes ≡ found s next → stored_refusal change s ≡ Ok tt
+    → length (stored_bytes (changed_stored change s)) ≤ length buffer → (changed_record change bytes buffer).answer ≡ Ok (length (stored_bytes (changed_stored change s)))
 unfolding changed_record
 change_given change bytes buffer s next read accepted room =
     let result : List ℕ = stored_bytes (changed_stored change s) in
     ap (λ (r : Read Stored). (changed_read change r buffer).answer) read
-    ∙ sym (ap (λ (o : Outcome Written (List ℕ)). o.answer) (delivered_whole (stored_refusal change s) result buffer accepted (length result) refl _ refl room))
+    ∙ sym (ap (λ (o : Outcome Numbered (List ℕ)). o.answer) (delivered_whole (stored_refusal change s) result buffer accepted (length result) refl _ refl room))
 
 -- A change that writes the edition it read is refused by nothing but its design's refusals: 32 is for the way back alone.
 pub unconverted_refusal : (change : Change) (s : Stored) → edition_after change (edition_of s) ≡ edition_of s → stored_refusal change s ≡ change_refusal change (design_of s)
 unconverted_refusal change s same = ap (λ (e : Edition). and_then (change_refusal change (design_of s)) (back_refusal e (retired_in s))) same ∙ passed s (change_refusal change (design_of s))
   where
-    all : (v : Verdict) → and_then v Accepted ≡ v
-    all Accepted = refl
-    all (Refused why) = refl
+    all : (v : Verdict) → and_then v (Ok tt) ≡ v
+    all (Ok _) = refl
+    all (Err why) = refl
 
     passed : (s : Stored) (v : Verdict) → and_then v (back_refusal (edition_of s) (retired_in s)) ≡ v
     passed (first d) v = all v

@@ -7,9 +7,8 @@ use mathlib.Core.List.{List, [], ◌∷◌, ◌++◌}
 use mathlib.Core.Logic.{◌⊎◌, inl, inr, ⊎_elim}
 use Prim.Native.Nat.{ℕ}
 use native.Mathlib.Omega.{arith}
-use Rattle.answer.specs.declared.Written.{Written}
-use Rattle.answer.specs.declared.Written.TheVariants as written
-use Rattle.answer.specs.declared.Value.TheVariants as value
+use Rattle.std.specs.Prelude.{Ok, Err}
+use Rattle.answer.specs.Outcome.{Numbered}
 use Rattle.codec.specs.Bytes.{Bytes}
 use Rattle.codec.specs.Reads.{found}
 use Rattle.record_parts.specs.Lines.{In}
@@ -30,10 +29,10 @@ use Rattle.record_lines.proofs.Written.{made_stored}
 use Rattle.record_lines.proofs.Lines.{follows}
 
 -- the edition of what was read is the one that is given
-second_read_lem : (bytes : List ℕ) (s : Stored) (next : ℕ) → whole_stored bytes ≡ found s next → edition_given bytes ≡ value.Given 2 → edition_of s ≡ Second
+second_read_lem : (bytes : List ℕ) (s : Stored) (next : ℕ) → whole_stored bytes ≡ found s next → edition_given bytes ≡ Ok 2 → edition_of s ≡ Second
 second_read_lem bytes s next read two = cases (edition_of s) (sym (edition_read bytes s next read) ∙ two)
   where
-    cases : (edition : Edition) → value.Given (edition_number edition) ≡ value.Given 2 → edition ≡ Second
+    cases : (edition : Edition) → Ok (edition_number edition) ≡ Ok 2 → edition ≡ Second
     cases First e = let z : ◌≡◌ {A = ℕ} 1 2 = cc e in absurd (omega (arith, z))
     cases Second e = refl
 
@@ -57,27 +56,27 @@ filed_along (call ∷ calls) bytes s next read r two number i =
     cases (outcome_of call bytes).answer refl two.1 (λ k. filed_along calls bytes s next read r k number) (λ n now t k q rest. filed_along calls now t n k q rest number) i
   where
     -- the rest of the line behind an answer
-    now : Written → List ℕ
+    now : Numbered → List ℕ
     now answer = record_after answer (outcome_of call bytes).buffer bytes
 
-    made : Written → List Change
+    made : Numbered → List Change
     made answer = unless_refused answer call.change ++ made_by calls (now answer)
 
-    first_second : (calls : List Call) (bytes : List ℕ) → SecondThroughout calls bytes → edition_given bytes ≡ value.Given 2
+    first_second : (calls : List Call) (bytes : List ℕ) → SecondThroughout calls bytes → edition_given bytes ≡ Ok 2
     first_second [] bytes h = h
     first_second (c ∷ cs) bytes h = h.0
 
-    cases : (answer : Written) → (outcome_of call bytes).answer ≡ answer → SecondThroughout calls (now answer)
+    cases : (answer : Numbered) → (outcome_of call bytes).answer ≡ answer → SecondThroughout calls (now answer)
         → (SecondThroughout calls bytes → In number (left_by calls bytes (design_of s)) ⊎ Filed number (retired_in s) → Filed number (retired_in (stored_after (made_by calls bytes) s)))
         → ((n : ℕ) (now : List ℕ) (t : Stored) → whole_stored now ≡ found t n → StoredRules t → SecondThroughout calls now
         → In number (left_by calls now (design_of t)) ⊎ Filed number (retired_in t) → Filed number (retired_in (stored_after (made_by calls now) t)))
         → In number (along left_in (made answer) (design_of s)) ⊎ Filed number (retired_in s) → Filed number (retired_in (stored_after (made answer) s))
-    cases (written.Refused refusal) e rest same later i = same rest i
-    cases (written.Length n) e rest same later i =
+    cases (Err refusal) e rest same later i = same rest i
+    cases (Ok n) e rest same later i =
         let change : Change = call.change in
         let m = made_stored change bytes call.buffer n e s next read r in
         let t : Stored = changed_stored change s in
-        let after_bytes : List ℕ = now (written.Length n) in
+        let after_bytes : List ℕ = now (Ok n) in
         let here : edition_of t ≡ Second = second_read_lem after_bytes t n m.accepted_again (first_second calls after_bytes rest) in
         let moved : (x : Design) → design_of t ≡ x → In number (along left_in (made_by calls after_bytes) x) → In number (left_by calls after_bytes (design_of t)) =
         λ x same j. subst (λ (y : Design). In number (along left_in (made_by calls after_bytes) y)) (sym same) j in

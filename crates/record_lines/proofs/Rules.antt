@@ -12,11 +12,10 @@ use native.Mathlib.Omega.{arith}
 use borrow.Author.Tests.{eqb-true, eqb-false, ltb-false, leb-false}
 use lib.Dec.{eqb, ltb, leb}
 use lib.ListN.{length, length-append}
-use Rattle.answer.specs.Refusals.{unknown_part, empty_set, unknown_position, in_every_set, full_machine, numbers_spent}
-use Rattle.answer.specs.Outcome.{refuse, and_then}
+use Rattle.std.specs.Prelude.{Ok, Err}
+use Rattle.answer.specs.declared.Reason.TheVariants.{UnknownPart, EmptySet, UnknownPosition, InEverySet, FullMachine, NumbersSpent}
+use Rattle.answer.specs.Outcome.{refuse, and_then, Verdict}
 use Rattle.answer.specs.declared.Refusal.{Refusal}
-use Rattle.answer.specs.declared.Verdict.{Verdict}
-use Rattle.answer.specs.declared.Verdict.TheVariants.{Accepted, Refused}
 use Rattle.answer.proofs.Outcomes.{refuse_accepted, refuse_held, then_accepted}
 use Rattle.answer.proofs.Checks.{group_right, group_refused}
 use Rattle.numbers.specs.Tables.{tabulate}
@@ -47,10 +46,10 @@ use Rattle.record_lines.proofs.TakenOut.{sets_without_rules}
 
 -- ---- what an accepted change may rest on
 
-pub add_accepted : (list : PartList) → WellFormed list → add_refusal list ≡ Accepted → (list.count < most_parts) × (list.mark < top_number)
+pub add_accepted : (list : PartList) → WellFormed list → add_refusal list ≡ Ok tt → (list.count < most_parts) × (list.mark < top_number)
 add_accepted list w accepted =
-    let s = refuse_accepted (eqb list.count most_parts) full_machine 0 _ accepted in
-    let t = refuse_accepted (eqb list.mark top_number) numbers_spent 0 Accepted s.1 in
+    let s = refuse_accepted (eqb list.count most_parts) FullMachine 0 _ accepted in
+    let t = refuse_accepted (eqb list.mark top_number) NumbersSpent 0 (Ok tt) s.1 in
     (omega (arith, eqb-false list.count most_parts s.0, w.rules.few), omega (arith, eqb-false list.mark top_number t.0, w.rules.top))
 
 pub record TakeOutAccepted (position : ℕ) (d : Design) : Type 0 where
@@ -58,12 +57,12 @@ pub record TakeOutAccepted (position : ℕ) (d : Design) : Type 0 where
   pub to : position ≤ d.parts.count
   pub left : every (meets (single position)) d.sets ≡ false
 
-pub take_out_accepted : (position : ℕ) (d : Design) → take_out_refusal position d ≡ Accepted → TakeOutAccepted position d
+pub take_out_accepted : (position : ℕ) (d : Design) → take_out_refusal position d ≡ Ok tt → TakeOutAccepted position d
 take_out_accepted position d accepted =
     let n : ℕ = d.parts.count in
-    let s = refuse_accepted (eqb position 0) unknown_position 0 _ accepted in
-    let t = refuse_accepted (ltb n position) unknown_position 0 _ s.1 in
-    let u = refuse_accepted (every (meets (single position)) d.sets) in_every_set 0 Accepted t.1 in
+    let s = refuse_accepted (eqb position 0) UnknownPosition 0 _ accepted in
+    let t = refuse_accepted (ltb n position) UnknownPosition 0 _ s.1 in
+    let u = refuse_accepted (every (meets (single position)) d.sets) InEverySet 0 (Ok tt) t.1 in
     record { from = pos_of_ne-zero (eqb-false position 0 s.0); to = ltb-false n position t.0; left = u.0 }
 
 -- ---- the rules
@@ -83,20 +82,20 @@ sets_more n sets r =
 pub listed_rules : (n : ℕ) (sets : List ℕ) → n ≤ 16 → 1 ≤ length sets → ((b : ℕ) → Memᴰ b sets → (b < 2 ^ n) × (0 < b)) → SetRules n (minimal_sets n (listed sets))
 listed_rules n sets few some good = minimal_set_rules n (listed sets) few (listed_semicoherent n sets some good)
 
-pub set_accepted : (set : ℕ) (d : Design) → add_set_refusal set d ≡ Accepted → (set < 2 ^ d.parts.count) × (0 < set)
+pub set_accepted : (set : ℕ) (d : Design) → add_set_refusal set d ≡ Ok tt → (set < 2 ^ d.parts.count) × (0 < set)
 set_accepted set d accepted =
-    let s = refuse_accepted (leb (2 ^ d.parts.count) set) unknown_part 0 _ accepted in
-    let t = refuse_accepted (eqb set 0) empty_set 0 Accepted s.1 in
+    let s = refuse_accepted (leb (2 ^ d.parts.count) set) UnknownPart 0 _ accepted in
+    let t = refuse_accepted (eqb set 0) EmptySet 0 (Ok tt) s.1 in
     (leb-false (2 ^ d.parts.count) set s.0, pos_of_ne-zero (eqb-false set 0 t.0))
 
-pub with_set_within : (set : ℕ) (d : Design) → DesignRules d → add_set_refusal set d ≡ Accepted → (b : ℕ) → Memᴰ b (set ∷ d.sets) → (b < 2 ^ d.parts.count) × (0 < b)
+pub with_set_within : (set : ℕ) (d : Design) → DesignRules d → add_set_refusal set d ≡ Ok tt → (b : ℕ) → Memᴰ b (set ∷ d.sets) → (b < 2 ^ d.parts.count) × (0 < b)
 with_set_within set d r accepted b m =
     ⊎_elim
     (λ (e : b ≡ set). rw e (set_accepted set d accepted))
     (λ (k : Memᴰ b d.sets). r.sets.within b k)
     (Memᴰ.cases_cons m)
 
-pub added_count : (list : PartList) → WellFormed list → add_refusal list ≡ Accepted → (part_added list).list.count ≡ suc list.count
+pub added_count : (list : PartList) → WellFormed list → add_refusal list ≡ Ok tt → (part_added list).list.count ≡ suc list.count
 added_count list w accepted =
     let a = add_accepted list w accepted in
     let issued = list.mark + 1 in
@@ -120,16 +119,16 @@ without_rules group d r left =
     some_part (suc n) (x ∷ xs) r = omega arith
 
 -- a group is taken out that has a part, and only parts of the machine, while some set names none of them
-pub group_out_accepted : (group : ℕ) (d : Design) → take_out_group_refusal group d ≡ Accepted → (0 < group) × (group < 2 ^ d.parts.count) × (every (meets group) d.sets ≡ false)
+pub group_out_accepted : (group : ℕ) (d : Design) → take_out_group_refusal group d ≡ Ok tt → (0 < group) × (group < 2 ^ d.parts.count) × (every (meets group) d.sets ≡ false)
 group_out_accepted group d accepted =
     let g = group_right d.parts.count group (without_refusal group d) accepted in
-    (g.0, g.1, (refuse_accepted (every (meets group) d.sets) in_every_set 0 Accepted g.2).0)
+    (g.0, g.1, (refuse_accepted (every (meets group) d.sets) InEverySet 0 (Ok tt) g.2).0)
 
 -- What the part list refuses, the record refuses by the same number: 15 and 16, and 18 where no part is left, since then no set is.
-pub group_out_agrees : (group : ℕ) (d : Design) → DesignRules d → (refusal : Refusal) → parts.take_out_group_refusal d.parts group ≡ Refused refusal
-    → take_out_group_refusal group d ≡ Refused refusal
+pub group_out_agrees : (group : ℕ) (d : Design) → DesignRules d → (refusal : Refusal) → parts.take_out_group_refusal d.parts group ≡ Err refusal
+    → take_out_group_refusal group d ≡ Err refusal
 group_out_agrees group d r refusal refused =
-    group_refused d.parts.count group (refuse (eqb left 0) in_every_set 0 Accepted) (without_refusal group d) refusal refused (last (eqb left 0) refl)
+    group_refused d.parts.count group (refuse (eqb left 0) InEverySet 0 (Ok tt)) (without_refusal group d) refusal refused (last (eqb left 0) refl)
   where
     left : ℕ
     left = length (others (numbers_of d.parts) group)
@@ -138,12 +137,12 @@ group_out_agrees group d r refusal refused =
     all_gone none true e = e
     all_gone none false e = absurd (omega (arith, (without_rules group d r e).parts.rules.some))
 
-    last : (p : Bool) → eqb left 0 ≡ p → refuse p in_every_set 0 Accepted ≡ Refused refusal → without_refusal group d ≡ Refused refusal
+    last : (p : Bool) → eqb left 0 ≡ p → refuse p InEverySet 0 (Ok tt) ≡ Err refusal → without_refusal group d ≡ Err refusal
     last true e refused =
-        refuse_held (every (meets group) d.sets) in_every_set 0 Accepted (all_gone (eqb-true left 0 e) (every (meets group) d.sets) refl) ∙ refused
+        refuse_held (every (meets group) d.sets) InEverySet 0 (Ok tt) (all_gone (eqb-true left 0 e) (every (meets group) d.sets) refl) ∙ refused
     last false e refused = let z : ◌≡◌ {A = ℕ} 0 1 = cc in absurd (omega arith)
 
-pub changed_rules : (change : Change) (d : Design) → DesignRules d → change_refusal change d ≡ Accepted → DesignRules (changed change d)
+pub changed_rules : (change : Change) (d : Design) → DesignRules d → change_refusal change d ≡ Ok tt → DesignRules (changed change d)
 changed_rules add_part d r accepted =
     record {
       parts = (line_one lines.add_part d.parts r.parts).well_formed;
@@ -164,7 +163,7 @@ changed_rules (convert edition) d r accepted = r
 accepted_sets : (n : ℕ) (list : List ℕ) → AcceptedList n list → SetRules n (minimal_sets n (listed list))
 accepted_sets n list a = listed_rules n list a.few a.any_set a.sets
 
-pub entered_rules : (mark : ℕ) (numbers list : List ℕ) → entered_refusal mark numbers list ≡ Accepted → DesignRules (entered_design mark numbers list)
+pub entered_rules : (mark : ℕ) (numbers list : List ℕ) → entered_refusal mark numbers list ≡ Ok tt → DesignRules (entered_design mark numbers list)
 entered_rules mark numbers list accepted =
     let n : ℕ = length numbers in
     let t = then_accepted (list_refusal n list) (numbers_refusal 0 mark 0 numbers) accepted in
@@ -192,7 +191,7 @@ module _ (n : ℕ) (list : List ℕ) where
   first_design_entered = ap (λ (k : ℕ). design (list_of n first) (minimal_sets k (listed list))) (sym (tabulate_length n (λ i. i + 1)))
 
   -- 1 to n are right numbers under the mark n
-  first_right : list_refusal n list ≡ Accepted → numbers_refusal 0 n 0 first ≡ Accepted
+  first_right : list_refusal n list ≡ Ok tt → numbers_refusal 0 n 0 first ≡ Ok tt
   first_right accepted =
       let a = accepted_list n list accepted in
       sym (refusal_counted n n first (λ none. omega (arith, a.some)) a.few)
@@ -204,9 +203,9 @@ module _ (n : ℕ) (list : List ℕ) where
       cases (list_refusal n list) refl ∙ ap (λ (k : ℕ). and_then (list_refusal k list) (numbers_refusal 0 n 0 first)) (sym (tabulate_length n (λ i. i + 1)))
     where
       cases : (v : Verdict) → list_refusal n list ≡ v → v ≡ and_then v (numbers_refusal 0 n 0 first)
-      cases (Refused why) e = refl
-      cases Accepted e = sym (first_right e)
+      cases (Err why) e = refl
+      cases (Ok _) e = sym (first_right e)
 
-  pub first_rules : list_refusal n list ≡ Accepted → DesignRules (first_design n list)
+  pub first_rules : list_refusal n list ≡ Ok tt → DesignRules (first_design n list)
   first_rules accepted =
       subst DesignRules (sym first_design_entered) (entered_rules n first list (sym first_refusal_entered ∙ accepted))

@@ -11,7 +11,7 @@ use native.Mathlib.Nat.{lt_of_le_of_lt}
 use borrow.Author.Tests.{not-true}
 use lib.Dec.{eqb}
 use lib.ListN.{length, get_or}
-use Rattle.answer.specs.declared.Verdict.TheVariants.{Accepted}
+use Rattle.std.specs.Prelude.{Ok}
 use Rattle.theory_sums.specs.Sums.{some}
 use Rattle.record_numbers.specs.Numbering.{named, names}
 use Rattle.record_parts.specs.PartLists.{numbers_of}
@@ -71,7 +71,7 @@ runs_listed d r working =
     listed_each (numbers_of d.parts) working d.sets (λ a m. rw (well_formed_counted d.parts r.parts) (r.sets.within a m).0)
 
 -- a new part changes nothing
-pub added_runs : (d : Design) → DesignRules d → change_refusal add_part d ≡ Accepted → (working : ℕ → Bool) → runs (changed add_part d) working ≡ runs d working
+pub added_runs : (d : Design) → DesignRules d → change_refusal add_part d ≡ Ok tt → (working : ℕ → Bool) → runs (changed add_part d) working ≡ runs d working
 added_runs d r accepted working = ap (some (every working)) (added_names d r accepted)
 
 -- all parts of a set that names none of the numbers that are gone work exactly if they do with these failed; those of one that names one do not
@@ -113,7 +113,7 @@ without_runs group d r working =
     ap (some (every working)) (without_named group d r) ∙ held_failed (named (numbers_of d.parts) group) working (named_sets d)
 
 -- so the structure after the part with number p is taken out is the old one with p held failed
-pub taken_out_runs : (position : ℕ) (d : Design) → DesignRules d → change_refusal (take_out position) d ≡ Accepted → (working : ℕ → Bool)
+pub taken_out_runs : (position : ℕ) (d : Design) → DesignRules d → change_refusal (take_out position) d ≡ Ok tt → (working : ℕ → Bool)
     → runs (changed (take_out position) d) working ≡ runs d (λ number. working number && not (eqb number (part_number_at d position)))
 unfolding some
 taken_out_runs position d r accepted working =
@@ -122,7 +122,7 @@ taken_out_runs position d r accepted working =
     ∙ simp or_false
 
 -- and after a set is added the machine runs also while all parts of it work
-pub with_set_runs : (set : ℕ) (d : Design) → DesignRules d → change_refusal (add_set set) d ≡ Accepted → (working : ℕ → Bool)
+pub with_set_runs : (set : ℕ) (d : Design) → DesignRules d → change_refusal (add_set set) d ≡ Ok tt → (working : ℕ → Bool)
     → runs (changed (add_set set) d) working ≡ every working (named (numbers_of d.parts) set) || runs d working
 unfolding some
 with_set_runs set d r accepted working = same_test (some (every working) (map (named numbers) least)) (some (every working) (map (named numbers) sets)) there back

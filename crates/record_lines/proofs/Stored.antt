@@ -7,7 +7,7 @@ use mathlib.Core.List.{List, []}
 use mathlib.Core.Logic.{⊎_elim}
 use Prim.Native.Nat.{ℕ}
 use native.Mathlib.Omega.{arith}
-use Rattle.answer.specs.declared.Verdict.TheVariants.{Accepted}
+use Rattle.std.specs.Prelude.{Ok}
 use Rattle.answer.proofs.Outcomes.{then_accepted}
 use Rattle.record_numbers.specs.Numbering.{RisingWithin}
 use Rattle.record_parts.specs.PartLists.{numbers_of}
@@ -87,7 +87,7 @@ left_used (add_set set) d number i = absurd (Memᴰ.not-nil i)
 left_used (convert edition) d number i = absurd (Memᴰ.not-nil i)
 
 -- filed behind the others they keep the rules of the changed design: a number that is issued is above every retired one
-filed_after : (change : Change) (d : Design) (retired : List ℕ) → DesignRules d → change_refusal change d ≡ Accepted → RetiredRules d.parts.mark (numbers_of d.parts) retired
+filed_after : (change : Change) (d : Design) (retired : List ℕ) → DesignRules d → change_refusal change d ≡ Ok tt → RetiredRules d.parts.mark (numbers_of d.parts) retired
     → RetiredRules (changed change d).parts.mark (numbers_of (changed change d).parts) (filed_all (left_in change d) retired)
 filed_after change d retired r accepted q =
     let line = (design_line_one change d r accepted).parts in
@@ -114,7 +114,7 @@ in_rules : (edition : Edition) (d : Design) (retired : List ℕ) → DesignRules
 in_rules First d retired r q = r
 in_rules Second d retired r q = (r, q)
 
-pub stored_rules : (change : Change) (s : Stored) → StoredRules s → stored_refusal change s ≡ Accepted → StoredRules (changed_stored change s)
+pub stored_rules : (change : Change) (s : Stored) → StoredRules s → stored_refusal change s ≡ Ok tt → StoredRules (changed_stored change s)
 unfolding changed_stored
 stored_rules change s r accepted =
     let d : Design = design_of s in
@@ -125,17 +125,17 @@ stored_rules change s r accepted =
 -- ---- conversions
 
 -- a record already of the edition asked for stays as it is, and nothing refuses that
-pub same_edition : (s : Stored) → (stored_refusal (convert (edition_of s)) s ≡ Accepted) × (changed_stored (convert (edition_of s)) s ≡ s)
+pub same_edition : (s : Stored) → (stored_refusal (convert (edition_of s)) s ≡ Ok tt) × (changed_stored (convert (edition_of s)) s ≡ s)
 unfolding changed_stored filed_all
 same_edition (first d) = (refl, refl)
 same_edition (second d retired) = (refl, refl)
 
 -- to edition 2 a design comes with no retired numbers
-pub to_second : (d : Design) → (stored_refusal (convert Second) (first d) ≡ Accepted) × (changed_stored (convert Second) (first d) ≡ second d [])
+pub to_second : (d : Design) → (stored_refusal (convert Second) (first d) ≡ Ok tt) × (changed_stored (convert Second) (first d) ≡ second d [])
 unfolding changed_stored filed_all
 to_second d = (refl, refl)
 
 -- and back only with none
-pub to_first : (d : Design) → (stored_refusal (convert First) (second d []) ≡ Accepted) × (changed_stored (convert First) (second d []) ≡ first d)
+pub to_first : (d : Design) → (stored_refusal (convert First) (second d []) ≡ Ok tt) × (changed_stored (convert First) (second d []) ≡ first d)
 unfolding changed_stored
 to_first d = (refl, refl)

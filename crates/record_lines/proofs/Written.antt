@@ -6,11 +6,8 @@ use mathlib.Core.List.{List}
 use Prim.Native.Nat.{ℕ, ◌+◌}
 use native.Mathlib.Omega.{arith}
 use lib.ListN.{take}
-use Rattle.answer.specs.Outcome.{Outcome, outcome, delivered}
-use Rattle.answer.specs.declared.Verdict.{Verdict}
-use Rattle.answer.specs.declared.Verdict.TheVariants as verdict
-use Rattle.answer.specs.declared.Written.{Written}
-use Rattle.answer.specs.declared.Written.TheVariants as written
+use Rattle.std.specs.Prelude.{Ok}
+use Rattle.answer.specs.Outcome.{Outcome, outcome, delivered, Numbered, Verdict}
 use Rattle.answer.proofs.Outcomes.{then_accepted}
 use Rattle.answer.proofs.Deliveries.{Given, given}
 use Rattle.codec.specs.Bytes.{Bytes}
@@ -28,22 +25,22 @@ use Rattle.record_lines.proofs.Rules.{changed_rules, entered_rules, first_refusa
 
 -- What a change that was made means: nothing refused it; what it gives keeps the rules, stands in front of the buffer in its byte form, and
 -- is read again as that record.
-pub record Made (change : Change) (s : Stored) (outcome : Outcome Written (List ℕ)) (n : ℕ) : Type 0 where
-  pub accepted : stored_refusal change s ≡ verdict.Accepted
+pub record Made (change : Change) (s : Stored) (outcome : Outcome Numbered (List ℕ)) (n : ℕ) : Type 0 where
+  pub accepted : stored_refusal change s ≡ Ok tt
   pub again : StoredRules (changed_stored change s)
   pub written : take n outcome.buffer ≡ stored_bytes (changed_stored change s)
   pub accepted_again : whole_stored (take n outcome.buffer) ≡ found (changed_stored change s) n
 
-module _ (change : Change) (bytes buffer : List ℕ) (n : ℕ) (e : (changed_record change bytes buffer).answer ≡ written.Length n) where
+module _ (change : Change) (bytes buffer : List ℕ) (n : ℕ) (e : (changed_record change bytes buffer).answer ≡ Ok n) where
   -- a change of a record that was read
   pub made_stored : (s : Stored) (next : ℕ) → whole_stored bytes ≡ found s next → StoredRules s → Made change s (changed_record change bytes buffer) n
   unfolding changed_record
   made_stored s next read rules = rw read (made (rw read at e))
     where
-      made : (changed_read change (found s next) buffer).answer ≡ written.Length n → Made change s (changed_read change (found s next) buffer) n
+      made : (changed_read change (found s next) buffer).answer ≡ Ok n → Made change s (changed_read change (found s next) buffer) n
       made e =
           let left = (changed_read change (found s next) buffer).buffer in
-          let g = given (stored_refusal change s) (stored_bytes (changed_stored change s)) buffer left n (ap (λ (w : Written). outcome w left) (sym e)) in
+          let g = given (stored_refusal change s) (stored_bytes (changed_stored change s)) buffer left n (ap (λ (w : Numbered). outcome w left) (sym e)) in
           let again = stored_rules change s rules g.accepted in
           record {
             accepted = g.accepted;
@@ -57,7 +54,7 @@ module _ (change : Change) (bytes buffer : List ℕ) (n : ℕ) (e : (changed_rec
   unfolding changed_record
   made_of = cases (whole_stored bytes) refl e
     where
-      cases : (read : Read Stored) → whole_stored bytes ≡ read → (changed_read change read buffer).answer ≡ written.Length n → (s : Stored) × (next : ℕ) × (whole_stored bytes ≡ found s next)
+      cases : (read : Read Stored) → whole_stored bytes ≡ read → (changed_read change read buffer).answer ≡ Ok n → (s : Stored) × (next : ℕ) × (whole_stored bytes ≡ found s next)
       cases (refused r) here e = let z : ◌≡◌ {A = ℕ} 0 1 = cc in absurd (omega arith)
       cases (found s next) here e = (s, next, here)
 
@@ -69,7 +66,7 @@ module _ (change : Change) (bytes buffer : List ℕ) (n : ℕ) (e : (changed_rec
 
   -- and its design is the changed design, whatever the edition
   pub record DesignMade (d : Design) : Type 0 where
-    pub accepted : change_refusal change d ≡ verdict.Accepted
+    pub accepted : change_refusal change d ≡ Ok tt
     pub again : DesignRules (changed change d)
     pub accepted_again : whole_record (take n (changed_record change bytes buffer).buffer) ≡ found (changed change d) n
 
@@ -92,13 +89,13 @@ module _ (change : Change) (bytes buffer : List ℕ) (n : ℕ) (e : (changed_rec
 
 -- ---- records to start from
 
-module _ (mark : ℕ) (numbers list buffer : List ℕ) (k : ℕ) (e : (entered_record mark numbers list buffer).answer ≡ written.Length k) where
+module _ (mark : ℕ) (numbers list buffer : List ℕ) (k : ℕ) (e : (entered_record mark numbers list buffer).answer ≡ Ok k) where
   made_entered : Given (entered_refusal mark numbers list) (record_bytes (entered_design mark numbers list)) buffer (entered_record mark numbers list buffer).buffer k
   unfolding entered_record
   made_entered =
       let bytes = record_bytes (entered_design mark numbers list) in
       let left = (delivered (entered_refusal mark numbers list) bytes buffer).buffer in
-      given (entered_refusal mark numbers list) bytes buffer left k (ap (λ (w : Written). outcome w left) (sym e))
+      given (entered_refusal mark numbers list) bytes buffer left k (ap (λ (w : Numbered). outcome w left) (sym e))
 
   pub entered_keeps : DesignRules (entered_design mark numbers list)
   entered_keeps = entered_rules mark numbers list made_entered.accepted
@@ -120,9 +117,9 @@ first_entered n list buffer =
     ap₂ (λ (v : Verdict) (d : Design). delivered v (record_bytes d) buffer) (first_refusal_entered n list) (first_design_entered n list)
 
 -- so a first record is accepted, and read as the first design
-pub first_read_lem : (n : ℕ) (list buffer : List ℕ) (k : ℕ) → (first_record n list buffer).answer ≡ written.Length k → whole_record (take k (first_record n list buffer).buffer) ≡ found (first_design n list) k
+pub first_read_lem : (n : ℕ) (list buffer : List ℕ) (k : ℕ) → (first_record n list buffer).answer ≡ Ok k → whole_record (take k (first_record n list buffer).buffer) ≡ found (first_design n list) k
 first_read_lem n list buffer k e =
     let same = first_entered n list buffer in
-    ap (λ (o : Outcome Written (List ℕ)). whole_record (take k o.buffer)) same
-    ∙ entered_read n (tabulate n (λ i. i + 1)) list buffer k (ap (λ (o : Outcome Written (List ℕ)). o.answer) (sym same) ∙ e)
+    ap (λ (o : Outcome Numbered (List ℕ)). whole_record (take k o.buffer)) same
+    ∙ entered_read n (tabulate n (λ i. i + 1)) list buffer k (ap (λ (o : Outcome Numbered (List ℕ)). o.answer) (sym same) ∙ e)
     ∙ ap (λ (d : Design). found d k) (sym (first_design_entered n list))

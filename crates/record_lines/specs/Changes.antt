@@ -1,11 +1,9 @@
 -- Changes of a design (01, "Records on disk"; 02, §2 and §8): add part, take out the part at a position or the parts of a group, add set, and
 -- another edition, which leaves the design as it is; and designs to start from.
-use Rattle.std.specs.Prelude.{Bool, true, not, cond, ◌&&◌, List, [], ◌∷◌, map, ℕ, ◌+◌, ltb, eqb, length}
-use Rattle.answer.specs.Refusals.{unknown_position, in_every_set}
-use Rattle.answer.specs.Outcome.{refuse}
+use Rattle.std.specs.Prelude.{Bool, true, not, cond, ◌&&◌, List, [], ◌∷◌, map, ℕ, ◌+◌, ltb, eqb, length, Ok}
+use Rattle.answer.specs.declared.Reason.TheVariants.{UnknownPosition, InEverySet}
+use Rattle.answer.specs.Outcome.{refuse, Verdict}
 use Rattle.answer.specs.Checks.{mask_refusal, group_refusal}
-use Rattle.answer.specs.declared.Verdict.{Verdict}
-use Rattle.answer.specs.declared.Verdict.TheVariants as verdict
 use Rattle.numbers.specs.Tables.{tabulate}
 use Rattle.record_parts.specs.PartLists.{numbers_of, list_of}
 use Rattle.record_numbers.specs.Numbering.{most_parts, named}
@@ -48,13 +46,13 @@ design_without group d = design (list_without group d.parts) (sets_without group
 
 -- 18: every set names a part of the group
 abbrev pub without_refusal : ℕ → Design → Verdict
-without_refusal group d = refuse (every (meets group) d.sets) in_every_set 0 verdict.Accepted
+without_refusal group d = refuse (every (meets group) d.sets) InEverySet 0 (Ok tt)
 
 -- 17: the position is not 1 to n; then 18 for the part at it
 abbrev pub take_out_refusal : ℕ → Design → Verdict
 take_out_refusal position d =
-    refuse (eqb position 0) unknown_position 0
-    (refuse (ltb d.parts.count position) unknown_position 0 (without_refusal (single position) d))
+    refuse (eqb position 0) UnknownPosition 0
+    (refuse (ltb d.parts.count position) UnknownPosition 0 (without_refusal (single position) d))
 
 -- 15 and 16 of the group, in the place of 17; then 18
 abbrev pub take_out_group_refusal : ℕ → Design → Verdict
@@ -62,7 +60,7 @@ take_out_group_refusal group d = group_refusal d.parts.count group (without_refu
 
 -- a set that is added to a machine of n parts, 4: bit n or above; 5: mask 0
 abbrev pub new_set_refusal : ℕ → ℕ → Verdict
-new_set_refusal n set = mask_refusal n 0 set verdict.Accepted
+new_set_refusal n set = mask_refusal n 0 set (Ok tt)
 
 abbrev pub add_set_refusal : ℕ → Design → Verdict
 add_set_refusal set d = new_set_refusal d.parts.count set
@@ -73,7 +71,7 @@ change_refusal add_part d = add_refusal d.parts
 change_refusal (take_out position) d = take_out_refusal position d
 change_refusal (take_out_group group) d = take_out_group_refusal group d
 change_refusal (add_set set) d = add_set_refusal set d
-change_refusal (convert edition) d = verdict.Accepted
+change_refusal (convert edition) d = (Ok tt)
 
 -- ---- what a change gives where nothing refuses it
 

@@ -1,11 +1,8 @@
 -- Lines of changes (01, "Records on disk"; 02, §2 and §8): a line starts from one record, and each change is applied to what the last one gave.
 -- The records along a line may be of either edition, and a line may convert them on the way.
-use Rattle.std.specs.Prelude.{Bool, true, ◌⊎◌, ◌≡◌, ℕ, ◌^◌, ◌<◌, length, take}
+use Rattle.std.specs.Prelude.{Bool, true, ◌⊎◌, ◌≡◌, ℕ, ◌^◌, ◌<◌, length, take, Ok, Err}
 use mathlib.Core.List.{List, [], ◌∷◌, ◌++◌, Memᴰ}
-use Rattle.answer.specs.Outcome.{Outcome}
-use Rattle.answer.specs.declared.Value.TheVariants as value
-use Rattle.answer.specs.declared.Written.{Written}
-use Rattle.answer.specs.declared.Written.TheVariants as written
+use Rattle.answer.specs.Outcome.{Outcome, Numbered}
 use Rattle.record_numbers.specs.Numbering.{named}
 use Rattle.record_parts.specs.PartLists.{numbers_of}
 use Rattle.record_parts.specs.Lines.{In, Line, given_number}
@@ -27,13 +24,13 @@ pub record Call : Type 0 where
   pub buffer : List ℕ
 
 -- what a call leaves, by the definition that the entries' contracts cite
-abbrev pub outcome_of : Call → List ℕ → Outcome Written (List ℕ)
+abbrev pub outcome_of : Call → List ℕ → Outcome Numbered (List ℕ)
 outcome_of call bytes = changed_record call.change bytes call.buffer
 
 -- the record after an answer: what was written, and the bytes as they were where the change was refused
-abbrev pub record_after : Written → List ℕ → List ℕ → List ℕ
-record_after (written.Length n) buffer bytes = take n buffer
-record_after (written.Refused r) buffer bytes = bytes
+abbrev pub record_after : Numbered → List ℕ → List ℕ → List ℕ
+record_after (Ok n) buffer bytes = take n buffer
+record_after (Err r) buffer bytes = bytes
 
 abbrev pub after : Call → List ℕ → List ℕ
 after call bytes = record_after (outcome_of call bytes).answer (outcome_of call bytes).buffer bytes
@@ -44,9 +41,9 @@ last_of [] bytes = bytes
 last_of (call ∷ calls) bytes = last_of calls (after call bytes)
 
 -- the changes made along a line: those that were not refused
-abbrev pub unless_refused : Written → Change → List Change
-unless_refused (written.Length n) change = change ∷ []
-unless_refused (written.Refused r) change = []
+abbrev pub unless_refused : Numbered → Change → List Change
+unless_refused (Ok n) change = change ∷ []
+unless_refused (Err r) change = []
 
 abbrev pub made_by : List Call → List ℕ → List Change
 made_by [] bytes = []
@@ -125,8 +122,8 @@ stored_after (change ∷ changes) s = stored_after changes (changed_stored chang
 
 -- a line whose records are all of edition 2, by what `edition_of` answers
 abbrev pub SecondThroughout : List Call → List ℕ → Type 0
-SecondThroughout [] bytes = edition_given bytes ≡ value.Given 2
-SecondThroughout (call ∷ calls) bytes = (edition_given bytes ≡ value.Given 2) × SecondThroughout calls (after call bytes)
+SecondThroughout [] bytes = edition_given bytes ≡ Ok 2
+SecondThroughout (call ∷ calls) bytes = (edition_given bytes ≡ Ok 2) × SecondThroughout calls (after call bytes)
 
 -- what becomes of a number that is filed: it is one of the retired numbers, or there are 64 of these and all are higher
 abbrev pub Filed : ℕ → List ℕ → Type 0

@@ -1,11 +1,8 @@
 -- Changes of record bytes (01, "Records on disk"): the whole record is checked as a reader checks it, then the change, then the new record is
 -- written.
-use Rattle.std.specs.Prelude.{List, [], ◌∷◌, ℕ, length}
-use Rattle.answer.specs.Refusals.{retired_present}
-use Rattle.answer.specs.Outcome.{Outcome, at, and_then, delivered}
-use Rattle.answer.specs.declared.Verdict.{Verdict}
-use Rattle.answer.specs.declared.Verdict.TheVariants as verdict
-use Rattle.answer.specs.declared.Written.{Written}
+use Rattle.std.specs.Prelude.{List, [], ◌∷◌, ℕ, length, Ok, Err}
+use Rattle.answer.specs.declared.Reason.TheVariants.{RetiredPresent}
+use Rattle.answer.specs.Outcome.{Outcome, at, and_then, delivered, Numbered, Verdict}
 use Rattle.structure.specs.Checks.{list_refusal}
 use Rattle.record_numbers.specs.Numbering.{numbers_refusal}
 use Rattle.codec.specs.Reads.{Read, found, refused}
@@ -35,9 +32,9 @@ in_edition Second d retired = second d retired
 
 -- 32: retired numbers present on the way back
 abbrev pub back_refusal : Edition → List ℕ → Verdict
-back_refusal First [] = verdict.Accepted
-back_refusal First (number ∷ numbers) = verdict.Refused (at retired_present 0)
-back_refusal Second retired = verdict.Accepted
+back_refusal First [] = (Ok tt)
+back_refusal First (number ∷ numbers) = Err (at RetiredPresent 0)
+back_refusal Second retired = (Ok tt)
 
 -- what refuses a change of a record: the refusals of its design, and then 32
 abbrev pub stored_refusal : Change → Stored → Verdict
@@ -50,17 +47,17 @@ changed_stored change s =
 
 -- A change of what was read, for a lent buffer: the reader's refusal, or the change's, or the new record's bytes or 11. The path counts of what is
 -- written in edition 2 are counted afresh (`stored_bytes`).
-abbrev pub changed_read : Change → Read Stored → List ℕ → Outcome Written (List ℕ)
-changed_read change (refused r) buffer = delivered (verdict.Refused r) [] buffer
+abbrev pub changed_read : Change → Read Stored → List ℕ → Outcome Numbered (List ℕ)
+changed_read change (refused r) buffer = delivered (Err r) [] buffer
 changed_read change (found s next) buffer = delivered (stored_refusal change s) (stored_bytes (changed_stored change s)) buffer
 
-unfoldable pub changed_record : Change → List ℕ → List ℕ → Outcome Written (List ℕ)
+unfoldable pub changed_record : Change → List ℕ → List ℕ → Outcome Numbered (List ℕ)
 changed_record change bytes buffer = changed_read change (whole_stored bytes) buffer
 
 -- ---- records to start from, of edition 1
 
 -- A first record, from n and a list of sets: 1 to 5 as for a list, and then its bytes or 11.
-unfoldable pub first_record : ℕ → List ℕ → List ℕ → Outcome Written (List ℕ)
+unfoldable pub first_record : ℕ → List ℕ → List ℕ → Outcome Numbered (List ℕ)
 first_record n list buffer = delivered (list_refusal n list) (record_bytes (first_design n list)) buffer
 
 -- A record of parts that already have numbers, as many as there are numbers: 1 to 5 as for a list, 23 at the index of the first wrong number,
@@ -68,6 +65,6 @@ first_record n list buffer = delivered (list_refusal n list) (record_bytes (firs
 abbrev pub entered_refusal : ℕ → List ℕ → List ℕ → Verdict
 entered_refusal mark numbers list = and_then (list_refusal (length numbers) list) (numbers_refusal 0 mark 0 numbers)
 
-unfoldable pub entered_record : ℕ → List ℕ → List ℕ → List ℕ → Outcome Written (List ℕ)
+unfoldable pub entered_record : ℕ → List ℕ → List ℕ → List ℕ → Outcome Numbered (List ℕ)
 entered_record mark numbers list buffer =
     delivered (entered_refusal mark numbers list) (record_bytes (entered_design mark numbers list)) buffer

@@ -3,9 +3,9 @@
 use mathlib.Core.Path.{◌≡◌, refl}
 use mathlib.Core.List.{List, [], ◌∷◌, map}
 use Prim.Native.Nat.{ℕ}
+use Rattle.std.specs.Prelude.{Ok, Err}
+use Rattle.answer.specs.declared.Reason.TheVariants.{WrongPartCount, UnknownGroupPart, UnknownPosition, RepeatedPosition}
 use Rattle.answer.specs.Outcome.{at}
-use Rattle.answer.specs.declared.Value.TheVariants.{Given, Refused}
-use Rattle.answer.specs.declared.Verdict.TheVariants as verdict
 use Rattle.theory_sets.specs.Masks.{has}
 use Rattle.theory_sums.specs.Sums.{some}
 use Rattle.record_numbers.specs.Numbering.{named}
@@ -15,18 +15,18 @@ abbrev parts : List ℕ
 parts = 3 ∷ 7 ∷ 12 ∷ []
 
 -- a part number is no position
-positions : map (found_position parts) (12 ∷ 3 ∷ 1 ∷ 5 ∷ 0 ∷ []) ≡ Given 3 ∷ Given 1 ∷ Refused (at 17 0) ∷ Refused (at 17 0) ∷ Refused (at 17 0) ∷ []
+positions : map (found_position parts) (12 ∷ 3 ∷ 1 ∷ 5 ∷ 0 ∷ []) ≡ Ok 3 ∷ Ok 1 ∷ Err (at UnknownPosition 0) ∷ Err (at UnknownPosition 0) ∷ Err (at UnknownPosition 0) ∷ []
 unfolding position_from
 positions = refl
 
 -- in any order; none; one that is no part's; one that stands twice; both, of which 17 comes first
 masks : map (found_mask parts) ((12 ∷ 3 ∷ []) ∷ [] ∷ (3 ∷ 5 ∷ []) ∷ (7 ∷ 3 ∷ 7 ∷ []) ∷ (7 ∷ 7 ∷ 5 ∷ []) ∷ [])
-    ≡ Given 5 ∷ Given 0 ∷ Refused (at 17 0) ∷ Refused (at 28 0) ∷ Refused (at 17 0) ∷ []
+    ≡ Ok 5 ∷ Ok 0 ∷ Err (at UnknownPosition 0) ∷ Err (at RepeatedPosition 0) ∷ Err (at UnknownPosition 0) ∷ []
 unfolding mask_of some
 masks = refl
 
 -- no parts at all
-no_parts : found_mask [] [] ≡ Refused (at 1 0)
+no_parts : found_mask [] [] ≡ Err (at WrongPartCount 0)
 unfolding mask_of some
 no_parts = refl
 
@@ -35,5 +35,5 @@ numbers : map (named parts) (5 ∷ 0 ∷ 7 ∷ []) ≡ (3 ∷ 12 ∷ []) ∷ [] 
 unfolding named has
 numbers = refl
 
-beyond : map (named_refusal parts) (7 ∷ 8 ∷ []) ≡ verdict.Accepted ∷ verdict.Refused (at 16 0) ∷ []
+beyond : map (named_refusal parts) (7 ∷ 8 ∷ []) ≡ Ok tt ∷ Err (at UnknownGroupPart 0) ∷ []
 beyond = refl

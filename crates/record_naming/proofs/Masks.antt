@@ -9,8 +9,8 @@ use Prim.Native.Nat.{ℕ, suc, ◌+◌, ◌*◌, ◌-◌, ◌/◌, ◌^◌, ◌�
 use native.Mathlib.Nat.{pow-succ'}
 use native.Mathlib.Omega.{arith}
 use lib.ListN.{length}
+use Rattle.std.specs.Prelude.{Ok}
 use Rattle.numbers.proofs.Bools.{false_of}
-use Rattle.answer.specs.declared.Value.TheVariants as value
 use Rattle.answer.proofs.Outcomes.{valued_given}
 use Rattle.theory_sets.specs.Masks.{has, size}
 use Rattle.theory_sets.proofs.Masks.{odd, even, has_odd, has_even, holds_antisym}
@@ -113,7 +113,7 @@ module _ (low high : ℕ) (numbers : List ℕ) (rising : RisingWithin low high n
       (names_hold low high numbers rising mask (mask_of numbers (named numbers mask)) below (λ number i. (same number).0 i))
 
   -- and nothing refuses them
-  pub named_back : 1 ≤ length numbers → length numbers ≤ 16 → mask < 2 ^ length numbers → found_mask numbers (named numbers mask) ≡ value.Given mask
+  pub named_back : 1 ≤ length numbers → length numbers ≤ 16 → mask < 2 ^ length numbers → found_mask numbers (named numbers mask) ≡ Ok mask
   named_back some few inside =
       let right = mask_counted numbers (named numbers mask) some few ∙ wanted_right numbers (named numbers mask) named_known (rising_not_repeated low high (named numbers mask) (named_rising low high numbers rising mask)) in
-      sym (valued_given (mask_of_refusal numbers (named numbers mask)) (mask_of numbers (named numbers mask)) right) ∙ ap value.Given (mask_of_named inside)
+      sym (valued_given (mask_of_refusal numbers (named numbers mask)) (mask_of numbers (named numbers mask)) right) ∙ ap Ok (mask_of_named inside)

@@ -10,10 +10,9 @@ use native.Mathlib.Omega.{arith}
 use borrow.Author.Tests.{eqb-true, eqb-false, eq-eqb, ne_eqb}
 use lib.Dec.{eqb}
 use lib.ListN.{length, get_or}
-use Rattle.answer.specs.Refusals.{unknown_position}
+use Rattle.std.specs.Prelude.{Ok}
+use Rattle.answer.specs.declared.Reason.TheVariants.{UnknownPosition}
 use Rattle.answer.specs.Outcome.{refuse, valued}
-use Rattle.answer.specs.declared.Verdict.TheVariants.{Accepted}
-use Rattle.answer.specs.declared.Value.TheVariants as value
 use Rattle.answer.proofs.Outcomes.{refuse_accepted, given_valued}
 use Rattle.numbers.proofs.Bools.{clash}
 use Rattle.record_numbers.specs.Numbering.{RisingWithin}
@@ -54,31 +53,31 @@ placed_at first number (x ∷ xs) some h = cases (eqb number x) refl h (placed_a
     cases false e h later = Memᴰ.tail (later h)
 
 -- what was given is a position that was found
-given_position : (position given : ℕ) → valued (refuse (eqb position 0) unknown_position 0 Accepted) position ≡ value.Given given → (1 ≤ position) × (position ≡ given)
+given_position : (position given : ℕ) → valued (refuse (eqb position 0) UnknownPosition 0 (Ok tt)) position ≡ Ok given → (1 ≤ position) × (position ≡ given)
 given_position position given e =
-    let g = given_valued (refuse (eqb position 0) unknown_position 0 Accepted) position given e in
-    let none = eqb-false position 0 (refuse_accepted (eqb position 0) unknown_position 0 Accepted g.0).0 in
+    let g = given_valued (refuse (eqb position 0) UnknownPosition 0 (Ok tt)) position given e in
+    let none = eqb-false position 0 (refuse_accepted (eqb position 0) UnknownPosition 0 (Ok tt) g.0).0 in
     (omega (arith, none), g.1)
 
-position_given : (position : ℕ) → 1 ≤ position → valued (refuse (eqb position 0) unknown_position 0 Accepted) position ≡ value.Given position
+position_given : (position : ℕ) → 1 ≤ position → valued (refuse (eqb position 0) UnknownPosition 0 (Ok tt)) position ≡ Ok position
 position_given position h = rw (ne_eqb position 0 (λ none. omega arith)) refl
 
 -- The position that is found for a number is the one position at which it stands.
 pub position_exactly : (low high : ℕ) (numbers : List ℕ) → RisingWithin low high numbers → (number position : ℕ)
-    → (found_position numbers number ≡ value.Given position) ↔ ((1 ≤ position) × (position ≤ length numbers) × (get_or numbers (position - 1) 0 ≡ number))
+    → (found_position numbers number ≡ Ok position) ↔ ((1 ≤ position) × (position ≤ length numbers) × (get_or numbers (position - 1) 0 ≡ number))
 position_exactly low high numbers rising number position = (there, back)
   where
-    there : found_position numbers number ≡ value.Given position → (1 ≤ position) × (position ≤ length numbers) × (get_or numbers (position - 1) 0 ≡ number)
+    there : found_position numbers number ≡ Ok position → (1 ≤ position) × (position ≤ length numbers) × (get_or numbers (position - 1) 0 ≡ number)
     there e =
         let g = given_position (position_of numbers number) position e in
         let t = traced 1 number numbers (placed_at 1 number numbers (omega arith) g.0) in
         let here : t.index ≡ position - 1 = omega (arith, g.1, t.position) in
         (omega (arith, g.0, g.1), omega (arith, t.inside, g.1, t.position), ap (λ (k : ℕ). get_or numbers k 0) (sym here) ∙ t.same)
 
-    back : (1 ≤ position) × (position ≤ length numbers) × (get_or numbers (position - 1) 0 ≡ number) → found_position numbers number ≡ value.Given position
+    back : (1 ≤ position) × (position ≤ length numbers) × (get_or numbers (position - 1) 0 ≡ number) → found_position numbers number ≡ Ok position
     back h =
         let t = traced 1 number numbers (subst (λ (x : ℕ). In x numbers) h.2 (member_at numbers (position - 1) (omega (arith, h.0, h.1)))) in
         let same : t.index ≡ position - 1 =
         rising_once low high numbers rising t.index (position - 1) t.inside (omega (arith, h.0, h.1)) (t.same ∙ sym h.2) in
         let here : position_of numbers number ≡ position = omega (arith, same, t.position, h.0) in
-        position_given (position_of numbers number) (omega (arith, here, h.0)) ∙ ap value.Given here
+        position_given (position_of numbers number) (omega (arith, here, h.0)) ∙ ap Ok here

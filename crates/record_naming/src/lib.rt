@@ -9,73 +9,73 @@ ghost use Rattle.record_lines.specs.Changes.{every};
 ghost use Rattle.record_lines.specs.Names.{repeated};
 ghost use Rattle.record_naming.specs.Naming.{found_position, mask_of, mask_of_refusal, found_mask, named_refusal};
 
-use answer::{Refusal, Value, Verdict, Written};
+use answer::{Reason, Refusal};
 
 // The position, from 1, of the part that has a number.
-pub fn position(numbers: &[u64], number: u64) -> Value
+pub fn position(numbers: &[u64], number: u64) -> Result<usize, Refusal>
     ensures { result ≡ found_position numbers.now number }
 {
     for i in 0..numbers.len() {
         if numbers[i] == number {
-            return Value::Given(i + 1);
+            return Ok(i + 1);
         }
     }
-    Value::Refused(Refusal {
-        number: answer::UNKNOWN_POSITION,
+    Err(Refusal {
+        number: Reason::UnknownPosition,
         place: 0,
     })
 }
 
 // The mask of the positions at which wanted numbers stand.
-pub fn mask_of(numbers: &[u64], wanted: &[u64]) -> Value
+pub fn mask_of(numbers: &[u64], wanted: &[u64]) -> Result<usize, Refusal>
     ensures { result ≡ found_mask numbers.now wanted.now }
 {
     let verdict = wanted_verdict(numbers, wanted);
     match verdict {
-        Verdict::Refused(refusal) => Value::Refused(refusal),
-        Verdict::Accepted => Value::Given(mask(numbers, wanted)),
+        Err(refusal) => Err(refusal),
+        Ok(()) => Ok(mask(numbers, wanted)),
     }
 }
 
 // The numbers at the positions of a mask, by position, into a lent buffer.
-pub fn numbers_of(numbers: &[u64], mask: usize, buffer: &mut [u64]) -> Written
+pub fn numbers_of(numbers: &[u64], mask: usize, buffer: &mut [u64]) -> Result<usize, Refusal>
     ensures { outcome result buffer.new ≡ delivered (named_refusal numbers.now mask) (named numbers.now mask) buffer.old }
 {
     let count = numbers.len();
     if count == 0 {
-        return answer::unwritten(answer::WRONG_PART_COUNT, 0);
+        return Err(Reason::WrongPartCount.at(0));
     }
     if record_numbers::MOST_PARTS < count {
-        return answer::unwritten(answer::WRONG_PART_COUNT, 0);
+        return Err(Reason::WrongPartCount.at(0));
     }
     let all = numbers::power_of_two(count);
     if all <= mask {
-        return answer::unwritten(answer::UNKNOWN_GROUP_PART, 0);
+        return Err(Reason::UnknownGroupPart.at(0));
     }
     let left_out = all - 1 - mask;
     let cells = record_numbers::cells(numbers, left_out);
     let named = masks::size(mask);
-    answer::hand_out_counts(&cells[..named], buffer)
+    answer::hand_out(&cells[..named], buffer)
 }
 
 // The verdict on numbers that are wanted.
-fn wanted_verdict(numbers: &[u64], wanted: &[u64]) -> Verdict
+fn wanted_verdict(numbers: &[u64], wanted: &[u64]) -> Result<(), Refusal>
     ensures { result ≡ mask_of_refusal numbers.now wanted.now }
 {
     let count = numbers.len();
     if count == 0 {
-        return answer::refused(answer::WRONG_PART_COUNT, 0);
+        return Err(Reason::WrongPartCount.at(0));
     }
     if record_numbers::MOST_PARTS < count {
-        return answer::refused(answer::WRONG_PART_COUNT, 0);
+        return Err(Reason::WrongPartCount.at(0));
     }
     if !all_stand(wanted, numbers) {
-        return answer::refused(answer::UNKNOWN_POSITION, 0);
+        return Err(Reason::UnknownPosition.at(0));
     }
     if repeats(wanted) {
-        return answer::refused(answer::REPEATED_POSITION, 0);
+        return Err(Reason::RepeatedPosition.at(0));
     }
-    Verdict::Accepted
+    Ok(())
 }
 
 // The mask of the wanted among up to 16 numbers.

@@ -10,9 +10,9 @@ use native.Mathlib.Numerals.{add-one}
 use lib.Dec.{ltb}
 use lib.ListN.{length, drop, get_or}
 use lib.Seq.{drop-cons, drop-length}
-use Rattle.answer.specs.Refusals.{wrong_part_number}
+use Rattle.std.specs.Prelude.{Ok, Err}
+use Rattle.answer.specs.declared.Reason.TheVariants.{WrongPartNumber}
 use Rattle.answer.specs.Outcome.{at, refuse}
-use Rattle.answer.specs.declared.Verdict.TheVariants.{Accepted, Refused}
 use Rattle.answer.proofs.Checks.{parts_passed}
 use Rattle.record_numbers.specs.Numbering.{most_parts, top_number, misnumbered, numbers_refusal, part_list_refusal}
 
@@ -27,9 +27,9 @@ module _ (numbers : List ℕ) (mark previous index : ℕ) (h : index < length nu
   refusal_past e = rw (drop-cons numbers index 0, add-one) (simp e)
 
   -- a wrong one refuses, at its index
-  pub refusal_here : misnumbered previous mark (get_or numbers index 0) ≡ true → numbers_refusal previous mark index (drop index numbers) ≡ Refused (at wrong_part_number index)
+  pub refusal_here : misnumbered previous mark (get_or numbers index 0) ≡ true → numbers_refusal previous mark index (drop index numbers) ≡ Err (at WrongPartNumber index)
   refusal_here e = rw (drop-cons numbers index 0) (simp e)
 
 -- behind the last number the mark is judged
-pub refusal_end : (numbers : List ℕ) (mark previous index : ℕ) → index ≡ length numbers → numbers_refusal previous mark index (drop index numbers) ≡ refuse (ltb top_number mark) wrong_part_number (length numbers) Accepted
+pub refusal_end : (numbers : List ℕ) (mark previous index : ℕ) → index ≡ length numbers → numbers_refusal previous mark index (drop index numbers) ≡ refuse (ltb top_number mark) WrongPartNumber (length numbers) (Ok tt)
 refusal_end numbers mark previous index e = rw (e, drop-length)

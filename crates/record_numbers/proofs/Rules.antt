@@ -7,7 +7,7 @@ use Prim.Native.Nat.{ℕ, suc, ◌≤◌, ◌<◌}
 use native.Mathlib.Nat.{le_trans}
 use native.Mathlib.Omega.{arith}
 use borrow.Author.Tests.{ltb-false, leb-false, le-ltb, lt-leb}
-use Rattle.answer.specs.declared.Verdict.TheVariants.{Accepted}
+use Rattle.std.specs.Prelude.{Ok}
 use Rattle.answer.proofs.Outcomes.{refuse_accepted}
 use Rattle.answer.proofs.Checks.{parts_passed, parts_right}
 use Rattle.record_numbers.specs.Numbering.{top_number, RisingWithin, Rules, misnumbered, numbers_refusal, part_list_refusal}
@@ -30,7 +30,7 @@ number_right previous mark number low high top =
     simp (lt-leb number previous low, le-ltb mark number high, le-ltb top_number number (le_trans high top))
 
 -- numbers that are not refused rise under the mark, and the mark is not over the top number
-rising : (previous mark index : ℕ) (numbers : List ℕ) → numbers_refusal previous mark index numbers ≡ Accepted → RisingWithin previous mark numbers × (mark ≤ top_number)
+rising : (previous mark index : ℕ) (numbers : List ℕ) → numbers_refusal previous mark index numbers ≡ Ok tt → RisingWithin previous mark numbers × (mark ≤ top_number)
 rising previous mark index [] e = (tt, ltb-false _ _ (refuse_accepted _ _ _ _ e).0)
 rising previous mark index (n ∷ ns) e =
     let r = refuse_accepted (misnumbered previous mark n) _ index _ e in
@@ -39,13 +39,13 @@ rising previous mark index (n ∷ ns) e =
     ((w.0, w.1, rest.0), rest.1)
 
 -- and such numbers are not refused
-unrefused : (previous mark index : ℕ) (numbers : List ℕ) → RisingWithin previous mark numbers → mark ≤ top_number → numbers_refusal previous mark index numbers ≡ Accepted
+unrefused : (previous mark index : ℕ) (numbers : List ℕ) → RisingWithin previous mark numbers → mark ≤ top_number → numbers_refusal previous mark index numbers ≡ Ok tt
 unrefused previous mark index [] r top = simp (le-ltb _ _ top)
 unrefused previous mark index (n ∷ ns) r top =
     rw (number_right previous mark n r.0 r.1 top) (unrefused n mark (suc index) ns r.2 top)
 
 -- what is accepted keeps the rules
-pub accepted_rules : (count mark : ℕ) (numbers : List ℕ) → part_list_refusal count mark numbers ≡ Accepted → Rules count mark numbers
+pub accepted_rules : (count mark : ℕ) (numbers : List ℕ) → part_list_refusal count mark numbers ≡ Ok tt → Rules count mark numbers
 unfolding part_list_refusal
 accepted_rules count mark numbers e =
     let counted = parts_right 0 count (numbers_refusal 0 mark 0 numbers) e in
@@ -53,7 +53,7 @@ accepted_rules count mark numbers e =
     record { some = counted.0; few = counted.1; rising = r.0; top = r.1 }
 
 -- and what keeps the rules is accepted
-pub rules_accepted : {count mark : ℕ} {numbers : List ℕ} → Rules count mark numbers → part_list_refusal count mark numbers ≡ Accepted
+pub rules_accepted : {count mark : ℕ} {numbers : List ℕ} → Rules count mark numbers → part_list_refusal count mark numbers ≡ Ok tt
 unfolding part_list_refusal
 rules_accepted {count} {mark} {numbers} r =
     parts_passed 0 count (numbers_refusal 0 mark 0 numbers) r.some r.few ∙ unrefused 0 mark 0 numbers r.rising r.top

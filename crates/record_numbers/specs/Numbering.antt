@@ -1,10 +1,8 @@
 -- The part numbers and the mark of a part list (01, "Records on disk"): the rules that they keep, and what refuses them.
-use Rattle.std.specs.Prelude.{Bool, true, cond, List, [], ◌∷◌, ◌++◌, ℕ, suc, ◌-◌, ◌/◌, ◌≤◌, ◌<◌, max, leb, ltb, eqb, length, replicate}
-use Rattle.answer.specs.Refusals.{wrong_part_number}
+use Rattle.std.specs.Prelude.{Bool, true, cond, List, [], ◌∷◌, ◌++◌, ℕ, suc, ◌-◌, ◌/◌, ◌≤◌, ◌<◌, max, leb, ltb, eqb, length, replicate, Ok}
+use Rattle.answer.specs.declared.Reason.TheVariants.{WrongPartNumber}
 use Rattle.answer.specs.Checks.{part_count_refusal}
-use Rattle.answer.specs.Outcome.{refuse}
-use Rattle.answer.specs.declared.Verdict.{Verdict}
-use Rattle.answer.specs.declared.Verdict.TheVariants.{Accepted}
+use Rattle.answer.specs.Outcome.{refuse, Verdict}
 use Rattle.theory_sets.specs.Masks.{has}
 use Rattle.theory_sums.specs.Sums.{some}
 use Rattle.codec.specs.Fields.{top}
@@ -37,9 +35,9 @@ misnumbered previous mark number = cond (leb number previous) true (cond (ltb ma
 
 -- 23 at the index of the first wrong number. Behind the last number the mark, itself a part number, is held against the top number.
 abbrev pub numbers_refusal : ℕ → ℕ → ℕ → List ℕ → Verdict
-numbers_refusal previous mark index [] = refuse (ltb top_number mark) wrong_part_number index Accepted
+numbers_refusal previous mark index [] = refuse (ltb top_number mark) WrongPartNumber index (Ok tt)
 numbers_refusal previous mark index (number ∷ numbers) =
-    refuse (misnumbered previous mark number) wrong_part_number index (numbers_refusal number mark (suc index) numbers)
+    refuse (misnumbered previous mark number) WrongPartNumber index (numbers_refusal number mark (suc index) numbers)
 
 -- the first refusal of a part list: 1 for its count, and then 23
 unfoldable pub part_list_refusal : ℕ → ℕ → List ℕ → Verdict

@@ -4,7 +4,7 @@
 ghost use Rattle.std.specs.Prelude.{◌≡◌, length, take};
 ghost use Rattle.record_numbers.specs.Numbering.{most_parts, cells_of, misnumbered, part_list_refusal, highest, names, others};
 
-use answer::Verdict;
+use answer::{Reason, Refusal};
 
 // The most parts of a machine, and the top part number.
 pub const MOST_PARTS: usize = 16;
@@ -12,30 +12,30 @@ pub const MOST_PARTS: usize = 16;
 pub const TOP_NUMBER: u64 = 281474976710655;
 
 // Whether these numbers and this mark make a part list.
-pub fn judge(mark: u64, numbers: &[u64]) -> Verdict
+pub fn judge(mark: u64, numbers: &[u64]) -> Result<(), Refusal>
     ensures { result ≡ part_list_refusal (length numbers.now) mark numbers.now }
 {
     let count = numbers.len();
     if count == 0 {
-        return answer::refused(answer::WRONG_PART_COUNT, 0);
+        return Err(Reason::WrongPartCount.at(0));
     }
     if MOST_PARTS < count {
-        return answer::refused(answer::WRONG_PART_COUNT, 0);
+        return Err(Reason::WrongPartCount.at(0));
     }
     let mut previous = 0;
     let mut index = 0;
     while index < count {
         let number = numbers[index];
         if misnumbered(previous, mark, number) {
-            return answer::refused(answer::WRONG_PART_NUMBER, index);
+            return Err(Reason::WrongPartNumber.at(index));
         }
         previous = number;
         index += 1;
     }
     if TOP_NUMBER < mark {
-        return answer::refused(answer::WRONG_PART_NUMBER, count);
+        return Err(Reason::WrongPartNumber.at(count));
     }
-    Verdict::Accepted
+    Ok(())
 }
 
 // Whether 23 refuses a part number, after the one before it (0 before the first) and under the mark.

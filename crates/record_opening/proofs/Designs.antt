@@ -6,8 +6,8 @@ use Prim.Native.Nat.{ℕ, ◌≤◌}
 use native.Mathlib.Omega.{arith}
 use lib.ListN.{length, take, drop, length-replicate}
 use lib.Seq.{take-append_seam}
+use Rattle.std.specs.Prelude.{Ok, Err}
 use Rattle.answer.specs.declared.Refusal.{Refusal}
-use Rattle.answer.specs.declared.Verdict.TheVariants.{Accepted, Refused}
 use Rattle.answer.proofs.Outcomes.{InFront, in_front_length}
 use Rattle.codec.specs.Bytes.{Bytes}
 use Rattle.codec.specs.Reads.{Read, found, refused}
@@ -36,12 +36,12 @@ pub record RecordOpened (bytes : List ℕ) (o : Opened) : Type 0 where
   pub retired : o.retired ≡ retired_of (retired_in s)
 
 module _ (bytes : List ℕ) (o : Opened) (e : o ≡ opened_of (whole_stored bytes)) where
-  pub opened_record : Bytes bytes → o.verdict ≡ Accepted → RecordOpened bytes o
+  pub opened_record : Bytes bytes → o.verdict ≡ Ok tt → RecordOpened bytes o
   opened_record bounded v = cases (whole_stored bytes) refl
     where
       cases : (r : Read Stored) → whole_stored bytes ≡ r → RecordOpened bytes o
       cases (refused why) h =
-          let same : Refused why ≡ Accepted = sym (ap (λ (x : Opened). x.verdict) (e ∙ ap opened_of h)) ∙ v in
+          let same : Err why ≡ Ok tt = sym (ap (λ (x : Opened). x.verdict) (e ∙ ap opened_of h)) ∙ v in
           let z : ◌≡◌ {A = ℕ} 0 1 = cc in
           absurd (omega arith)
       cases (found s next) h =
@@ -58,16 +58,16 @@ module _ (bytes : List ℕ) (o : Opened) (e : o ≡ opened_of (whole_stored byte
           }
 
   -- what the verdict refuses the record for is what reading it does
-  pub opened_why : (why : Refusal) → o.verdict ≡ Refused why → whole_stored bytes ≡ refused why
+  pub opened_why : (why : Refusal) → o.verdict ≡ Err why → whole_stored bytes ≡ refused why
   opened_why why v = cases (whole_stored bytes) refl
     where
       cases : (r : Read Stored) → whole_stored bytes ≡ r → r ≡ refused why
       cases (refused r) h =
-          let same : Refused r ≡ Refused why = sym (ap (λ (x : Opened). x.verdict) (e ∙ ap opened_of h)) ∙ v in
+          let same : Err r ≡ Err why = sym (ap (λ (x : Opened). x.verdict) (e ∙ ap opened_of h)) ∙ v in
           let one : r ≡ why = cc in
           ap (λ (x : Refusal). refused x) one
       cases (found s next) h =
-          let same : Accepted ≡ Refused why = sym (ap (λ (x : Opened). x.verdict) (e ∙ ap opened_of h)) ∙ v in
+          let same : (Ok tt) ≡ Err why = sym (ap (λ (x : Opened). x.verdict) (e ∙ ap opened_of h)) ∙ v in
           let z : ◌≡◌ {A = ℕ} 0 1 = cc in
           absurd (omega arith)
 

@@ -1,7 +1,6 @@
 -- What opening a record finds (01, "Records on disk"; 02, §8): its part list, the number of its sets and these sets in front of an array, its
 -- edition and its retired numbers, or the refusal.
-use Rattle.std.specs.Prelude.{List, [], ◌++◌, ℕ, length, drop, replicate}
-use Rattle.answer.specs.declared.Verdict.TheVariants.{Accepted, Refused}
+use Rattle.std.specs.Prelude.{List, [], ◌++◌, ℕ, length, drop, replicate, Ok, Err}
 use Rattle.record_parts.specs.PartLists.{list_of}
 use Rattle.codec.specs.Reads.{Read, found, refused}
 use Rattle.record_retired.specs.Retired.{retired_of}
@@ -21,7 +20,7 @@ opened_of (found s next) = record {
   sets = set_cells (design_of s).sets;
   edition = edition_of s;
   retired = retired_of (retired_in s);
-  verdict = Accepted;
+  verdict = (Ok tt);
 }
 opened_of (refused refusal) =
-    record { list = list_of 0 []; count = 0; sets = set_cells []; edition = First; retired = retired_of []; verdict = Refused refusal }
+    record { list = list_of 0 []; count = 0; sets = set_cells []; edition = First; retired = retired_of []; verdict = Err refusal }

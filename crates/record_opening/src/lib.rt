@@ -9,7 +9,7 @@ ghost use Rattle.record_editions.specs.Editions.{whole_stored};
 ghost use Rattle.record.specs.Contents.{step_at, met_in};
 ghost use Rattle.record_opening.specs.Opening.{set_cells, opened_of};
 
-use answer::Verdict;
+use answer::Refusal;
 use record::{Cursor, Step};
 use record_editions::Edition;
 use record_parts::PartList;
@@ -24,7 +24,7 @@ pub struct Opened {
     pub sets: [u16; 12870],
     pub edition: Edition,
     pub retired: Retired,
-    pub verdict: Verdict,
+    pub verdict: Result<(), Refusal>,
 }
 
 // The record that the bytes are, checked whole, and its sets loaded.

@@ -5,12 +5,11 @@ use mathlib.Core.List.{List}
 use lib.ListN.{length}
 use mir.Val.{Val}
 use denote.Laws.{Is}
+use Rattle.std.specs.Prelude.{Ok, Err}
+use Rattle.answer.specs.Outcome.{Verdict}
 use Rattle.answer.specs.declared.Refusal.{Refusal}
-use Rattle.answer.specs.declared.Verdict.{Verdict}
-use Rattle.answer.specs.declared.Verdict.TheVariants.{Accepted, Refused}
 use Rattle.record_parts.specs.declared.PartList.{PartList}
 use Rattle.record_parts.specs.declared.Changed.{Changed}
-use Rattle.record_parts.specs.declared.Numbered.TheVariants as numbered
 use Rattle.record_numbers.specs.Numbering.{most_parts, Rules}
 use Rattle.record_parts.specs.PartLists.{numbers_of}
 use Rattle.record_parts.specs.Changes.{changed, unless, broken_refusal, change}
@@ -20,16 +19,16 @@ use Rattle.record_numbers.proofs.Rules.{accepted_rules}
 
 module _ (list : PartList) (refusal : Verdict) (result : Changed) where
   -- a broken list is refused as it would be on being read
-  pub change_broken : (r : Refusal) → broken_refusal list ≡ Refused r → change list refusal result ≡ changed list (numbered.Refused r)
+  pub change_broken : (r : Refusal) → broken_refusal list ≡ Err r → change list refusal result ≡ changed list (Err r)
   change_broken r broken = ap (λ (v : Verdict). unless v list (unless refusal list result)) broken
 
   -- one that keeps the rules has the change's own refusal
-  pub change_refused : (r : Refusal) → broken_refusal list ≡ Accepted → refusal ≡ Refused r → change list refusal result ≡ changed list (numbered.Refused r)
+  pub change_refused : (r : Refusal) → broken_refusal list ≡ Ok tt → refusal ≡ Err r → change list refusal result ≡ changed list (Err r)
   change_refused r whole refused =
       ap (λ (v : Verdict). unless v list (unless refusal list result)) whole ∙ ap (λ (v : Verdict). unless v list result) refused
 
   -- or the change
-  pub change_made : broken_refusal list ≡ Accepted → refusal ≡ Accepted → change list refusal result ≡ result
+  pub change_made : broken_refusal list ≡ Ok tt → refusal ≡ Ok tt → change list refusal result ≡ result
   change_made whole accepted =
       ap (λ (v : Verdict). unless v list (unless refusal list result)) whole ∙ ap (λ (v : Verdict). unless v list result) accepted
 
@@ -39,7 +38,7 @@ pub record Usable (list : PartList) : Type 0 where
   pub all : length list.numbers ≡ most_parts
   pub counted : length (numbers_of list) ≡ list.count
 
-pub usable : (list : PartList) (values : List Val) → Is the_row list values → broken_refusal list ≡ Accepted → Usable list
+pub usable : (list : PartList) (values : List Val) → Is the_row list values → broken_refusal list ≡ Ok tt → Usable list
 usable list values held whole =
     let rules = accepted_rules list.count list.mark (numbers_of list) whole in
     let all = cells_all list values held in

@@ -4,12 +4,12 @@ use mathlib.Core.Path.{◌≡◌, refl}
 use mathlib.Core.List.{List, [], ◌∷◌}
 use Prim.Native.Nat.{ℕ, ◌+◌, ◌-◌, ◌^◌}
 use lib.ListN.{replicate}
-use Rattle.answer.specs.Refusals.{wrong_part_count, unknown_position, in_every_set, full_machine, numbers_spent, wrong_part_number}
+use Rattle.std.specs.Prelude.{Ok, Err}
+use Rattle.answer.specs.declared.Reason.{Reason}
+use Rattle.answer.specs.declared.Reason.TheVariants.{WrongPartCount, EmptyGroup, UnknownGroupPart, UnknownPosition, InEverySet, FullMachine, NumbersSpent, WrongPartNumber}
 use Rattle.answer.specs.Outcome.{at}
-use Rattle.answer.specs.declared.Verdict.TheVariants as verdict
 use Rattle.record_parts.specs.declared.PartList.{PartList}
 use Rattle.record_parts.specs.declared.Listed.{Listed}
-use Rattle.record_parts.specs.declared.Numbered.TheVariants as numbered
 use Rattle.theory_sets.specs.Masks.{has}
 use Rattle.record_numbers.specs.Numbering.{top_number, part_list_refusal, highest, named, others}
 use Rattle.record_parts.specs.PartLists.{list_of, listing, made}
@@ -17,24 +17,24 @@ use Rattle.record_parts.specs.Changes.{part_added, taken_out, group_taken_out}
 use Rattle.record_parts.specs.Lines.{add_part, take_out, take_out_group, last_of, issued_by, left_by}
 
 -- mark 0: no part number can be right
-no_mark : (made 0 (1 ∷ [])).verdict ≡ verdict.Refused (at wrong_part_number 0)
+no_mark : (made 0 (1 ∷ [])).verdict ≡ Err (at WrongPartNumber 0)
 unfolding part_list_refusal made part_added taken_out
 no_mark = refl
 
-number_zero : (made 5 (0 ∷ [])).verdict ≡ verdict.Refused (at wrong_part_number 0)
+number_zero : (made 5 (0 ∷ [])).verdict ≡ Err (at WrongPartNumber 0)
 unfolding part_list_refusal made part_added taken_out
 number_zero = refl
 
-above_the_mark : (made 5 (1 ∷ 6 ∷ [])).verdict ≡ verdict.Refused (at wrong_part_number 1)
+above_the_mark : (made 5 (1 ∷ 6 ∷ [])).verdict ≡ Err (at WrongPartNumber 1)
 unfolding part_list_refusal made part_added taken_out
 above_the_mark = refl
 
-not_rising : (made 5 (3 ∷ 2 ∷ [])).verdict ≡ verdict.Refused (at wrong_part_number 1)
+not_rising : (made 5 (3 ∷ 2 ∷ [])).verdict ≡ Err (at WrongPartNumber 1)
 unfolding part_list_refusal made part_added taken_out
 not_rising = refl
 
 -- equal to the mark is right, and so is a mark above all numbers
-at_the_mark : (made 5 (5 ∷ [])).verdict ≡ verdict.Accepted
+at_the_mark : (made 5 (5 ∷ [])).verdict ≡ Ok tt
 unfolding part_list_refusal made part_added taken_out
 at_the_mark = refl
 
@@ -42,11 +42,11 @@ under_the_mark : (made 9 (3 ∷ [])).list ≡ list_of 9 (3 ∷ [])
 unfolding part_list_refusal made part_added taken_out
 under_the_mark = refl
 
-no_numbers : (made 5 []).verdict ≡ verdict.Refused (at wrong_part_count 0)
+no_numbers : (made 5 []).verdict ≡ Err (at WrongPartCount 0)
 unfolding part_list_refusal made part_added taken_out
 no_numbers = refl
 
-seventeen_numbers : (made 5 (replicate 17 0)).verdict ≡ verdict.Refused (at wrong_part_count 0)
+seventeen_numbers : (made 5 (replicate 17 0)).verdict ≡ Err (at WrongPartCount 0)
 unfolding part_list_refusal made part_added taken_out
 seventeen_numbers = refl
 
@@ -55,11 +55,11 @@ first_mark : (made (highest (2 ∷ 5 ∷ 7 ∷ [])) (2 ∷ 5 ∷ 7 ∷ [])).list
 unfolding part_list_refusal made part_added taken_out
 first_mark = refl
 
-first_top : (made (highest (1 ∷ top_number ∷ [])) (1 ∷ top_number ∷ [])).verdict ≡ verdict.Accepted
+first_top : (made (highest (1 ∷ top_number ∷ [])) (1 ∷ top_number ∷ [])).verdict ≡ Ok tt
 unfolding part_list_refusal made part_added taken_out
 first_top = refl
 
-first_over : (made (highest (1 ∷ (top_number + 1) ∷ [])) (1 ∷ (top_number + 1) ∷ [])).verdict ≡ verdict.Refused (at wrong_part_number 1)
+first_over : (made (highest (1 ∷ (top_number + 1) ∷ [])) (1 ∷ (top_number + 1) ∷ [])).verdict ≡ Err (at WrongPartNumber 1)
 unfolding part_list_refusal made part_added taken_out
 first_over = refl
 
@@ -81,45 +81,45 @@ unfolding part_list_refusal made part_added taken_out
 after_the_mark = refl
 
 -- 17 at 0 and at n+1, and before 18
-position_zero : (taken_out bridge 0).answer ≡ numbered.Refused (at unknown_position 0)
+position_zero : (taken_out bridge 0).answer ≡ Err (at UnknownPosition 0)
 unfolding part_list_refusal made part_added taken_out
 position_zero = refl
 
-position_six : (taken_out bridge 6).answer ≡ numbered.Refused (at unknown_position 0)
+position_six : (taken_out bridge 6).answer ≡ Err (at UnknownPosition 0)
 unfolding part_list_refusal made part_added taken_out
 position_six = refl
 
-past_the_only_part : (taken_out (list_of 1 (1 ∷ [])) 2).answer ≡ numbered.Refused (at unknown_position 0)
+past_the_only_part : (taken_out (list_of 1 (1 ∷ [])) 2).answer ≡ Err (at UnknownPosition 0)
 unfolding part_list_refusal made part_added taken_out
 past_the_only_part = refl
 
-the_only_part : (taken_out (list_of 1 (1 ∷ [])) 1).answer ≡ numbered.Refused (at in_every_set 0)
+the_only_part : (taken_out (list_of 1 (1 ∷ [])) 1).answer ≡ Err (at InEverySet 0)
 unfolding part_list_refusal made part_added taken_out
 the_only_part = refl
 
 -- 20 looks at the mark, and 19 comes before it
-spent : (part_added (list_of top_number (1 ∷ []))).answer ≡ numbered.Refused (at numbers_spent 0)
+spent : (part_added (list_of top_number (1 ∷ []))).answer ≡ Err (at NumbersSpent 0)
 unfolding part_list_refusal made part_added taken_out
 spent = refl
 
 -- and 2^32-1 is no end any more
-old_top : (part_added (list_of (2 ^ 32 - 1) (1 ∷ []))).answer ≡ numbered.Number (2 ^ 32)
+old_top : (part_added (list_of (2 ^ 32 - 1) (1 ∷ []))).answer ≡ Ok (2 ^ 32)
 unfolding part_list_refusal made part_added taken_out
 old_top = refl
 
 abbrev sixteen : List ℕ
 sixteen = 1 ∷ 2 ∷ 3 ∷ 4 ∷ 5 ∷ 6 ∷ 7 ∷ 8 ∷ 9 ∷ 10 ∷ 11 ∷ 12 ∷ 13 ∷ 14 ∷ 15 ∷ 16 ∷ []
 
-full_and_spent : (part_added (list_of top_number sixteen)).answer ≡ numbered.Refused (at full_machine 0)
+full_and_spent : (part_added (list_of top_number sixteen)).answer ≡ Err (at FullMachine 0)
 unfolding part_list_refusal made part_added taken_out
 full_and_spent = refl
 
 -- built by hand: a count of 40, and numbers that do not rise
-forty : (part_added (record { count = 40; mark = 9; numbers = sixteen })).answer ≡ numbered.Refused (at wrong_part_count 0)
+forty : (part_added (record { count = 40; mark = 9; numbers = sixteen })).answer ≡ Err (at WrongPartCount 0)
 unfolding part_list_refusal made part_added taken_out
 forty = refl
 
-falling : (taken_out (record { count = 2; mark = 9; numbers = 3 ∷ 2 ∷ replicate 14 0 }) 9).answer ≡ numbered.Refused (at wrong_part_number 1)
+falling : (taken_out (record { count = 2; mark = 9; numbers = 3 ∷ 2 ∷ replicate 14 0 }) 9).answer ≡ Err (at WrongPartNumber 1)
 unfolding part_list_refusal made part_added taken_out
 falling = refl
 
@@ -133,8 +133,8 @@ unfolding part_list_refusal made part_added taken_out others has
 line_left = refl
 
 -- a list that stays as it was
-abbrev refused_as : PartList → ℕ → ℕ → Listed
-refused_as list number place = record { list = list; verdict = verdict.Refused (at number place) }
+abbrev refused_as : PartList → Reason → ℕ → Listed
+refused_as list reason place = record { list = list; verdict = Err (at reason place) }
 
 -- groups: the third and the fifth part leave together; 15 for none, 16 for a position behind the last, 18 for all parts, and a list that breaks the
 -- rules before all these
@@ -145,8 +145,8 @@ outcomes =
 
 groups :
     outcomes
-    ≡ listing verdict.Accepted (list_of 5 (1 ∷ 2 ∷ 4 ∷ [])) ∷ refused_as bridge 15 0 ∷ refused_as bridge 16 0 ∷ refused_as bridge 18 0
-    ∷ refused_as (record { count = 40; mark = 9; numbers = sixteen }) 1 0 ∷ []
+    ≡ listing (Ok tt) (list_of 5 (1 ∷ 2 ∷ 4 ∷ [])) ∷ refused_as bridge EmptyGroup 0 ∷ refused_as bridge UnknownGroupPart 0 ∷ refused_as bridge InEverySet 0
+    ∷ refused_as (record { count = 40; mark = 9; numbers = sixteen }) WrongPartCount 0 ∷ []
 unfolding part_list_refusal group_taken_out others has
 groups = refl
 

@@ -13,15 +13,13 @@ use borrow.Author.Tests.{eqb-true, eqb-false, ltb-false, eq-eqb, ne_eqb, le-ltb}
 use lib.Dec.{eqb}
 use lib.Pow.{pow_pos, pow-lt}
 use lib.ListN.{length, get_or, length-append}
-use Rattle.answer.specs.Refusals.{in_every_set}
-use Rattle.answer.specs.Outcome.{refuse, and_then}
+use Rattle.std.specs.Prelude.{Ok, Err}
+use Rattle.answer.specs.declared.Reason.TheVariants.{InEverySet}
+use Rattle.answer.specs.Outcome.{refuse, and_then, Verdict}
 use Rattle.answer.specs.declared.Refusal.{Refusal}
-use Rattle.answer.specs.declared.Verdict.{Verdict}
-use Rattle.answer.specs.declared.Verdict.TheVariants.{Accepted, Refused}
 use Rattle.record_parts.specs.declared.PartList.{PartList}
 use Rattle.record_parts.specs.declared.Changed.{Changed}
 use Rattle.record_parts.specs.declared.Listed.{Listed}
-use Rattle.record_parts.specs.declared.Numbered.TheVariants as numbered
 use Rattle.record_numbers.specs.Numbering.{most_parts, top_number, Rules, named, others}
 use Rattle.record_parts.specs.PartLists.{numbers_of, list_of, WellFormed, listed_or, listing}
 use Rattle.record_parts.specs.Changes.{changed, unless, broken_refusal, change, add_refusal, with_part, part_added, take_out_refusal, single, list_without, without_part, taken_out, take_out_group_refusal, group_taken_out}
@@ -138,7 +136,7 @@ module _ (list : PartList) (w : WellFormed list) where
   group_taken_out_whole group = ap (λ (v : Verdict). listed_or list v (list_without group list)) (then_passed (take_out_group_refusal list group) (rules_accepted w.rules))
 
   -- While there is room and a number is left, the numbers are the old ones and mark+1 behind them,
-  pub added_given : list.count < most_parts → list.mark < top_number → part_added list ≡ changed (list_of (list.mark + 1) (numbers_of list ++ ((list.mark + 1) ∷ []))) (numbered.Number (list.mark + 1))
+  pub added_given : list.count < most_parts → list.mark < top_number → part_added list ≡ changed (list_of (list.mark + 1) (numbers_of list ++ ((list.mark + 1) ∷ []))) (Ok (list.mark + 1))
   added_given few low =
       added_whole ∙ simp (ne_eqb list.count most_parts (λ e. omega arith), ne_eqb list.mark top_number (λ e. omega arith))
 
@@ -147,31 +145,31 @@ module _ (list : PartList) (w : WellFormed list) where
   added_above number i = omega (arith, (rising_in 0 list.mark (numbers_of list) w.rules.rising i).1)
 
   -- From a list of two or more, the number at a position goes and the others stay, in order.
-  pub taken_out_given : (position : ℕ) → 1 ≤ position → position ≤ list.count → 2 ≤ list.count → taken_out list position ≡ changed (list_without (single position) list) (numbered.Number (get_or (numbers_of list) (position - 1) 0))
+  pub taken_out_given : (position : ℕ) → 1 ≤ position → position ≤ list.count → 2 ≤ list.count → taken_out list position ≡ changed (list_without (single position) list) (Ok (get_or (numbers_of list) (position - 1) 0))
   taken_out_given position low high two =
       taken_out_whole position
       ∙ simp (ne_eqb position 0 (λ e. omega arith), le-ltb list.count position high, ne_eqb list.count 1 (λ e. omega arith))
 
 -- a change is refused and leaves the list, or it is made of a list that keeps the rules
-by_unless : (P : Changed → Type 0) (refusal : Verdict) (list : PartList) (result : Changed) → (refusal ≡ Accepted → P result) → ((r : Refusal) → P (changed list (numbered.Refused r))) → P (unless refusal list result)
-by_unless P Accepted list result made refused = made refl
-by_unless P (Refused r) list result made refused = refused r
+by_unless : (P : Changed → Type 0) (refusal : Verdict) (list : PartList) (result : Changed) → (refusal ≡ Ok tt → P result) → ((r : Refusal) → P (changed list (Err r))) → P (unless refusal list result)
+by_unless P (Ok _) list result made refused = made refl
+by_unless P (Err r) list result made refused = refused r
 
-by_change : (P : Changed → Type 0) (list : PartList) (refusal : Verdict) (result : Changed) → (Rules list.count list.mark (numbers_of list) → refusal ≡ Accepted → P result) → ((r : Refusal) → P (changed list (numbered.Refused r))) → P (change list refusal result)
+by_change : (P : Changed → Type 0) (list : PartList) (refusal : Verdict) (result : Changed) → (Rules list.count list.mark (numbers_of list) → refusal ≡ Ok tt → P result) → ((r : Refusal) → P (changed list (Err r))) → P (change list refusal result)
 by_change P list refusal result made refused =
     by_unless P (broken_refusal list) list (unless refusal list result)
     (λ whole. by_unless P refusal list result (made (accepted_rules list.count list.mark (numbers_of list) whole)) refused)
     refused
 
 -- a part is added where there is room and a number is left
-add_accepted : (list : PartList) → Rules list.count list.mark (numbers_of list) → add_refusal list ≡ Accepted → (list.count < most_parts) × (list.mark < top_number)
+add_accepted : (list : PartList) → Rules list.count list.mark (numbers_of list) → add_refusal list ≡ Ok tt → (list.count < most_parts) × (list.mark < top_number)
 add_accepted list rules accepted =
     let s = refuse_accepted _ _ _ _ accepted in
     let t = refuse_accepted _ _ _ _ s.1 in
     (omega (arith, eqb-false list.count most_parts s.0), omega (arith, eqb-false list.mark top_number t.0))
 
 -- and taken out at a position of two or more
-pub take_out_accepted : (list : PartList) (position : ℕ) → Rules list.count list.mark (numbers_of list) → take_out_refusal list position ≡ Accepted → (1 ≤ position) × (position ≤ list.count) × (2 ≤ list.count)
+pub take_out_accepted : (list : PartList) (position : ℕ) → Rules list.count list.mark (numbers_of list) → take_out_refusal list position ≡ Ok tt → (1 ≤ position) × (position ≤ list.count) × (2 ≤ list.count)
 take_out_accepted list position rules accepted =
     let s = refuse_accepted _ _ _ _ accepted in
     let t = refuse_accepted _ _ _ _ s.1 in
@@ -179,23 +177,23 @@ take_out_accepted list position rules accepted =
     (omega (arith, eqb-false position 0 s.0), ltb-false _ _ t.0, omega (arith, eqb-false list.count 1 u.0))
 
 -- a group is taken out that has a part, only parts of the list, and not all of them
-pub take_out_group_accepted : (list : PartList) (group : ℕ) → take_out_group_refusal list group ≡ Accepted → (0 < group) × (group < 2 ^ list.count) × (1 ≤ length (others (numbers_of list) group))
+pub take_out_group_accepted : (list : PartList) (group : ℕ) → take_out_group_refusal list group ≡ Ok tt → (0 < group) × (group < 2 ^ list.count) × (1 ≤ length (others (numbers_of list) group))
 take_out_group_accepted list group accepted =
     let left = length (others (numbers_of list) group) in
-    let s = group_right list.count group (refuse (eqb left 0) in_every_set 0 Accepted) accepted in
-    let t = refuse_accepted (eqb left 0) in_every_set 0 Accepted s.2 in
+    let s = group_right list.count group (refuse (eqb left 0) InEverySet 0 (Ok tt)) accepted in
+    let t = refuse_accepted (eqb left 0) InEverySet 0 (Ok tt) s.2 in
     (s.0, s.1, pos_of_ne-zero (eqb-false left 0 t.0))
 
 -- it is refused and leaves the list, or made of a list that keeps the rules
-by_group : (P : Listed → Type 0) (list : PartList) (group : ℕ) → (Rules list.count list.mark (numbers_of list) → take_out_group_refusal list group ≡ Accepted → P (listing Accepted (list_without group list)))
-    → ((r : Refusal) → P (record { list = list; verdict = Refused r })) → P (group_taken_out list group)
+by_group : (P : Listed → Type 0) (list : PartList) (group : ℕ) → (Rules list.count list.mark (numbers_of list) → take_out_group_refusal list group ≡ Ok tt → P (listing (Ok tt) (list_without group list)))
+    → ((r : Refusal) → P (record { list = list; verdict = Err r })) → P (group_taken_out list group)
 unfolding group_taken_out
 by_group P list group made refused = cases (broken_refusal list) refl (take_out_group_refusal list group) refl
   where
     cases : (v : Verdict) → broken_refusal list ≡ v → (w : Verdict) → take_out_group_refusal list group ≡ w → P (listed_or list (and_then v w) (list_without group list))
-    cases (Refused r) broken w e = refused r
-    cases Accepted whole (Refused r) e = refused r
-    cases Accepted whole Accepted e = made (accepted_rules list.count list.mark (numbers_of list) whole) e
+    cases (Err r) broken w e = refused r
+    cases (Ok _) whole (Err r) e = refused r
+    cases (Ok _) whole (Ok _) e = made (accepted_rules list.count list.mark (numbers_of list) whole) e
 
 -- each change of a well-formed list is a line
 pub line_one : (c : PartChange) (list : PartList) → WellFormed list → Line list (apply c list).list (issued_in c list) (left_in c list)
@@ -214,21 +212,21 @@ line_one (take_out_group group) list w =
     (λ r. line_none list w)
 
 -- What a change gives is well-formed, whatever list it was handed: of a list with all its cells, spare ones that do not hold 0 among them.
-pub given_well_formed : (c : PartChange) (list : PartList) → length list.numbers ≡ most_parts → (apply c list).verdict ≡ Accepted → WellFormed (apply c list).list
+pub given_well_formed : (c : PartChange) (list : PartList) → length list.numbers ≡ most_parts → (apply c list).verdict ≡ Ok tt → WellFormed (apply c list).list
 unfolding part_added taken_out
 given_well_formed add_part list all =
-    by_change (λ r. verdict_in r.answer ≡ Accepted → WellFormed r.list) list (add_refusal list) (with_part list)
+    by_change (λ r. verdict_in r.answer ≡ Ok tt → WellFormed r.list) list (add_refusal list) (with_part list)
     (λ rules accepted e. let a = add_accepted list rules accepted in with_part_well_formed list rules (numbers_counted list all rules.few) a.0 a.1)
     (λ r e. let z : ◌≡◌ {A = ℕ} 0 1 = cc in absurd (omega arith))
 given_well_formed (take_out position) list all =
-    by_change (λ r. verdict_in r.answer ≡ Accepted → WellFormed r.list) list (take_out_refusal list position) (without_part list position)
+    by_change (λ r. verdict_in r.answer ≡ Ok tt → WellFormed r.list) list (take_out_refusal list position) (without_part list position)
     (λ rules accepted e.
     let a = take_out_accepted list position rules accepted in
     let counted = numbers_counted list all rules.few in
     without_well_formed list rules counted (single position) (some_left list counted position a.0 a.1 a.2))
     (λ r e. let z : ◌≡◌ {A = ℕ} 0 1 = cc in absurd (omega arith))
 given_well_formed (take_out_group group) list all =
-    by_group (λ r. r.verdict ≡ Accepted → WellFormed r.list) list group
+    by_group (λ r. r.verdict ≡ Ok tt → WellFormed r.list) list group
     (λ rules accepted e. without_well_formed list rules (numbers_counted list all rules.few) group (take_out_group_accepted list group accepted).2)
     (λ r e. let z : ◌≡◌ {A = ℕ} 0 1 = cc in absurd (omega arith))
 
@@ -242,7 +240,7 @@ pub group_taken_out_mark : (list : PartList) (group : ℕ) → (group_taken_out 
 group_taken_out_mark list group = by_group (λ r. r.list.mark ≡ list.mark) list group (λ rules accepted. refl) (λ r. refl)
 
 -- a list that breaks the rules is never changed
-pub broken_stays : (c : PartChange) (list : PartList) (refusal : Refusal) → broken_refusal list ≡ Refused refusal → apply c list ≡ record { list = list; verdict = Refused refusal }
+pub broken_stays : (c : PartChange) (list : PartList) (refusal : Refusal) → broken_refusal list ≡ Err refusal → apply c list ≡ record { list = list; verdict = Err refusal }
 unfolding part_added taken_out group_taken_out
 broken_stays add_part list refusal broken = ap listed_after (change_broken list (add_refusal list) (with_part list) refusal broken)
 broken_stays (take_out position) list refusal broken =
@@ -254,10 +252,10 @@ broken_stays (take_out_group group) list refusal broken =
 
 -- a change by its number and one by its verdict
 change_listed : (broken refusal : Verdict) (list new : PartList) (number : ℕ)
-    → listed_after (unless broken list (unless refusal list (changed new (numbered.Number number)))) ≡ listed_or list (and_then broken refusal) new
-change_listed (Refused r) refusal list new number = refl
-change_listed Accepted (Refused r) list new number = refl
-change_listed Accepted Accepted list new number = refl
+    → listed_after (unless broken list (unless refusal list (changed new (Ok number)))) ≡ listed_or list (and_then broken refusal) new
+change_listed (Err r) refusal list new number = refl
+change_listed (Ok _) (Err r) list new number = refl
+change_listed (Ok _) (Ok _) list new number = refl
 
 -- 18 for the only part is 18 for all parts
 same_refusal : (list : PartList) (position : ℕ) → length (numbers_of list) ≡ list.count → 1 ≤ position → position ≤ list.count → take_out_refusal list position ≡ take_out_group_refusal list (single position)
@@ -268,7 +266,7 @@ same_refusal list position counted low high =
     same_test (eqb list.count 1) (eqb left 0)
     (λ h. eq-eqb left 0 (omega (arith, eqb-true list.count 1 h))) (λ h. eq-eqb list.count 1 (omega (arith, eqb-true left 0 h))) in
     simp (ne_eqb position 0 (λ e. omega arith), le-ltb list.count position high)
-    (ap (λ (p : Bool). refuse p in_every_set 0 Accepted) same
+    (ap (λ (p : Bool). refuse p InEverySet 0 (Ok tt)) same
     ∙ sym (group_passed list.count (single position) _ (pow_pos (position - 1)) (pow-lt (omega arith))))
 
 -- so taking out a position of the list is taking out the group of the part at it

@@ -9,8 +9,8 @@ use native.Mathlib.Nat.{min-le_left, le_refl}
 use native.Mathlib.Omega.{arith}
 use lib.ListN.{length, replicate, length-append, length-replicate, length-take}
 use lib.Seq.{take-append_seam, length-take-le}
-use Rattle.answer.specs.declared.Verdict.{Verdict}
-use Rattle.answer.specs.declared.Verdict.TheVariants.{Accepted, Refused}
+use Rattle.std.specs.Prelude.{Ok, Err}
+use Rattle.answer.specs.Outcome.{Verdict}
 use Rattle.record_parts.specs.declared.PartList.{PartList}
 use Rattle.record_numbers.specs.Numbering.{most_parts, top_number, cells_of, Rules, part_list_refusal, highest}
 use Rattle.record_parts.specs.PartLists.{numbers_of, list_of, WellFormed, listed_or, listing, made}
@@ -46,11 +46,11 @@ well_formed_list list w =
 
 -- a list with a verdict has that verdict
 pub listed_verdict : (other : PartList) (v : Verdict) (list : PartList) → (listed_or other v list).verdict ≡ v
-listed_verdict other Accepted list = refl
-listed_verdict other (Refused refusal) list = refl
+listed_verdict other (Ok _) list = refl
+listed_verdict other (Err refusal) list = refl
 
 -- numbers and a mark are accepted exactly if they keep the rules
-pub made_exactly : (mark : ℕ) (numbers : List ℕ) → ((made mark numbers).verdict ≡ Accepted) ↔ Rules (length numbers) mark numbers
+pub made_exactly : (mark : ℕ) (numbers : List ℕ) → ((made mark numbers).verdict ≡ Ok tt) ↔ Rules (length numbers) mark numbers
 unfolding made
 made_exactly mark numbers = (
   λ e. accepted_rules (length numbers) mark numbers (sym (listed_verdict (list_of 0 []) (part_list_refusal (length numbers) mark numbers) (list_of mark numbers)) ∙ e),
@@ -58,26 +58,26 @@ made_exactly mark numbers = (
 )
 
 -- they are then the mark and the numbers of the list that is made
-pub made_list : (mark : ℕ) (numbers : List ℕ) → (made mark numbers).verdict ≡ Accepted → (made mark numbers).list ≡ list_of mark numbers
+pub made_list : (mark : ℕ) (numbers : List ℕ) → (made mark numbers).verdict ≡ Ok tt → (made mark numbers).list ≡ list_of mark numbers
 unfolding made
 made_list mark numbers e =
     ap (λ (v : Verdict). (listing v (list_of mark numbers)).list) (rules_accepted ((made_exactly mark numbers).0 e))
 
 -- which is well-formed
-pub made_well_formed : (mark : ℕ) (numbers : List ℕ) → (made mark numbers).verdict ≡ Accepted → WellFormed (made mark numbers).list
+pub made_well_formed : (mark : ℕ) (numbers : List ℕ) → (made mark numbers).verdict ≡ Ok tt → WellFormed (made mark numbers).list
 made_well_formed mark numbers e =
     rw (made_list mark numbers e) (list_well_formed mark numbers ((made_exactly mark numbers).0 e))
 
 -- and every well-formed list is made, of its own mark and numbers
-pub well_formed_made : (list : PartList) → WellFormed list → made list.mark (numbers_of list) ≡ listing Accepted list
+pub well_formed_made : (list : PartList) → WellFormed list → made list.mark (numbers_of list) ≡ listing (Ok tt) list
 unfolding made
 well_formed_made list w =
     let same = well_formed_list list w in
     let rules : Rules (length (numbers_of list)) list.mark (numbers_of list) = rw (well_formed_counted list w) w.rules in
-    ap (λ (v : Verdict). listing v (list_of list.mark (numbers_of list))) (rules_accepted rules) ∙ ap (listing Accepted) (sym same)
+    ap (λ (v : Verdict). listing v (list_of list.mark (numbers_of list))) (rules_accepted rules) ∙ ap (listing (Ok tt)) (sym same)
 
 -- the numbers of a first list are accepted exactly if they keep the rules under the top number
-pub first_exactly : (numbers : List ℕ) → ((made (highest numbers) numbers).verdict ≡ Accepted) ↔ Rules (length numbers) top_number numbers
+pub first_exactly : (numbers : List ℕ) → ((made (highest numbers) numbers).verdict ≡ Ok tt) ↔ Rules (length numbers) top_number numbers
 first_exactly numbers = (
   λ e. let r = (made_exactly (highest numbers) numbers).0 e in
       record { some = r.some; few = r.few; rising = rising_wider 0 (highest numbers) 0 top_number numbers (le_refl 0) r.top r.rising; top = le_refl top_number },

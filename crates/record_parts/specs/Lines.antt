@@ -1,14 +1,10 @@
 -- Lines of changes of a part list (01, "Records on disk"; 02, §2): a line starts from one list, and each change is applied to what the last one gave.
 use mathlib.Core.List.{List, [], ◌∷◌, ◌++◌, Memᴰ}
-use Rattle.std.specs.Prelude.{◌⊎◌, ℕ, ◌≤◌}
-use Rattle.answer.specs.declared.Verdict.{Verdict}
-use Rattle.answer.specs.declared.Verdict.TheVariants.{Accepted}
-use Rattle.answer.specs.declared.Verdict.TheVariants as verdict
+use Rattle.answer.specs.Outcome.{Numbered, Verdict}
+use Rattle.std.specs.Prelude.{◌⊎◌, ℕ, ◌≤◌, Ok, Err}
 use Rattle.record_parts.specs.declared.PartList.{PartList}
 use Rattle.record_parts.specs.declared.Listed.{Listed}
 use Rattle.record_parts.specs.declared.Changed.{Changed}
-use Rattle.record_parts.specs.declared.Numbered.{Numbered}
-use Rattle.record_parts.specs.declared.Numbered.TheVariants.{Number, Refused}
 use Rattle.record_numbers.specs.Numbering.{RisingWithin, named}
 use Rattle.record_parts.specs.PartLists.{numbers_of, WellFormed}
 use Rattle.record_parts.specs.Changes.{part_added, taken_out, group_taken_out}
@@ -21,8 +17,8 @@ pub data PartChange : Type 0 where
 
 -- the verdict in an answer, and the list after a change with the verdict on it
 abbrev pub verdict_in : Numbered → Verdict
-verdict_in (Number number) = Accepted
-verdict_in (Refused refusal) = verdict.Refused refusal
+verdict_in (Ok number) = (Ok tt)
+verdict_in (Err refusal) = Err refusal
 
 abbrev pub listed_after : Changed → Listed
 listed_after change = record { list = change.list; verdict = verdict_in change.answer }
@@ -35,13 +31,13 @@ apply (take_out_group group) list = group_taken_out list group
 
 -- the number in an answer, where the change was made
 abbrev pub given_number : Numbered → List ℕ
-given_number (Number number) = number ∷ []
-given_number (Refused refusal) = []
+given_number (Ok number) = number ∷ []
+given_number (Err refusal) = []
 
 -- some numbers, where the change was made
 abbrev pub if_made : Verdict → List ℕ → List ℕ
-if_made Accepted numbers = numbers
-if_made (verdict.Refused refusal) numbers = []
+if_made (Ok _) numbers = numbers
+if_made (Err refusal) numbers = []
 
 -- the number issued in a change, and the numbers that left in it, if any
 abbrev pub issued_in : PartChange → PartList → List ℕ

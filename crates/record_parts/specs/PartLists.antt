@@ -1,8 +1,7 @@
 -- The part list of a design record (01, "Records on disk"): the part numbers in use, by position, and the mark, which is the highest part
 -- number ever issued.
-use Rattle.std.specs.Prelude.{◌≡◌, List, [], ℕ, length, take}
-use Rattle.answer.specs.declared.Verdict.{Verdict}
-use Rattle.answer.specs.declared.Verdict.TheVariants.{Accepted, Refused}
+use Rattle.answer.specs.Outcome.{Verdict}
+use Rattle.std.specs.Prelude.{◌≡◌, List, [], ℕ, length, take, Ok, Err}
 use Rattle.record_numbers.specs.Numbering.{cells_of, Rules, part_list_refusal}
 use Rattle.record_parts.specs.declared.PartList.{PartList}
 use Rattle.record_parts.specs.declared.Listed.{Listed}
@@ -22,8 +21,8 @@ pub record WellFormed (list : PartList) : Type 0 where
 
 -- A list with the verdict on it: where it is refused, another one in its place.
 abbrev pub listed_or : PartList → Verdict → PartList → Listed
-listed_or other (Refused refusal) list = record { list = other; verdict = Refused refusal }
-listed_or other Accepted list = record { list = list; verdict = Accepted }
+listed_or other (Err refusal) list = record { list = other; verdict = Err refusal }
+listed_or other (Ok _) list = record { list = list; verdict = (Ok tt) }
 
 -- What is made of numbers and a mark: the list that has them; or the refusal, with a list of no parts.
 abbrev pub listing : Verdict → PartList → Listed

@@ -8,7 +8,7 @@ ghost use Rattle.record_numbers.specs.Numbering.{most_parts, top_number, highest
 ghost use Rattle.record_parts.specs.PartLists.{made};
 ghost use Rattle.record_parts.specs.Changes.{changed, broken_refusal, part_added, list_without, taken_out, take_out_group_refusal, group_taken_out};
 
-use answer::{Refusal, Verdict};
+use answer::{Reason, Refusal};
 
 // The part numbers in use, by position, and the mark: the highest part number ever issued. The cells behind the last number hold 0.
 #[derive(Clone, Copy)]
@@ -22,7 +22,7 @@ pub struct PartList {
 #[derive(Clone, Copy)]
 pub struct Listed {
     pub list: PartList,
-    pub verdict: Verdict,
+    pub verdict: Result<(), Refusal>,
 }
 
 // The answer of a change: the part number that it issued or took out, or why nothing was changed.
@@ -36,7 +36,7 @@ pub enum Numbered {
 #[derive(Clone, Copy)]
 pub struct Changed {
     pub list: PartList,
-    pub answer: Numbered,
+    pub answer: Result<u64, Refusal>,
 }
 
 impl PartList {
@@ -58,15 +58,15 @@ impl PartList {
     {
         let verdict = record_numbers::judge(mark, numbers);
         match verdict {
-            Verdict::Refused(refusal) => Listed {
+            Err(refusal) => Listed {
                 list: PartList {
                     count: 0,
                     mark: 0,
                     numbers: [0; PartList::MOST_PARTS],
                 },
-                verdict: Verdict::Refused(refusal),
+                verdict: Err(refusal),
             },
-            Verdict::Accepted => {
+            Ok(()) => {
                 let cells = record_numbers::cells(numbers, 0);
                 Listed {
                     list: PartList {
@@ -74,7 +74,7 @@ impl PartList {
                         mark,
                         numbers: cells,
                     },
-                    verdict: Verdict::Accepted,
+                    verdict: Ok(()),
                 }
             }
         }
@@ -85,16 +85,16 @@ impl PartList {
         ensures { result ≡ part_added self }
     {
         let verdict = self.judged();
-        if let Verdict::Refused(refusal) = verdict {
-            return unchanged(self, refusal.number, refusal.place);
+        if let Err(refusal) = verdict {
+            return unchanged(self, refusal.reason, refusal.place);
         }
         let count = self.count;
         let mark = self.mark;
         if count == PartList::MOST_PARTS {
-            return unchanged(self, answer::FULL_MACHINE, 0);
+            return unchanged(self, Reason::FullMachine, 0);
         }
         if mark == PartList::TOP_NUMBER {
-            return unchanged(self, answer::NUMBERS_SPENT, 0);
+            return unchanged(self, Reason::NumbersSpent, 0);
         }
         let issued = self.next_number();
         let numbers = self.numbers;
@@ -106,7 +106,7 @@ impl PartList {
                 mark: issued,
                 numbers: cells,
             },
-            answer: Numbered::Number(issued),
+            answer: Ok(issued),
         }
     }
 
@@ -115,25 +115,25 @@ impl PartList {
         ensures { result ≡ taken_out self position }
     {
         let verdict = self.judged();
-        if let Verdict::Refused(refusal) = verdict {
-            return unchanged(self, refusal.number, refusal.place);
+        if let Err(refusal) = verdict {
+            return unchanged(self, refusal.reason, refusal.place);
         }
         let count = self.count;
         if position == 0 {
-            return unchanged(self, answer::UNKNOWN_POSITION, 0);
+            return unchanged(self, Reason::UnknownPosition, 0);
         }
         if count < position {
-            return unchanged(self, answer::UNKNOWN_POSITION, 0);
+            return unchanged(self, Reason::UnknownPosition, 0);
         }
         if count == 1 {
-            return unchanged(self, answer::IN_EVERY_SET, 0);
+            return unchanged(self, Reason::InEverySet, 0);
         }
         let numbers = self.numbers;
         let taken = numbers[position - 1];
         let group = numbers::power_of_two(position - 1);
         Changed {
             list: self.without(group),
-            answer: Numbered::Number(taken),
+            answer: Ok(taken),
         }
     }
 
@@ -142,35 +142,35 @@ impl PartList {
         ensures { result ≡ group_taken_out self group }
     {
         let verdict = self.group_verdict(group);
-        if let Verdict::Refused(refusal) = verdict {
+        if let Err(refusal) = verdict {
             return Listed {
                 list: self,
-                verdict: Verdict::Refused(refusal),
+                verdict: Err(refusal),
             };
         }
         Listed {
             list: self.without(group),
-            verdict: Verdict::Accepted,
+            verdict: Ok(()),
         }
     }
 
     // The verdict on a list and a group of its parts that is to leave.
-    fn group_verdict(self, group: usize) -> Verdict
+    fn group_verdict(self, group: usize) -> Result<(), Refusal>
         ensures { result ≡ and_then (broken_refusal self) (take_out_group_refusal self group) }
     {
         let verdict = self.judged();
-        if let Verdict::Refused(refusal) = verdict {
-            return Verdict::Refused(refusal);
+        if let Err(refusal) = verdict {
+            return Err(refusal);
         }
         let count = self.count;
         let known = masks::group_verdict(count, group);
-        if let Verdict::Refused(refusal) = known {
-            return Verdict::Refused(refusal);
+        if let Err(refusal) = known {
+            return Err(refusal);
         }
         if masks::size(group) == count {
-            return answer::refused(answer::IN_EVERY_SET, 0);
+            return Err(Reason::InEverySet.at(0));
         }
-        Verdict::Accepted
+        Ok(())
     }
 
     // The list without the parts of a group of it: the others move together, and the mark stays.
@@ -198,24 +198,24 @@ impl PartList {
     }
 
     // Whether a list that may have been built by hand keeps the rules of the type.
-    fn judged(self) -> Verdict
+    fn judged(self) -> Result<(), Refusal>
         ensures { result ≡ broken_refusal self }
     {
         let count = self.count;
         let numbers = self.numbers;
         if PartList::MOST_PARTS < count {
-            return answer::refused(answer::WRONG_PART_COUNT, 0);
+            return Err(Reason::WrongPartCount.at(0));
         }
         record_numbers::judge(self.mark, &numbers[..count])
     }
 }
 
 // A refused change leaves the list as it was.
-fn unchanged(list: PartList, number: u8, place: usize) -> Changed
-    ensures { result ≡ changed list (Numbered.Refused (at number place)) }
+fn unchanged(list: PartList, reason: Reason, place: usize) -> Changed
+    ensures { result ≡ changed list (Err (at reason place)) }
 {
     Changed {
         list,
-        answer: Numbered::Refused(Refusal { number, place }),
+        answer: Err(Refusal { reason, place }),
     }
 }

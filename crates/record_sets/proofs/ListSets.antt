@@ -10,11 +10,10 @@ use native.Mathlib.Omega.{arith}
 use borrow.Author.Tests.{eq-eqb, ne_eqb, eqb-false, le-leb, lt-leb, leb-false}
 use lib.Dec.{leb, eqb}
 use lib.ListN.{length, length-append}
-use Rattle.answer.specs.Refusals.{unknown_part, empty_set}
-use Rattle.answer.specs.Outcome.{at, refuse, and_then}
+use Rattle.std.specs.Prelude.{Ok, Err}
+use Rattle.answer.specs.declared.Reason.TheVariants.{UnknownPart, EmptySet}
+use Rattle.answer.specs.Outcome.{at, refuse, and_then, Verdict}
 use Rattle.answer.specs.declared.Refusal.{Refusal}
-use Rattle.answer.specs.declared.Verdict.{Verdict}
-use Rattle.answer.specs.declared.Verdict.TheVariants.{Accepted, Refused}
 use Rattle.answer.proofs.Outcomes.{refuse_accepted, refuse_passed, refuse_held}
 use Rattle.theory_sets.specs.Structures.{listed, minimal_sets}
 use Rattle.theory_sets.specs.Tables.{in_table, table_of}
@@ -65,36 +64,36 @@ sets_walk n sets some =
 
 -- ---- a list, and one set more behind it
 
-pub list_some : (n : ℕ) (list : List ℕ) → list_refusal n list ≡ Accepted → SomeSets n list
+pub list_some : (n : ℕ) (list : List ℕ) → list_refusal n list ≡ Ok tt → SomeSets n list
 list_some n list accepted = let l = accepted_list n list accepted in record { some = l.some; few = l.few; any_set = l.any_set; within = l.sets }
 
 module _ (n : ℕ) (list : List ℕ) (set : ℕ) where
-  pub with_refused : (why : Refusal) → list_refusal n list ≡ Refused why → with_set_refusal n list set ≡ Refused why
-  with_refused why e = ap (λ (v : Verdict). and_then v (refuse (leb (2 ^ n) set) unknown_part 0 (refuse (eqb set 0) empty_set 0 Accepted))) e
+  pub with_refused : (why : Refusal) → list_refusal n list ≡ Err why → with_set_refusal n list set ≡ Err why
+  with_refused why e = ap (λ (v : Verdict). and_then v (refuse (leb (2 ^ n) set) UnknownPart 0 (refuse (eqb set 0) EmptySet 0 (Ok tt)))) e
 
-  module _ (accepted : list_refusal n list ≡ Accepted) where
+  module _ (accepted : list_refusal n list ≡ Ok tt) where
     -- the list is accepted: 4 and 5 are left to be asked
-    left : with_set_refusal n list set ≡ refuse (leb (2 ^ n) set) unknown_part 0 (refuse (eqb set 0) empty_set 0 Accepted)
-    left = ap (λ (v : Verdict). and_then v (refuse (leb (2 ^ n) set) unknown_part 0 (refuse (eqb set 0) empty_set 0 Accepted))) accepted
+    left : with_set_refusal n list set ≡ refuse (leb (2 ^ n) set) UnknownPart 0 (refuse (eqb set 0) EmptySet 0 (Ok tt))
+    left = ap (λ (v : Verdict). and_then v (refuse (leb (2 ^ n) set) UnknownPart 0 (refuse (eqb set 0) EmptySet 0 (Ok tt)))) accepted
 
-    pub with_unknown : 2 ^ n ≤ set → with_set_refusal n list set ≡ Refused (at unknown_part 0)
-    with_unknown h = left ∙ refuse_held (leb (2 ^ n) set) unknown_part 0 _ (le-leb (2 ^ n) set h)
+    pub with_unknown : 2 ^ n ≤ set → with_set_refusal n list set ≡ Err (at UnknownPart 0)
+    with_unknown h = left ∙ refuse_held (leb (2 ^ n) set) UnknownPart 0 _ (le-leb (2 ^ n) set h)
 
-    pub with_empty : set < 2 ^ n → set ≡ 0 → with_set_refusal n list set ≡ Refused (at empty_set 0)
+    pub with_empty : set < 2 ^ n → set ≡ 0 → with_set_refusal n list set ≡ Err (at EmptySet 0)
     with_empty h none =
-        left ∙ refuse_passed (leb (2 ^ n) set) unknown_part 0 _ (lt-leb (2 ^ n) set h) ∙ refuse_held (eqb set 0) empty_set 0 Accepted (eq-eqb set 0 none)
+        left ∙ refuse_passed (leb (2 ^ n) set) UnknownPart 0 _ (lt-leb (2 ^ n) set h) ∙ refuse_held (eqb set 0) EmptySet 0 (Ok tt) (eq-eqb set 0 none)
 
-    pub with_accepted : set < 2 ^ n → (set ≡ 0 → ⊥) → with_set_refusal n list set ≡ Accepted
+    pub with_accepted : set < 2 ^ n → (set ≡ 0 → ⊥) → with_set_refusal n list set ≡ Ok tt
     with_accepted h some =
-        left ∙ refuse_passed (leb (2 ^ n) set) unknown_part 0 _ (lt-leb (2 ^ n) set h) ∙ refuse_passed (eqb set 0) empty_set 0 Accepted (ne_eqb set 0 some)
+        left ∙ refuse_passed (leb (2 ^ n) set) UnknownPart 0 _ (lt-leb (2 ^ n) set h) ∙ refuse_passed (eqb set 0) EmptySet 0 (Ok tt) (ne_eqb set 0 some)
 
   -- what is accepted is some sets of n parts
-  pub with_some : with_set_refusal n list set ≡ Accepted → SomeSets n (list ++ (set ∷ []))
+  pub with_some : with_set_refusal n list set ≡ Ok tt → SomeSets n (list ++ (set ∷ []))
   with_some accepted =
       let both = and_then_lem (list_refusal n list) accepted in
       let l = accepted_list n list both.0 in
-      let known = refuse_accepted (leb (2 ^ n) set) unknown_part 0 _ both.1 in
-      let some = refuse_accepted (eqb set 0) empty_set 0 Accepted known.1 in
+      let known = refuse_accepted (leb (2 ^ n) set) UnknownPart 0 _ both.1 in
+      let some = refuse_accepted (eqb set 0) EmptySet 0 (Ok tt) known.1 in
       record {
         some = l.some;
         few = l.few;
@@ -107,12 +106,12 @@ module _ (n : ℕ) (list : List ℕ) (set : ℕ) where
             (Memᴰ.append_cases list m);
       }
     where
-      and_then_lem : (v : Verdict) {later : Verdict} → and_then v later ≡ Accepted → (v ≡ Accepted) × (later ≡ Accepted)
-      and_then_lem (Refused r) e = let z : ◌≡◌ {A = ℕ} 0 1 = cc in absurd (omega arith)
-      and_then_lem Accepted e = (refl, e)
+      and_then_lem : (v : Verdict) {later : Verdict} → and_then v later ≡ Ok tt → (v ≡ Ok tt) × (later ≡ Ok tt)
+      and_then_lem (Err r) e = let z : ◌≡◌ {A = ℕ} 0 1 = cc in absurd (omega arith)
+      and_then_lem (Ok _) e = (refl, e)
 
   -- and the marked sets' minimal ones are theirs
-  pub with_walk : with_set_refusal n list set ≡ Accepted → least_of n (words_of (among (list ++ (set ∷ [])))) ≡ minimal_sets n (listed (set ∷ list))
+  pub with_walk : with_set_refusal n list set ≡ Ok tt → least_of n (words_of (among (list ++ (set ∷ [])))) ≡ minimal_sets n (listed (set ∷ list))
   with_walk accepted =
       sets_walk n (list ++ (set ∷ [])) (with_some accepted)
       ∙ minimal_sets_same n (listed (list ++ (set ∷ []))) (listed (set ∷ list)) (λ a h. listed_behind list set a)

@@ -1,7 +1,6 @@
 -- What refuses a list of sets to which a set is added (01, "Records on disk": the new one is tested with 4 and 5, place 0).
 use Rattle.std.specs.Prelude.{ℕ, List}
-use Rattle.answer.specs.Outcome.{and_then}
-use Rattle.answer.specs.declared.Verdict.{Verdict}
+use Rattle.answer.specs.Outcome.{and_then, Verdict}
 use Rattle.structure.specs.Checks.{list_refusal}
 use Rattle.record_lines.specs.Changes.{new_set_refusal}
 

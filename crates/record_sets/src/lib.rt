@@ -11,16 +11,16 @@ ghost use Rattle.record_lines.specs.Changes.{sets_without};
 ghost use Rattle.record_sets.specs.Lists.{with_set_refusal};
 ghost use Rattle.record_sets.specs.Inside.{least_of};
 
-use answer::{Verdict, Written};
+use answer::{Reason, Refusal};
 
 // The minimal sets of a list of sets, ascending, into a lent buffer.
-pub fn minimal_of_list(n: usize, list: &[u16], sets: &mut [u16]) -> Written
+pub fn minimal_of_list(n: usize, list: &[u16], sets: &mut [u16]) -> Result<usize, Refusal>
     ensures { outcome result sets.new ≡ delivered (list_refusal n list.now) (minimal_sets n (listed list.now)) sets.old }
 {
     let checked = structure::list_verdict(n, list);
     match checked {
-        Verdict::Refused(refusal) => Written::Refused(refusal),
-        Verdict::Accepted => {
+        Err(refusal) => Err(refusal),
+        Ok(()) => {
             let marks = structure_words::marked(list);
             minimal_of_marks(n, &marks, sets)
         }
@@ -28,13 +28,13 @@ pub fn minimal_of_list(n: usize, list: &[u16], sets: &mut [u16]) -> Written
 }
 
 // The minimal sets of a list of sets and one set more, ascending, into a lent buffer.
-pub fn minimal_with(n: usize, list: &[u16], set: u16, sets: &mut [u16]) -> Written
+pub fn minimal_with(n: usize, list: &[u16], set: u16, sets: &mut [u16]) -> Result<usize, Refusal>
     ensures { outcome result sets.new ≡ delivered (with_set_refusal n list.now set) (minimal_sets n (listed (set ∷ list.now))) sets.old }
 {
     let verdict = with_verdict(n, list, set);
     match verdict {
-        Verdict::Refused(refusal) => Written::Refused(refusal),
-        Verdict::Accepted => {
+        Err(refusal) => Err(refusal),
+        Ok(()) => {
             let marks = marked_with(list, set);
             minimal_of_marks(n, &marks, sets)
         }
@@ -42,32 +42,32 @@ pub fn minimal_with(n: usize, list: &[u16], set: u16, sets: &mut [u16]) -> Writt
 }
 
 // The sets that have no part of a group, with higher positions moved down, into a lent buffer.
-pub fn sets_without(sets: &[u16], group: usize, kept: &mut [u16]) -> Written
-    ensures { outcome result kept.new ≡ delivered Verdict.Accepted (sets_without group sets.now) kept.old }
+pub fn sets_without(sets: &[u16], group: usize, kept: &mut [u16]) -> Result<usize, Refusal>
+    ensures { outcome result kept.new ≡ delivered (Ok tt) (sets_without group sets.now) kept.old }
 {
     let needed = left_without(sets, group);
     if kept.len() < needed {
-        return answer::short(needed);
+        return Err(Reason::ShortBuffer.at(needed));
     }
     let left = keep_without(sets, group, kept);
-    Written::Length(left)
+    Ok(left)
 }
 
 // The verdict on a list and one set more.
-fn with_verdict(n: usize, list: &[u16], set: u16) -> Verdict
+fn with_verdict(n: usize, list: &[u16], set: u16) -> Result<(), Refusal>
     ensures { result ≡ with_set_refusal n list.now set }
 {
     let verdict = structure::list_verdict(n, list);
-    if let Verdict::Refused(refusal) = verdict {
-        return Verdict::Refused(refusal);
+    if let Err(refusal) = verdict {
+        return Err(refusal);
     }
     if numbers::power_of_two(n) <= set as usize {
-        return answer::refused(answer::UNKNOWN_PART, 0);
+        return Err(Reason::UnknownPart.at(0));
     }
     if set == 0 {
-        return answer::refused(answer::EMPTY_SET, 0);
+        return Err(Reason::EmptySet.at(0));
     }
-    Verdict::Accepted
+    Ok(())
 }
 
 // A list and one set more, marked.
@@ -81,8 +81,8 @@ fn marked_with(list: &[u16], set: u16) -> [u64; 1024]
 }
 
 // The minimal ones of sets that are marked, ascending, into a lent buffer.
-fn minimal_of_marks(n: usize, marks: &[u64], sets: &mut [u16]) -> Written
-    ensures { outcome result sets.new ≡ delivered Verdict.Accepted (least_of n marks.now) sets.old }
+fn minimal_of_marks(n: usize, marks: &[u64], sets: &mut [u16]) -> Result<usize, Refusal>
+    ensures { outcome result sets.new ≡ delivered (Ok tt) (least_of n marks.now) sets.old }
 {
     let reached = structure_closure::spread(marks, n);
     let least = structure_closure::irredundant(&reached, n);
@@ -101,7 +101,7 @@ fn left_without(sets: &[u16], group: usize) -> usize
 // Stores these sets, squeezed, where there is room for all of them, and answers how many they are.
 fn keep_without(sets: &[u16], group: usize, kept: &mut [u16]) -> usize
     requires { length (sets_without group sets.now) ≤ length kept.old }
-    ensures { outcome (Written.Length result) kept.new ≡ delivered Verdict.Accepted (sets_without group sets.now) kept.old }
+    ensures { outcome (Ok result) kept.new ≡ delivered (Ok tt) (sets_without group sets.now) kept.old }
 {
     let mut next = 0;
     for &set in sets {

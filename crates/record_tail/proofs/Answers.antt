@@ -6,17 +6,16 @@ use mathlib.Core.List.{List, []}
 use Prim.Native.Nat.{ℕ, ◌≤◌}
 use native.Mathlib.Omega.{arith}
 use borrow.Author.Tests.{ltb-false}
+use Rattle.std.specs.Prelude.{Ok, Err}
 use Rattle.numbers.proofs.Bools.{or_left, or_right}
-use Rattle.answer.specs.Refusals.{wrong_retired}
+use Rattle.answer.specs.declared.Reason.TheVariants.{WrongRetired}
 use Rattle.answer.specs.Outcome.{at}
 use Rattle.answer.specs.declared.Refusal.{Refusal}
-use Rattle.answer.specs.declared.Verdict.TheVariants.{Accepted, Refused}
 use Rattle.answer.proofs.Outcomes.{refuse_accepted, refuse_held, refuse_passed}
-use Rattle.codec.specs.declared.Reading.TheVariants as reading
 use Rattle.codec.specs.declared.Field.TheVariants.{Count, PartNumber}
-use Rattle.codec.specs.Reads.{Read, found, refused}
+use Rattle.codec.specs.Reads.{Read, found, refused, answered}
 use Rattle.codec.specs.FieldReads.{field_at, fields_at}
-use Rattle.codec.proofs.Found.{field_checked}
+use Rattle.codec.proofs.Found.{answer_number, field_checked}
 use Rattle.record_numbers.specs.Numbering.{misnumbered, names}
 use Rattle.record_head.proofs.Answers.{not_both}
 use Rattle.record_retired.specs.declared.Retired.{Retired}
@@ -31,39 +30,40 @@ pub record TailGiven (read : Read (List ℕ)) (tail : Tail) : Type 0 where
   pub given : read ≡ found retired tail.next
   pub cells : tail.retired ≡ retired_of retired
 
-pub tail_given : (read : Read (List ℕ)) (tail : Tail) → tail ≡ tail_of read → tail.verdict ≡ Accepted → TailGiven read tail
+pub tail_given : (read : Read (List ℕ)) (tail : Tail) → tail ≡ tail_of read → tail.verdict ≡ Ok tt → TailGiven read tail
 tail_given (found retired next) tail e v =
     record { retired = retired; given = ap (found retired) (sym (ap (λ (t : Tail). t.next) e)); cells = ap (λ (t : Tail). t.retired) e }
 tail_given (refused why) tail e v = not_both v (ap (λ (t : Tail). t.verdict) e)
 
-pub tail_refused : (read : Read (List ℕ)) (tail : Tail) (why : Refusal) → tail ≡ tail_of read → tail.verdict ≡ Refused why → read ≡ refused why
+pub tail_refused : (read : Read (List ℕ)) (tail : Tail) (why : Refusal) → tail ≡ tail_of read → tail.verdict ≡ Err why → read ≡ refused why
 tail_refused (found retired next) tail why e v = not_both (ap (λ (t : Tail). t.verdict) e) v
-tail_refused (refused r) tail why e v = let same : Refused r ≡ Refused why = sym (ap (λ (t : Tail). t.verdict) e) ∙ v in cc same
+tail_refused (refused r) tail why e v = let same : Err r ≡ Err why = sym (ap (λ (t : Tail). t.verdict) e) ∙ v in cc same
 
 -- the counts
-pub counts_given : (read : Read (List ℕ)) (value next : ℕ) → reading.Number value next ≡ counted_of read → (same : List ℕ) × (read ≡ found same next)
-counts_given (found numbers end) value next e = let ends : end ≡ next = cc e in (numbers, ap (found numbers) ends)
+pub counts_given : (read : Read (List ℕ)) (value next : ℕ) → answered value next ≡ counted_of read → (same : List ℕ) × (read ≡ found same next)
+counts_given (found numbers end) value next e = let same : found (length numbers) end ≡ found value next = answer_number (found (length numbers) end) value next e in
+    let ends : end ≡ next = cc same in (numbers, ap (found numbers) ends)
 counts_given (refused why) value next e = let z : ◌≡◌ {A = ℕ} 0 1 = cc in absurd (omega arith)
 
-pub counts_refused : (read : Read (List ℕ)) (why : Refusal) → reading.Refused why ≡ counted_of read → read ≡ refused why
+pub counts_refused : (read : Read (List ℕ)) (why : Refusal) → Err why ≡ counted_of read → read ≡ refused why
 counts_refused (found numbers end) why e = let z : ◌≡◌ {A = ℕ} 0 1 = cc in absurd (omega arith)
 counts_refused (refused r) why e = let same : r ≡ why = cc e in ap refused same
 
 -- a retired number that 30 refuses, and one that passes
 module _ (mark : ℕ) (in_use : List ℕ) (previous place number : ℕ) where
-  pub retired_misnumbered : misnumbered previous mark number ≡ true → retired_refusal mark in_use previous place number ≡ Refused (at wrong_retired place)
-  retired_misnumbered e = refuse_held (misnumbered previous mark number || names number in_use) wrong_retired place Accepted (or_left (names number in_use) e)
+  pub retired_misnumbered : misnumbered previous mark number ≡ true → retired_refusal mark in_use previous place number ≡ Err (at WrongRetired place)
+  retired_misnumbered e = refuse_held (misnumbered previous mark number || names number in_use) WrongRetired place (Ok tt) (or_left (names number in_use) e)
 
-  pub retired_in_use : names number in_use ≡ true → retired_refusal mark in_use previous place number ≡ Refused (at wrong_retired place)
-  retired_in_use e = refuse_held (misnumbered previous mark number || names number in_use) wrong_retired place Accepted (or_right (misnumbered previous mark number) e)
+  pub retired_in_use : names number in_use ≡ true → retired_refusal mark in_use previous place number ≡ Err (at WrongRetired place)
+  retired_in_use e = refuse_held (misnumbered previous mark number || names number in_use) WrongRetired place (Ok tt) (or_right (misnumbered previous mark number) e)
 
-  pub retired_right : misnumbered previous mark number ≡ false → names number in_use ≡ false → retired_refusal mark in_use previous place number ≡ Accepted
-  retired_right e d = refuse_passed (misnumbered previous mark number || names number in_use) wrong_retired place Accepted (rw (e, d) refl)
+  pub retired_right : misnumbered previous mark number ≡ false → names number in_use ≡ false → retired_refusal mark in_use previous place number ≡ Ok tt
+  retired_right e d = refuse_passed (misnumbered previous mark number || names number in_use) WrongRetired place (Ok tt) (rw (e, d) refl)
 
 -- 64 at the most
 pub retired_few : (bytes : List ℕ) (start count next : ℕ) → field_at bytes start Count (retired_count_refusal start) ≡ found count next → count ≤ most_retired
 retired_few bytes start count next e =
-    ltb-false most_retired count (refuse_accepted _ wrong_retired start Accepted (field_checked bytes start Count (retired_count_refusal start) count next e)).0
+    ltb-false most_retired count (refuse_accepted _ WrongRetired start (Ok tt) (field_checked bytes start Count (retired_count_refusal start) count next e)).0
 
 -- ---- from one piece to the next
 
@@ -88,6 +88,6 @@ module _ (bytes : List ℕ) (mark : ℕ) (in_use : List ℕ) (start : ℕ) where
       tail_no_counts why d = rw (e, d)
 
       pub tail_whole : (cells : Retired) (same : List ℕ) (end : ℕ) → cells ≡ retired_of retired → counts_at bytes counts next ≡ found same end
-          → record { retired = cells; next = end; verdict = Accepted } ≡ tail_of (tail_at bytes mark in_use counts start)
+          → record { retired = cells; next = end; verdict = (Ok tt) } ≡ tail_of (tail_at bytes mark in_use counts start)
       unfolding tail_at
-      tail_whole cells same end r d = ap (λ (k : Retired). record { retired = k; next = end; verdict = Accepted }) r ∙ rw (e, d)
+      tail_whole cells same end r d = ap (λ (k : Retired). record { retired = k; next = end; verdict = (Ok tt) }) r ∙ rw (e, d)

@@ -6,8 +6,8 @@ use Prim.Native.Nat.{ℕ, ◌+◌, ◌*◌, ◌≤◌}
 use native.Mathlib.Omega.{arith}
 use borrow.Author.Tests.{ltb-false}
 use lib.ListN.{length, take}
-use Rattle.answer.specs.Refusals.{wrong_retired}
-use Rattle.answer.specs.declared.Verdict.TheVariants.{Accepted}
+use Rattle.std.specs.Prelude.{Ok}
+use Rattle.answer.specs.declared.Reason.TheVariants.{WrongRetired}
 use Rattle.answer.proofs.Outcomes.{refuse_accepted}
 use Rattle.codec.specs.declared.Field.TheVariants.{Count, PartNumber}
 use Rattle.codec.specs.Reads.{Read, found, then}
@@ -21,7 +21,7 @@ use Rattle.record_tail.specs.Tails.{retired_count_refusal, retired_judge, count_
 module _ (bytes : List ℕ) (small : Bytes bytes) (mark : ℕ) (in_use : List ℕ) where
   few : (start count next : ℕ) → field_at bytes start Count (retired_count_refusal start) ≡ found count next → count ≤ most_retired
   few start count next e =
-      ltb-false most_retired count (refuse_accepted _ wrong_retired start Accepted (field_checked bytes start Count (retired_count_refusal start) count next e)).0
+      ltb-false most_retired count (refuse_accepted _ WrongRetired start (Ok tt) (field_checked bytes start Count (retired_count_refusal start) count next e)).0
 
   retired_next : (start : ℕ) (retired : List ℕ) (next : ℕ) → retired_at bytes mark in_use start ≡ found retired next → next ≤ start + 453
   unfolding retired_at

@@ -11,9 +11,9 @@ use native.Mathlib.Omega.{arith}
 use borrow.Author.Tests.{ltb-false, le-ltb, eqb-true, eq-eqb}
 use lib.Dec.{eqb}
 use lib.ListN.{length, get_or, drop, length-append}
+use Rattle.std.specs.Prelude.{Ok}
 use Rattle.numbers.proofs.Bools.{neither, clash, false_of}
-use Rattle.answer.specs.Refusals.{wrong_retired, different_count}
-use Rattle.answer.specs.declared.Verdict.TheVariants.{Accepted}
+use Rattle.answer.specs.declared.Reason.TheVariants.{WrongRetired, DifferentCount}
 use Rattle.answer.proofs.Outcomes.{refuse_accepted, refuse_passed}
 use Rattle.codec.specs.declared.Field.TheVariants.{Count, PartNumber}
 use Rattle.codec.specs.ByteForm.{bytes_of, forms_of}
@@ -39,11 +39,11 @@ module _ (mark : ℕ) (in_use : List ℕ) where
   pub retired_any_place : AnyPlace (retired_judge mark in_use)
   retired_any_place earlier place other number e =
       let wrong : Bool = misnumbered (last_number 0 earlier) mark number || names number in_use in
-      refuse_passed wrong wrong_retired other Accepted (refuse_accepted wrong wrong_retired place Accepted e).0
+      refuse_passed wrong WrongRetired other (Ok tt) (refuse_accepted wrong WrongRetired place (Ok tt) e).0
 
   -- one that passes is right after the earlier ones and is not in use
-  right : (earlier : List ℕ) (number : ℕ) → retired_judge mark in_use earlier 0 number ≡ Accepted → (misnumbered (last_number 0 earlier) mark number ≡ false) × (names number in_use ≡ false)
-  right earlier number e = neither _ _ (refuse_accepted _ wrong_retired 0 Accepted e).0
+  right : (earlier : List ℕ) (number : ℕ) → retired_judge mark in_use earlier 0 number ≡ Ok tt → (misnumbered (last_number 0 earlier) mark number ≡ false) × (names number in_use ≡ false)
+  right earlier number e = neither _ _ (refuse_accepted _ WrongRetired 0 (Ok tt) e).0
 
   -- they pass one after the other exactly if they rise under the mark and none is in use
   follow_rising : (earlier numbers : List ℕ) → Follow (retired_judge mark in_use) earlier numbers → RisingWithin (last_number 0 earlier) mark numbers
@@ -66,7 +66,7 @@ module _ (mark : ℕ) (in_use : List ℕ) where
   rules_follow top earlier (v ∷ numbers) r unused =
       let rises : misnumbered (last_number 0 earlier) mark v ≡ false = number_right (last_number 0 earlier) mark v r.0 r.1 top in
       let free : names v in_use ≡ false = false_of (names v in_use) (λ h. unused v (Memᴰ.head refl) (names_elim v in_use h)) in (
-        λ place. refuse_passed (misnumbered (last_number 0 earlier) mark v || names v in_use) wrong_retired place Accepted (rw (rises, free) refl),
+        λ place. refuse_passed (misnumbered (last_number 0 earlier) mark v || names v in_use) WrongRetired place (Ok tt) (rw (rises, free) refl),
         rules_follow top (earlier ++ (v ∷ [])) numbers (subst (λ (low : ℕ). RisingWithin low mark numbers) (sym (last_more 0 earlier v)) r.2) (λ number i. unused number (Memᴰ.tail i)),
       )
 
@@ -75,7 +75,7 @@ module _ (mark : ℕ) (in_use : List ℕ) where
 counts_any_place : (counts : List ℕ) → AnyPlace (count_judge counts)
 counts_any_place counts earlier place other count e =
     let wrong : Bool = not (eqb count (get_or counts (length earlier) 0)) in
-    refuse_passed wrong different_count other Accepted (refuse_accepted wrong different_count place Accepted e).0
+    refuse_passed wrong DifferentCount other (Ok tt) (refuse_accepted wrong DifferentCount place (Ok tt) e).0
 
 shown : (p : Bool) → not p ≡ false → p ≡ true
 shown true e = refl
@@ -87,7 +87,7 @@ follow_counts front [] [] e f = refl
 follow_counts front [] (x ∷ rest) e f = absurd (omega (arith, e))
 follow_counts front (c ∷ counts) [] e f = absurd (omega (arith, e))
 follow_counts front (c ∷ counts) (x ∷ rest) e f =
-    let passed : eqb x (get_or (front ++ (c ∷ counts)) (length front) 0) ≡ true = shown _ (refuse_accepted _ different_count 0 Accepted (f.0 0)).0 in
+    let passed : eqb x (get_or (front ++ (c ∷ counts)) (length front) 0) ≡ true = shown _ (refuse_accepted _ DifferentCount 0 (Ok tt) (f.0 0)).0 in
     let same : x ≡ c = eqb-true x _ passed ∙ here front c counts in
     let whole : front ++ (c ∷ counts) ≡ (front ++ (x ∷ [])) ++ counts = sym (append_assoc front (c ∷ []) counts) ∙ ap (λ (k : ℕ). (front ++ (k ∷ [])) ++ counts) (sym same) in
     let later : rest ≡ counts =
@@ -102,7 +102,7 @@ counts_follow : (front counts : List ℕ) → Follow (count_judge (front ++ coun
 counts_follow front [] = tt
 counts_follow front (c ∷ counts) =
     let same : (front ++ (c ∷ [])) ++ counts ≡ front ++ (c ∷ counts) = append_assoc front (c ∷ []) counts in (
-      λ place. refuse_passed (not (eqb c (get_or (front ++ (c ∷ counts)) (length front) 0))) different_count place Accepted (rw (eq-eqb c (get_or (front ++ (c ∷ counts)) (length front) 0) (sym (here front))) refl),
+      λ place. refuse_passed (not (eqb c (get_or (front ++ (c ∷ counts)) (length front) 0))) DifferentCount place (Ok tt) (rw (eq-eqb c (get_or (front ++ (c ∷ counts)) (length front) 0) (sym (here front))) refl),
       subst (λ (l : List ℕ). Follow (count_judge l) (front ++ (c ∷ [])) counts) same (counts_follow (front ++ (c ∷ [])) counts),
     )
   where
@@ -127,7 +127,7 @@ module _ (bytes : List ℕ) (mark : ℕ) (in_use counts : List ℕ) (start : ℕ
       let r = fields_found bytes PartNumber (retired_judge mark in_use) (retired_any_place mark in_use) a.0 [] a.1 retired next small f.stands.inside a.3 in
       let counted : a.0 ≡ length retired = sym (ap length r.behind_earlier ∙ r.counted) in
       let follow : Follow (retired_judge mark in_use) [] retired = subst (Follow (retired_judge mark in_use) []) (sym r.behind_earlier) r.follow in
-      let few : a.0 ≤ most_retired = ltb-false most_retired a.0 (refuse_accepted _ wrong_retired start Accepted f.passed).0 in
+      let few : a.0 ≤ most_retired = ltb-false most_retired a.0 (refuse_accepted _ WrongRetired start (Ok tt) f.passed).0 in
       let front : Stands bytes start a.1 (bytes_of (length retired)) = subst (λ (k : ℕ). Stands bytes start a.1 (bytes_of k)) counted f.stands in
       let forms : Stands bytes a.1 next (forms_of retired) = subst (λ (l : List ℕ). Stands bytes a.1 next (forms_of l)) (sym r.behind_earlier) r.stands in (
         record { most = subst (λ (k : ℕ). k ≤ most_retired) counted few; rising = follow_rising mark in_use [] retired follow; unused = follow_unused mark in_use [] retired follow },
@@ -162,7 +162,7 @@ module _ (bytes : List ℕ) (mark : ℕ) (in_use counts : List ℕ) (start : ℕ
       let last : drop (start + length front + length (forms_of retired)) bytes ≡ forms_of counts ++ rest = behind bytes (start + length front) (forms_of retired) (forms_of counts ++ rest) after in
       let first : field_at bytes start Count (retired_count_refusal start) ≡ found (length retired) (start + length front) =
       field_read bytes start Count (retired_count_refusal start) (length retired) (forms_of retired ++ (forms_of counts ++ rest)) forms (omega (arith, r.most))
-      (refuse_passed _ wrong_retired start Accepted (le-ltb most_retired (length retired) r.most)) in
+      (refuse_passed _ WrongRetired start (Ok tt) (le-ltb most_retired (length retired) r.most)) in
       let second : fields_at bytes PartNumber (retired_judge mark in_use) (length retired) [] (start + length front) ≡ found retired (start + length front + length (forms_of retired)) =
       fields_read bytes PartNumber (retired_judge mark in_use) retired [] (start + length front) (forms_of counts ++ rest) (rising_allowed mark 0 top retired r.rising)
       (rules_follow mark in_use top [] retired r.rising r.unused) after in

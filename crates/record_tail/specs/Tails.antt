@@ -1,11 +1,9 @@
 -- What stands behind the sets of a record of edition 2, at bytes from a position on (02, §8): "a count and the retired part numbers, strictly
 -- rising, none 0, at most 64 of them, none above the mark and none in use, then φ(0) to φ(n)"; or which refusal at which place. Each number is
 -- judged as it is read, and places are counted in the whole input.
-use Rattle.std.specs.Prelude.{not, ◌||◌, List, [], ℕ, ltb, eqb, length, get_or}
-use Rattle.answer.specs.Refusals.{wrong_retired, different_count}
-use Rattle.answer.specs.Outcome.{refuse}
-use Rattle.answer.specs.declared.Verdict.{Verdict}
-use Rattle.answer.specs.declared.Verdict.TheVariants as verdict
+use Rattle.std.specs.Prelude.{not, ◌||◌, List, [], ℕ, ltb, eqb, length, get_or, Ok, Err}
+use Rattle.answer.specs.declared.Reason.TheVariants.{WrongRetired, DifferentCount}
+use Rattle.answer.specs.Outcome.{refuse, Verdict}
 use Rattle.codec.specs.declared.Field.TheVariants.{Count, PartNumber}
 use Rattle.codec.specs.Reads.{Read, found, refused, then}
 use Rattle.codec.specs.FieldReads.{field_at, Judge, fields_at}
@@ -18,18 +16,18 @@ use Rattle.record_tail.specs.declared.Tail.{Tail}
 
 -- how many numbers are retired, 30: more than 64
 abbrev pub retired_count_refusal : ℕ → ℕ → Verdict
-retired_count_refusal place count = refuse (ltb most_retired count) wrong_retired place verdict.Accepted
+retired_count_refusal place count = refuse (ltb most_retired count) WrongRetired place (Ok tt)
 
 -- a retired number, 30: not above the one before it (0 before the first), above the mark, or in use
 abbrev pub retired_refusal : ℕ → List ℕ → ℕ → ℕ → ℕ → Verdict
-retired_refusal mark in_use previous place number = refuse (misnumbered previous mark number || names number in_use) wrong_retired place verdict.Accepted
+retired_refusal mark in_use previous place number = refuse (misnumbered previous mark number || names number in_use) WrongRetired place (Ok tt)
 
 abbrev pub retired_judge : ℕ → List ℕ → Judge
 retired_judge mark in_use earlier = retired_refusal mark in_use (last_number 0 earlier)
 
 -- a path count, 31: it is another than the one that it has to be
 abbrev pub count_refusal : ℕ → ℕ → ℕ → Verdict
-count_refusal right place count = refuse (not (eqb count right)) different_count place verdict.Accepted
+count_refusal right place count = refuse (not (eqb count right)) DifferentCount place (Ok tt)
 
 -- the counts that have to stand there, one after the other
 abbrev pub count_judge : List ℕ → Judge
@@ -56,5 +54,5 @@ tail_at bytes mark in_use counts start =
 
 -- the retired numbers and the position after the path counts; or the refusal, beside no numbers
 abbrev pub tail_of : Read (List ℕ) → Tail
-tail_of (found retired next) = record { retired = retired_of retired; next = next; verdict = verdict.Accepted }
-tail_of (refused refusal) = record { retired = retired_of []; next = 0; verdict = verdict.Refused refusal }
+tail_of (found retired next) = record { retired = retired_of retired; next = next; verdict = (Ok tt) }
+tail_of (refused refusal) = record { retired = retired_of []; next = 0; verdict = Err refusal }

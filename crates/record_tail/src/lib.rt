@@ -9,8 +9,8 @@ ghost use Rattle.record_retired.specs.Retired.{most_retired, retired_of};
 ghost use Rattle.record_tail.specs.Tails.{retired_count_refusal, retired_refusal, retired_judge, count_refusal, retired_at, counts_at, tail_at, tail_of};
 ghost use Rattle.record_tail.specs.Inside.{counted_of};
 
-use answer::{Refusal, Verdict};
-use codec::{Field, Reading};
+use answer::{Reason, Refusal};
+use codec::{Field, Standing};
 use record_retired::Retired;
 
 // The retired numbers, and the position after the path counts. Where it is refused: no numbers, and 0.
@@ -18,7 +18,7 @@ use record_retired::Retired;
 pub struct Tail {
     pub retired: Retired,
     pub next: usize,
-    pub verdict: Verdict,
+    pub verdict: Result<(), Refusal>,
 }
 
 // The retired numbers under a mark, none of them among the numbers in use, and then these path counts, no other.
@@ -28,16 +28,16 @@ pub fn read_tail(bytes: &[u8], start: usize, mark: u64, numbers: &[u64], counts:
     let read = read_retired(bytes, start, mark, numbers);
     let verdict = read.verdict;
     match verdict {
-        Verdict::Refused(refusal) => refused_tail(refusal.number, refusal.place),
-        Verdict::Accepted => {
+        Err(refusal) => refused_tail(refusal.reason, refusal.place),
+        Ok(()) => {
             let retired = read.retired;
             let counted = read_counts(bytes, read.next, counts);
             match counted {
-                Reading::Refused(refusal) => refused_tail(refusal.number, refusal.place),
-                Reading::Number { next, .. } => Tail {
+                Err(refusal) => refused_tail(refusal.reason, refusal.place),
+                Ok(Standing { next, .. }) => Tail {
                     retired,
                     next,
-                    verdict: Verdict::Accepted,
+                    verdict: Ok(()),
                 },
             }
         }
@@ -50,8 +50,8 @@ fn read_retired(bytes: &[u8], start: usize, mark: u64, numbers: &[u64]) -> Tail
 {
     let count = read_retired_count(bytes, start);
     match count {
-        Reading::Refused(refusal) => refused_tail(refusal.number, refusal.place),
-        Reading::Number { value, next } => {
+        Err(refusal) => refused_tail(refusal.reason, refusal.place),
+        Ok(Standing { value, next }) => {
             read_retired_numbers(bytes, next, value as usize, mark, numbers)
         }
     }
@@ -75,8 +75,8 @@ fn read_retired_numbers(
     while index < count {
         let number = read_retired_number(bytes, next, previous, mark, numbers);
         match number {
-            Reading::Refused(refusal) => return refused_tail(refusal.number, refusal.place),
-            Reading::Number { value, next: after } => {
+            Err(refusal) => return refused_tail(refusal.reason, refusal.place),
+            Ok(Standing { value, next: after }) => {
                 cells[index] = value;
                 previous = value;
                 next = after;
@@ -90,22 +90,22 @@ fn read_retired_numbers(
             numbers: cells,
         },
         next,
-        verdict: Verdict::Accepted,
+        verdict: Ok(()),
     }
 }
 
 // How many numbers are retired, 64 at the most.
-fn read_retired_count(bytes: &[u8], start: usize) -> Reading
+fn read_retired_count(bytes: &[u8], start: usize) -> Result<Standing<u64>, Refusal>
     ensures { result ≡ reading_of (field_at bytes.now start Field.Count (retired_count_refusal start)) }
 {
     let number = codec::read_number(bytes, start, Field::Count);
     match number {
-        Reading::Refused(refusal) => Reading::Refused(refusal),
-        Reading::Number { value, next } => {
+        Err(refusal) => Err(refusal),
+        Ok(Standing { value, next }) => {
             if 64 < value {
-                return codec::refused(answer::WRONG_RETIRED, start);
+                return Err(Reason::WrongRetired.at(start));
             }
-            Reading::Number { value, next }
+            Ok(Standing { value, next })
         }
     }
 }
@@ -117,62 +117,62 @@ fn read_retired_number(
     previous: u64,
     mark: u64,
     numbers: &[u64],
-) -> Reading
+) -> Result<Standing<u64>, Refusal>
     ensures { result ≡ reading_of (field_at bytes.now start Field.PartNumber (retired_refusal mark numbers.now previous start)) }
 {
     let number = codec::read_number(bytes, start, Field::PartNumber);
     match number {
-        Reading::Refused(refusal) => Reading::Refused(refusal),
-        Reading::Number { value, next } => {
+        Err(refusal) => Err(refusal),
+        Ok(Standing { value, next }) => {
             if record_numbers::misnumbered(previous, mark, value) {
-                return codec::refused(answer::WRONG_RETIRED, start);
+                return Err(Reason::WrongRetired.at(start));
             }
             if record_numbers::stands(value, numbers) {
-                return codec::refused(answer::WRONG_RETIRED, start);
+                return Err(Reason::WrongRetired.at(start));
             }
-            Reading::Number { value, next }
+            Ok(Standing { value, next })
         }
     }
 }
 
 // The path counts, each held against the one that has to stand there, and how many they are.
-fn read_counts(bytes: &[u8], start: usize, counts: &[u64]) -> Reading
+fn read_counts(bytes: &[u8], start: usize, counts: &[u64]) -> Result<Standing<u64>, Refusal>
     ensures { result ≡ counted_of (counts_at bytes.now counts.now start) }
 {
     let mut next = start;
     for index in 0..counts.len() {
         let count = read_count(bytes, next, counts[index]);
         match count {
-            Reading::Refused(refusal) => return Reading::Refused(refusal),
-            Reading::Number { next: after, .. } => {
+            Err(refusal) => return Err(refusal),
+            Ok(Standing { next: after, .. }) => {
                 next = after;
             }
         }
     }
-    Reading::Number {
+    Ok(Standing {
         value: counts.len() as u64,
         next,
-    }
+    })
 }
 
 // A path count that has to be this one.
-fn read_count(bytes: &[u8], start: usize, right: u64) -> Reading
+fn read_count(bytes: &[u8], start: usize, right: u64) -> Result<Standing<u64>, Refusal>
     ensures { result ≡ reading_of (field_at bytes.now start Field.Count (count_refusal right start)) }
 {
     let number = codec::read_number(bytes, start, Field::Count);
     match number {
-        Reading::Refused(refusal) => Reading::Refused(refusal),
-        Reading::Number { value, next } => {
+        Err(refusal) => Err(refusal),
+        Ok(Standing { value, next }) => {
             if value != right {
-                return codec::refused(answer::DIFFERENT_COUNT, start);
+                return Err(Reason::DifferentCount.at(start));
             }
-            Reading::Number { value, next }
+            Ok(Standing { value, next })
         }
     }
 }
 
-fn refused_tail(number: u8, place: usize) -> Tail
-    ensures { result ≡ record { retired = retired_of []; next = 0; verdict = Verdict.Refused (at number place) } }
+fn refused_tail(reason: Reason, place: usize) -> Tail
+    ensures { result ≡ record { retired = retired_of []; next = 0; verdict = Err (at reason place) } }
 {
     Tail {
         retired: Retired {
@@ -180,6 +180,6 @@ fn refused_tail(number: u8, place: usize) -> Tail
             numbers: [0; record_retired::MOST_RETIRED],
         },
         next: 0,
-        verdict: Verdict::Refused(Refusal { number, place }),
+        verdict: Err(Refusal { reason, place }),
     }
 }

@@ -7,7 +7,6 @@ ghost use Rattle.std.specs.Io.{ReadsAtMost};
 ghost use Rattle.std.specs.Io.KnownBytes.{Consumes, IsAtEnd};
 ghost use Rattle.report_text.specs.Reports.{printed};
 
-use answer::Written;
 use std::io;
 use std::io::Read;
 
@@ -47,12 +46,12 @@ fn make_text(bytes: &[u8], text: &mut [u8]) -> usize
     let mut table = [0u8; 8192];
     let made = report_text::report(bytes, &mut table, text);
     match made {
-        Written::Length(end) => end,
-        Written::Refused(refusal) => {
-            let said = report_lines::refused_line(refusal.number, refusal.place, text);
+        Ok(end) => end,
+        Err(refusal) => {
+            let said = report_lines::refused_line(refusal.reason.number(), refusal.place, text);
             match said {
-                Written::Length(end) => end,
-                Written::Refused(_) => 0,
+                Ok(end) => end,
+                Err(_) => 0,
             }
         }
     }

@@ -61,6 +61,6 @@ rest_few number figure fits few =
     omega (arith, few, decimal_few number fits, length-append (decimal number) (ascii " " ++ (figure ++ ascii "\n")), length-append figure (ascii "\n"))
 
 -- the line of a refusal is its word and what ends the line
-pub refused_parts : (number place : ℕ) → ascii "refused" ++ rest_of_line number (decimal place) ≡ refused_line (at number place)
+pub refused_parts : (number place : ℕ) → ascii "refused" ++ rest_of_line number (decimal place) ≡ refused_line number place
 unfolding rest_of_line refused_line
 refused_parts number place = refl

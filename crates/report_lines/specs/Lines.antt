@@ -1,7 +1,6 @@
 -- The lines of a report (01, "The report program"), byte for byte.
 use Rattle.std.specs.Prelude.{List, ◌++◌, ℕ}
 use Prim.Native.String.{String}
-use Rattle.answer.specs.declared.Refusal.{Refusal}
 use Rattle.text.specs.Texts.{ascii, decimal}
 
 -- the first line: n, the count of minimal sets and the mark
@@ -17,6 +16,6 @@ rest_of_line number figure = ascii " " ++ (decimal number ++ (ascii " " ++ (figu
 abbrev pub figure_line : String → ℕ → List ℕ → List ℕ
 figure_line word number figure = ascii word ++ rest_of_line number figure
 
--- the one line of a refusal
-unfoldable pub refused_line : Refusal → List ℕ
-refused_line r = ascii "refused " ++ (decimal r.number ++ (ascii " " ++ (decimal r.place ++ ascii "\n")))
+-- the one line of a refusal, by its number and place
+unfoldable pub refused_line : ℕ → ℕ → List ℕ
+refused_line number place = ascii "refused " ++ (decimal number ++ (ascii " " ++ (decimal place ++ ascii "\n")))

@@ -7,7 +7,7 @@ ghost use Rattle.answer.specs.Placed.{placed};
 ghost use Rattle.text.specs.Texts.{decimal, signed};
 ghost use Rattle.report_lines.specs.Lines.{head_line, rest_of_line, refused_line};
 
-use answer::{Verdict, Written};
+use answer::Refusal;
 
 // Puts the first line at a position.
 pub fn put_first_line(text: &mut [u8], at: usize, parts: usize, sets: usize, mark: u64) -> usize
@@ -45,14 +45,14 @@ pub fn put_count(text: &mut [u8], at: usize, number: u64, count: u64) -> usize
 }
 
 // The one line of a refusal, into a lent buffer. No such line is longer than 64 bytes.
-pub fn refused_line(number: u8, place: usize, text: &mut [u8]) -> Written
-    ensures text_after { outcome result text.new ≡ delivered Verdict.Accepted (refused_line (at number place)) text.old }
-    ensures place_len_bound { length (refused_line (at number place)) ≤ 64 }
+pub fn refused_line(number: u8, place: usize, text: &mut [u8]) -> Result<usize, Refusal>
+    ensures text_after { outcome result text.new ≡ delivered (Ok tt) (refused_line number place) text.old }
+    ensures place_len_bound { length (refused_line number place) ≤ 64 }
 {
     let mut line = [0u8; 64];
     let worded = text::put(&mut line, 0, b"refused");
     let end = put_count(&mut line, worded, number as u64, place as u64);
-    answer::hand_out_bytes(&line[..end], text)
+    answer::hand_out(&line[..end], text)
 }
 
 // Puts a word and a number behind it, where there is room for both.

@@ -7,12 +7,9 @@ use Prim.Native.Nat.{ℕ, ◌≤◌, ◌<◌}
 use native.Mathlib.Omega.{arith}
 use lib.ListN.{length, take, replicate, length-replicate}
 use lib.Pow.{pow_mono}
-use Rattle.answer.specs.Outcome.{Outcome, outcome, delivered}
+use Rattle.std.specs.Prelude.{Ok, Err}
+use Rattle.answer.specs.Outcome.{Outcome, outcome, delivered, Numbered, Verdict}
 use Rattle.answer.specs.declared.Refusal.{Refusal}
-use Rattle.answer.specs.declared.Verdict.{Verdict}
-use Rattle.answer.specs.declared.Verdict.TheVariants as verdict
-use Rattle.answer.specs.declared.Written.{Written}
-use Rattle.answer.specs.declared.Written.TheVariants.{Length, Refused}
 use Rattle.answer.proofs.Deliveries.{Given, given, refused_by}
 use Rattle.codec.specs.Bytes.{Bytes}
 use Rattle.theory_sets.specs.Structures.{listed}
@@ -60,23 +57,23 @@ pub design_in_lem : (bytes : List ℕ) (d : Design) (end : ℕ) → whole_record
 unfolding design_in
 design_in_lem bytes d end here = ap design_or here
 
-module _ (bytes : List ℕ) (small : Bytes bytes) (known : WithWords) (with_words : known ≡ whole_with_words bytes) (w : Written) (own : List ℕ)
+module _ (bytes : List ℕ) (small : Bytes bytes) (known : WithWords) (with_words : known ≡ whole_with_words bytes) (w : Numbered) (own : List ℕ)
     (stored : outcome w own ≡ delivered known.contents.verdict (table_of_words known.contents.list.count known.words) (replicate 8192 0)) where
   wrote : outcome w own ≡ delivered (record_refusal bytes) (design_table (design_in bytes)) (replicate 8192 0)
   wrote = stored ∙ words_delivered bytes known small with_words (replicate 8192 0)
 
   -- what the call left for an answer
-  left_by_lem : (answer : Written) → w ≡ answer → outcome answer own ≡ delivered (record_refusal bytes) (design_table (design_in bytes)) (replicate 8192 0)
-  left_by_lem answer e = ap (λ (x : Written). outcome x own) (sym e) ∙ wrote
+  left_by_lem : (answer : Numbered) → w ≡ answer → outcome answer own ≡ delivered (record_refusal bytes) (design_table (design_in bytes)) (replicate 8192 0)
+  left_by_lem answer e = ap (λ (x : Numbered). outcome x own) (sym e) ∙ wrote
 
-  refused_verdict : (why : Refusal) → whole_record bytes ≡ refused why → record_refusal bytes ≡ verdict.Refused why
+  refused_verdict : (why : Refusal) → whole_record bytes ≡ refused why → record_refusal bytes ≡ Err why
   refused_verdict why here = ap (λ (k : Contents). k.verdict) (refused_contents bytes why here)
 
-  pub built_given : (size : ℕ) → w ≡ Length size → Built bytes known.contents own size
+  pub built_given : (size : ℕ) → w ≡ Ok size → Built bytes known.contents own size
   built_given size e = cases (whole_record bytes) refl
     where
       all : Given (record_refusal bytes) (design_table (design_in bytes)) (replicate 8192 0) own size
-      all = given (record_refusal bytes) (design_table (design_in bytes)) (replicate 8192 0) own size (left_by_lem (Length size) e)
+      all = given (record_refusal bytes) (design_table (design_in bytes)) (replicate 8192 0) own size (left_by_lem (Ok size) e)
 
       cases : (read : Read Design) → whole_record bytes ≡ read → Built bytes known.contents own size
       cases (refused why) here =
@@ -98,20 +95,20 @@ module _ (bytes : List ℕ) (small : Bytes bytes) (known : WithWords) (with_word
             front = all.front ∙ ap design_table (design_in_lem bytes d end here);
           }
 
-  pub built_refused : (why : Refusal) → w ≡ Refused why → whole_record bytes ≡ refused why
+  pub built_refused : (why : Refusal) → w ≡ Err why → whole_record bytes ≡ refused why
   built_refused why e = cases (whole_record bytes) refl
     where
       cases : (read : Read Design) → whole_record bytes ≡ read → whole_record bytes ≡ refused why
       cases (refused other) here =
           let judged = refused_verdict other here in
-          let left : outcome (Refused why) own ≡ outcome (Refused other) (replicate 8192 0) =
-          left_by_lem (Refused why) e ∙ ap (λ (v : Verdict). delivered v (design_table (design_in bytes)) (replicate 8192 0)) judged in
-          here ∙ ap refused (sym (cc (ap (λ (o : Outcome Written (List ℕ)). o.answer) left)))
+          let left : outcome (Err why) own ≡ outcome (Err other) (replicate 8192 0) =
+          left_by_lem (Err why) e ∙ ap (λ (v : Verdict). delivered v (design_table (design_in bytes)) (replicate 8192 0)) judged in
+          here ∙ ap refused (sym (cc (ap (λ (o : Outcome Numbered (List ℕ)). o.answer) left)))
       cases (found d end) here =
           let r = design_read_lem bytes small d end here in
           let fits : length (design_table (design_in bytes)) ≤ length (replicate {A = ℕ} 8192 0) =
           subst (λ (x : Design). length (design_table x) ≤ length (replicate {A = ℕ} 8192 0)) (sym (design_in_lem bytes d end here))
           (omega (arith, table_most d r.rules.parts.rules.few, length-replicate {A = ℕ} 8192 0)) in
-          let judged = refused_by (record_refusal bytes) (design_table (design_in bytes)) (replicate 8192 0) own why (λ accepted. fits) (left_by_lem (Refused why) e) in
+          let judged = refused_by (record_refusal bytes) (design_table (design_in bytes)) (replicate 8192 0) own why (λ accepted. fits) (left_by_lem (Err why) e) in
           let clash : ◌≡◌ {A = ℕ} 0 1 = cc (sym judged ∙ ap (λ (k : Contents). k.verdict) r.contents) in
           absurd (omega arith)

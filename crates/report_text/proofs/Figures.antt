@@ -9,6 +9,7 @@ use native.Mathlib.Omega.{arith}
 use lib.IntN.{ℤ, pos}
 use lib.ListN.{length, get_or, take, drop, replicate, get_or-append}
 use lib.Seq.{get_or-take, get_or-drop}
+use Rattle.std.specs.Prelude.{Ok, Err}
 use Rattle.numbers.specs.Tables.{tabulate}
 use Rattle.numbers.proofs.Tables.{tabulate_length, tabulate_at}
 use Rattle.theory_sets.specs.Structures.{Semicoherent, listed}
@@ -16,7 +17,6 @@ use Rattle.theory_sets.specs.Tables.{in_table, table_of}
 use Rattle.theory_sets.proofs.Structures.{semicoherent_same}
 use Rattle.theory_orders.specs.Formulas.{path_count}
 use Rattle.answer.specs.Outcome.{outcome}
-use Rattle.answer.specs.declared.Verdict.TheVariants.{Accepted, Refused}
 use Rattle.answer.proofs.Outcomes.{then_passed, settled_given}
 use Rattle.structure.specs.Checks.{table_refusal}
 use Rattle.structure.proofs.Acceptance.{accepted_table, list_works}
@@ -46,17 +46,17 @@ one_back : (k : ℕ) → 1 ≤ k → suc (k - 1) ≡ k
 one_back k h = omega arith
 
 -- what the figures' call leaves of 17 zeros in each array, where the table is accepted
-module _ (n : ℕ) (table : List ℕ) (accepted : table_refusal n table ≡ Accepted) where
+module _ (n : ℕ) (table : List ℕ) (accepted : table_refusal n table ≡ Ok tt) where
   few : n ≤ 16
   few = (accepted_table n table accepted).few
 
   abbrev zeros : Buffers
   zeros = buffers_of (replicate 17 (pos 0)) (replicate 17 (pos 0)) (replicate 17 (pos 0)) (replicate 17 0)
 
-  pub all_figures_lem : all_figures n table zeros ≡ outcome Accepted (all_in_front n (in_table table) zeros)
+  pub all_figures_lem : all_figures n table zeros ≡ outcome (Ok tt) (all_in_front n (in_table table) zeros)
   unfolding all_figures
   all_figures_lem =
-      sym (settled_given _ Refused zeros _
+      sym (settled_given _ Err zeros _
       (then_passed _ accepted ∙ sym (room_enough n 17 17 17 17 (omega (arith, few)) (omega (arith, few)) (omega (arith, few)) (omega (arith, few)))))
 
 -- the text by these cells is the text of the structure

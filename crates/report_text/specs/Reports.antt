@@ -39,7 +39,7 @@ report_of d =
 -- what is printed for what was read
 abbrev pub printed_for : Read Design → List ℕ
 printed_for (found d next) = report_of d
-printed_for (refused r) = refused_line r
+printed_for (refused r) = refused_line (number_of r.reason) r.place
 
 -- what is printed for bytes: a record of either edition prints the report of its design, which says nothing of edition and retired numbers
 unfoldable pub printed : List ℕ → List ℕ

@@ -11,11 +11,11 @@ ghost use Rattle.report_text.specs.Reports.{report_of};
 ghost use Rattle.report_text.specs.Reporting.{report_buffers, handed_out, reported};
 ghost use Rattle.report_text.specs.Inside.{table_text};
 
-use answer::{Verdict, Written};
+use answer::{Reason, Refusal};
 use record_parts::PartList;
 
 // The report of a record and the record's table, into two lent buffers. No report is longer than 4,096 bytes.
-pub fn report(bytes: &[u8], table: &mut [u8], text: &mut [u8]) -> Written
+pub fn report(bytes: &[u8], table: &mut [u8], text: &mut [u8]) -> Result<usize, Refusal>
     ensures text_after { outcome result (report_buffers table.new text.new) ≡ reported bytes.now table.old text.old }
     ensures bytes_len_bound { length (report_of (design_in bytes.now)) ≤ 4096 }
 {
@@ -25,8 +25,8 @@ pub fn report(bytes: &[u8], table: &mut [u8], text: &mut [u8]) -> Written
     let contents = read.contents;
     let built = record::store_table(read, &mut own_table);
     match built {
-        Written::Refused(refusal) => Written::Refused(refusal),
-        Written::Length(size) => {
+        Err(refusal) => Err(refusal),
+        Ok(size) => {
             let list = contents.list;
             let end = put_table(&mut own_text, list, contents.sets, &own_table[..size]);
             hand_out_both(&own_table[..size], &own_text[..end], table, text)
@@ -36,7 +36,7 @@ pub fn report(bytes: &[u8], table: &mut [u8], text: &mut [u8]) -> Written
 
 // The text of a machine's table, with its part list and the number of its minimal sets.
 fn put_table(text: &mut [u8], list: PartList, sets: usize, table: &[u8]) -> usize
-    requires { table_refusal list.count table.now ≡ Verdict.Accepted }
+    requires { table_refusal list.count table.now ≡ Ok tt }
     ensures text_after { outcome result text.new ≡ placed text.old 0 (table_text list sets (in_table table.now)) }
     ensures table_len_bound { length (table_text list sets (in_table table.now)) ≤ 4096 }
 {
@@ -57,15 +57,15 @@ fn put_table(text: &mut [u8], list: PartList, sets: usize, table: &[u8]) -> usiz
 }
 
 // A table and a text into two lent buffers.
-fn hand_out_both(own_table: &[u8], own_text: &[u8], table: &mut [u8], text: &mut [u8]) -> Written
+fn hand_out_both(own_table: &[u8], own_text: &[u8], table: &mut [u8], text: &mut [u8]) -> Result<usize, Refusal>
     ensures { outcome result (report_buffers table.new text.new) ≡ handed_out own_table.now own_text.now table.old text.old }
 {
     if table.len() < own_table.len() {
-        return answer::short(own_table.len());
+        return Err(Reason::ShortBuffer.at(own_table.len()));
     }
     if text.len() < own_text.len() {
-        return answer::short(own_text.len());
+        return Err(Reason::ShortBuffer.at(own_text.len()));
     }
-    answer::hand_out_bytes(own_table, table);
-    answer::hand_out_bytes(own_text, text)
+    answer::hand_out(own_table, table);
+    answer::hand_out(own_text, text)
 }

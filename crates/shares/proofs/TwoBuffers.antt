@@ -7,12 +7,9 @@ use Prim.Native.Nat.{ℕ, ◌≤◌, ◌<◌, min}
 use native.Mathlib.Omega.{arith}
 use lib.IntN.{ℤ}
 use lib.ListN.{length}
-use Rattle.answer.specs.Outcome.{and_then, room, front, outcome, delivered}
+use Rattle.std.specs.Prelude.{Ok, Err}
+use Rattle.answer.specs.Outcome.{and_then, room, front, outcome, delivered, Numbered, Verdict}
 use Rattle.answer.specs.declared.Refusal.{Refusal}
-use Rattle.answer.specs.declared.Verdict.{Verdict}
-use Rattle.answer.specs.declared.Verdict.TheVariants as verdict
-use Rattle.answer.specs.declared.Written.{Written}
-use Rattle.answer.specs.declared.Written.TheVariants.{Length, Refused}
 use Rattle.answer.proofs.Outcomes.{then_passed, then_refused, room_enough, room_short, settled_refused, settled_given}
 use Rattle.answer.proofs.Deliveries.{delivered_front}
 use Rattle.numbers.proofs.Bounds.{below_or_above}
@@ -33,7 +30,7 @@ room_both needed first second = cases (below_or_above first needed) (below_or_ab
 
 module _ (judged : Verdict) (result : List ℤ) (needed : ℕ) (long : needed ≡ length result) where
   -- what a route whose shares are the result leaves in its buffer
-  pub route_written : (route buffer after : List ℤ) (answer : Written) → route ≡ result → judged ≡ verdict.Accepted → needed ≤ length buffer
+  pub route_written : (route buffer after : List ℤ) (answer : Numbered) → route ≡ result → judged ≡ Ok tt → needed ≤ length buffer
       → outcome answer after ≡ delivered judged route buffer → after ≡ front result buffer
   route_written route buffer after answer same accepted fits e =
       delivered_front judged result buffer accepted (omega arith) (e ∙ ap (λ (xs : List ℤ). delivered judged xs buffer) same)
@@ -42,13 +39,13 @@ module _ (judged : Verdict) (result : List ℤ) (needed : ℕ) (long : needed �
     checks : and_then judged (and_then (room (length result) (length first)) (room (length result) (length second))) ≡ and_then judged (room needed lent)
     checks = sym (ap (and_then judged) (ap₂ room long smallest ∙ room_both (length result) (length first) (length second)))
 
-    pub both_unwritten : {why : Refusal} → and_then judged (room needed lent) ≡ verdict.Refused why
-        → outcome (Refused why) (both first second) ≡ both_delivered judged result first second
-    both_unwritten h = settled_refused _ Refused (both first second) _ (checks ∙ h)
+    pub both_unwritten : {why : Refusal} → and_then judged (room needed lent) ≡ Err why
+        → outcome (Err why) (both first second) ≡ both_delivered judged result first second
+    both_unwritten h = settled_refused _ Err (both first second) _ (checks ∙ h)
 
-    pub both_written : and_then judged (room needed lent) ≡ verdict.Accepted → (one other : List ℤ) → one ≡ front result first → other ≡ front result second
-        → outcome (Length needed) (both one other) ≡ both_delivered judged result first second
+    pub both_written : and_then judged (room needed lent) ≡ Ok tt → (one other : List ℤ) → one ≡ front result first → other ≡ front result second
+        → outcome (Ok needed) (both one other) ≡ both_delivered judged result first second
     both_written h one other is are =
-        ap (λ (k : ℕ). outcome (Length k) (both one other)) long
-        ∙ ap₂ (λ (xs ys : List ℤ). outcome (Length (length result)) (both xs ys)) is are
-        ∙ settled_given _ Refused (both first second) _ (checks ∙ h)
+        ap (λ (k : ℕ). outcome (Ok k) (both one other)) long
+        ∙ ap₂ (λ (xs ys : List ℤ). outcome (Ok (length result)) (both xs ys)) is are
+        ∙ settled_given _ Err (both first second) _ (checks ∙ h)

@@ -1,9 +1,6 @@
 -- What a call that works out a group's shares by both routes leaves behind, on every input.
-use Rattle.std.specs.Prelude.{List, ℤ, length}
-use Rattle.answer.specs.Outcome.{and_then, room, front, Outcome, outcome, settled}
-use Rattle.answer.specs.declared.Verdict.{Verdict}
-use Rattle.answer.specs.declared.Written.{Written}
-use Rattle.answer.specs.declared.Written.TheVariants.{Length, Refused}
+use Rattle.std.specs.Prelude.{List, ℤ, length, Ok, Err}
+use Rattle.answer.specs.Outcome.{and_then, room, front, Outcome, outcome, settled, Numbered, Verdict}
 
 -- the two lent buffers
 pub record Both : Type 0 where
@@ -15,7 +12,7 @@ both first second = record { first = first; second = second }
 
 -- One result for two lent buffers: 11 is asked of either after all else, and what is given is the result in front of either, with its length
 -- as the answer.
-abbrev pub both_delivered : Verdict → List ℤ → List ℤ → List ℤ → Outcome Written Both
+abbrev pub both_delivered : Verdict → List ℤ → List ℤ → List ℤ → Outcome Numbered Both
 both_delivered refusal result first second =
-    settled (and_then refusal (and_then (room (length result) (length first)) (room (length result) (length second)))) Refused (both first second)
-    (outcome (Length (length result)) (both (front result first) (front result second)))
+    settled (and_then refusal (and_then (room (length result) (length first)) (room (length result) (length second)))) Err (both first second)
+    (outcome (Ok (length result)) (both (front result first) (front result second)))

@@ -8,7 +8,7 @@ ghost use Rattle.shares_claim.specs.Claim.{group_counts};
 ghost use Rattle.shares_claim.specs.Refusals.{shares_refusal};
 ghost use Rattle.shares.specs.Both.{both, both_delivered};
 
-use answer::{Verdict, Written};
+use answer::Refusal;
 
 // The m shares of a group set by set into one lent buffer and through h(x,z) into another: both are the counts of failure orders.
 pub fn shares_by_both_routes(
@@ -17,18 +17,18 @@ pub fn shares_by_both_routes(
     group: usize,
     first: &mut [i64],
     second: &mut [i64],
-) -> Written
+) -> Result<usize, Refusal>
     ensures { outcome result (both first.new second.new) ≡ both_delivered (shares_refusal n table.now group) (group_counts n (in_table table.now) group) first.old second.old }
 {
     let m = masks::size(group);
     let room = smaller(first.len(), second.len());
     let judged = shares_group::judge(n, table, group, m, room);
     match judged {
-        Verdict::Refused(refusal) => Written::Refused(refusal),
-        Verdict::Accepted => {
+        Err(refusal) => Err(refusal),
+        Ok(()) => {
             shares_by_sets::shares_by_sets(n, table, group, first);
             shares_by_polynomial::shares_by_reliability(n, table, group, second);
-            Written::Length(m)
+            Ok(m)
         }
     }
 }

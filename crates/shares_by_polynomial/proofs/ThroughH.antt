@@ -9,15 +9,13 @@ use native.Mathlib.Omega.{arith}
 use lib.Count.{ones-le}
 use lib.IntN.{ℤ, pos, nat_abs}
 use lib.ListN.{length, get_or, get_or-append}
+use Rattle.std.specs.Prelude.{Ok, Err}
 use Rattle.numbers.proofs.Tables.{tabulate_length, tabulate_same}
 use Rattle.theory_sets.specs.Masks.{size}
 use Rattle.theory_sets.specs.Structures.{Semicoherent}
 use Rattle.theory_sets.specs.Tables.{in_table}
-use Rattle.answer.specs.Outcome.{outcome, delivered}
+use Rattle.answer.specs.Outcome.{outcome, delivered, Numbered}
 use Rattle.answer.specs.declared.Refusal.{Refusal}
-use Rattle.answer.specs.declared.Verdict.TheVariants.{Accepted}
-use Rattle.answer.specs.declared.Written.{Written}
-use Rattle.answer.specs.declared.Written.TheVariants.{Length, Refused}
 use Rattle.answer.proofs.Deliveries.{refused_kept, refused_by, Given, given}
 use Rattle.theory_orders.specs.Counting.{count}
 use Rattle.shares_claim.specs.Polynomials.{row_length, in_cells, shares_from_cells}
@@ -75,20 +73,20 @@ unfolding shares_from_cells
 from_cells_length n m cells = sym (tabulate_length m _)
 
 -- where nothing refuses, 289 cells are enough for h
-pub cells_fit : (n : ℕ) (table : List ℕ) (group : ℕ) → shares_refusal n table group ≡ Accepted → length (reliability_cells n (in_table table) group) ≤ 289
+pub cells_fit : (n : ℕ) (table : List ℕ) (group : ℕ) → shares_refusal n table group ≡ Ok tt → length (reliability_cells n (in_table table) group) ≤ 289
 cells_fit n table group accepted =
     let checked = accepted_group n table group accepted in
     le_trans (le_of_eq (cells_length n (in_table table) group)) (cells_few n (size group) checked.few (ones-le n group checked.within))
 
 -- what a call that works out h in a buffer of 289 cells tells
-module _ (n : ℕ) (table : List ℕ) (group : ℕ) (buffer after : List ℤ) (answer : Written) (long : length buffer ≡ 289)
+module _ (n : ℕ) (table : List ℕ) (group : ℕ) (buffer after : List ℤ) (answer : Numbered) (long : length buffer ≡ 289)
     (left : outcome answer after ≡ delivered (shares_refusal n table group) (reliability_cells n (in_table table) group) buffer) where
-  pub found_refused : (why : Refusal) → answer ≡ Refused why → (result shares : List ℤ) → outcome (Refused why) shares ≡ delivered (shares_refusal n table group) result shares
+  pub found_refused : (why : Refusal) → answer ≡ Err why → (result shares : List ℤ) → outcome (Err why) shares ≡ delivered (shares_refusal n table group) result shares
   found_refused why is result shares =
       refused_kept (shares_refusal n table group) result shares why
       (refused_by (shares_refusal n table group) (reliability_cells n (in_table table) group) buffer after why
-      (λ accepted. le_trans (cells_fit n table group accepted) (le_of_eq (sym long))) (ap (λ (w : Written). outcome w after) (sym is) ∙ left))
+      (λ accepted. le_trans (cells_fit n table group accepted) (le_of_eq (sym long))) (ap (λ (w : Numbered). outcome w after) (sym is) ∙ left))
 
-  pub found_given : (count : ℕ) → answer ≡ Length count → Given (shares_refusal n table group) (reliability_cells n (in_table table) group) buffer after count
+  pub found_given : (count : ℕ) → answer ≡ Ok count → Given (shares_refusal n table group) (reliability_cells n (in_table table) group) buffer after count
   found_given count is =
-      given (shares_refusal n table group) (reliability_cells n (in_table table) group) buffer after count (ap (λ (w : Written). outcome w after) (sym is) ∙ left)
+      given (shares_refusal n table group) (reliability_cells n (in_table table) group) buffer after count (ap (λ (w : Numbered). outcome w after) (sym is) ∙ left)

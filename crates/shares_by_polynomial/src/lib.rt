@@ -10,7 +10,7 @@ ghost use Rattle.shares_claim.specs.Inside.{common as common_of, power_weight, B
 ghost use Rattle.shares_claim.specs.Refusals.{shares_refusal};
 ghost use Rattle.shares_by_polynomial.specs.Inside.{above as above_zero, below as below_zero, cell_weight, InRange, share_of_cells};
 
-use answer::{Verdict, Written};
+use answer::{Reason, Refusal};
 
 // lcm(1..n) for n from 0 to 16.
 const COMMON: [u64; 17] = [
@@ -18,31 +18,31 @@ const COMMON: [u64; 17] = [
 ];
 
 // The m shares of a group through h(x,z), into a lent buffer.
-pub fn shares_by_reliability(n: usize, table: &[u8], group: usize, shares: &mut [i64]) -> Written
+pub fn shares_by_reliability(n: usize, table: &[u8], group: usize, shares: &mut [i64]) -> Result<usize, Refusal>
     ensures { outcome result shares.new ≡ delivered (shares_refusal n table.now group) (shares_by_reliability n (in_table table.now) group) shares.old }
 {
     let m = masks::size(group);
     let mut cells = [0i64; 289];
     let found = shares_polynomial::reliability(n, table, group, &mut cells);
     match found {
-        Written::Refused(refusal) => Written::Refused(refusal),
-        Written::Length(count) => write_shares(n, m, &cells, shares),
+        Err(refusal) => Err(refusal),
+        Ok(count) => write_shares(n, m, &cells, shares),
     }
 }
 
 // The m shares by the coefficients of h, into a lent buffer.
-fn write_shares(n: usize, m: usize, cells: &[i64], shares: &mut [i64]) -> Written
+fn write_shares(n: usize, m: usize, cells: &[i64], shares: &mut [i64]) -> Result<usize, Refusal>
     requires n_bound { n ≤ 16 }
     requires m_le_n { m ≤ n }
     requires bounded { Bounded n m (in_cells n m cells.now) }
     requires by_index { (k : ℕ) → 1 ≤ k → k ≤ m → InRange n (share_of_cells n m cells.now k) }
-    ensures { outcome result shares.new ≡ delivered Verdict.Accepted (shares_from_cells n m cells.now) shares.old }
+    ensures { outcome result shares.new ≡ delivered (Ok tt) (shares_from_cells n m cells.now) shares.old }
 {
     if shares.len() < m {
-        return answer::short(m);
+        return Err(Reason::ShortBuffer.at(m));
     }
     write_from_cells(n, m, cells, shares);
-    Written::Length(m)
+    Ok(m)
 }
 
 // Writes the shares by the coefficients of h.

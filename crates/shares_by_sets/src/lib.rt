@@ -12,19 +12,19 @@ ghost use Rattle.shares_claim.specs.Refusals.{shares_refusal};
 ghost use Rattle.theory_sums.specs.Sums.{gathered};
 ghost use Rattle.shares_by_sets.specs.Inside.{weight as weight_of, added_by, taken_by};
 
-use answer::{Verdict, Written};
+use answer::Refusal;
 
 // The m shares of a group, set by set, into a lent buffer.
-pub fn shares_by_sets(n: usize, table: &[u8], group: usize, shares: &mut [i64]) -> Written
+pub fn shares_by_sets(n: usize, table: &[u8], group: usize, shares: &mut [i64]) -> Result<usize, Refusal>
     ensures { outcome result shares.new ≡ delivered (shares_refusal n table.now group) (shares_by_sets n (in_table table.now) group) shares.old }
 {
     let m = masks::size(group);
     let judged = shares_group::judge(n, table, group, m, shares.len());
     match judged {
-        Verdict::Refused(refusal) => Written::Refused(refusal),
-        Verdict::Accepted => {
+        Err(refusal) => Err(refusal),
+        Ok(()) => {
             write_by_sets(n, table, group, shares);
-            Written::Length(m)
+            Ok(m)
         }
     }
 }

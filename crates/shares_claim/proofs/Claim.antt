@@ -8,11 +8,8 @@ use native.Mathlib.Omega.{arith}
 use lib.IntN.{ℤ, pos}
 use lib.ListN.{length, take, drop}
 use lib.Seq.{take-append_seam}
-use Rattle.answer.specs.Outcome.{outcome, delivered}
-use Rattle.answer.specs.declared.Verdict.{Verdict}
-use Rattle.answer.specs.declared.Verdict.TheVariants.{Accepted}
-use Rattle.answer.specs.declared.Written.{Written}
-use Rattle.answer.specs.declared.Written.TheVariants.{Length}
+use Rattle.std.specs.Prelude.{Ok}
+use Rattle.answer.specs.Outcome.{outcome, delivered, Numbered, Verdict}
 use Rattle.answer.proofs.Outcomes.{then_accepted}
 use Rattle.numbers.proofs.Tables.{tabulate_length, tabulate_same}
 use Rattle.theory_sets.specs.Masks.{size}
@@ -59,11 +56,11 @@ pub record AcceptedGroup (n : ℕ) (table : List ℕ) (group : ℕ) : Type 0 whe
   pub some : 0 < group
   pub within : group < 2 ^ n
 
-pub accepted_group : (n : ℕ) (table : List ℕ) (group : ℕ) → shares_refusal n table group ≡ Accepted → AcceptedGroup n table group
+pub accepted_group : (n : ℕ) (table : List ℕ) (group : ℕ) → shares_refusal n table group ≡ Ok tt → AcceptedGroup n table group
 unfolding shares_refusal
 accepted_group n table group h =
-    let both = then_accepted (table_refusal n table) (group_refusal n group Accepted) h in
-    let known = group_right n group Accepted both.1 in
+    let both = then_accepted (table_refusal n table) (group_refusal n group (Ok tt)) h in
+    let known = group_right n group (Ok tt) both.1 in
     record {
       few = (accepted_table n table both.0).few;
       coherent = (accepted_table n table both.0).semicoherent;
@@ -78,7 +75,7 @@ unfolding group_counts
 counts_length n works group = tabulate_length (size group) _
 
 -- what is delivered where nothing refuses and the result is the counts
-counts_given : (n : ℕ) (works : ℕ → Bool) (group : ℕ) (verdict : Verdict) (result buffer : List ℤ) → verdict ≡ Accepted
+counts_given : (n : ℕ) (works : ℕ → Bool) (group : ℕ) (verdict : Verdict) (result buffer : List ℤ) → verdict ≡ Ok tt
     → result ≡ group_counts n works group → size group ≤ length buffer → GivesCounts n works group (delivered verdict result buffer)
 counts_given n works group verdict result buffer accepted counts long =
     subst (GivesCounts n works group)
@@ -98,10 +95,10 @@ pub given_counts : (n : ℕ) (works : ℕ → Bool) (group : ℕ) (verdict : Ver
 given_counts n works group verdict result buffer gives =
     sym (given verdict result buffer _ (size group) told).front ∙ gives.shares
   where
-    told : outcome (Length (size group)) (delivered verdict result buffer).buffer ≡ delivered verdict result buffer
-    told = ap (λ (answer : Written). outcome answer (delivered verdict result buffer).buffer) (sym gives.given)
+    told : outcome (Ok (size group)) (delivered verdict result buffer).buffer ≡ delivered verdict result buffer
+    told = ap (λ (answer : Numbered). outcome answer (delivered verdict result buffer).buffer) (sym gives.given)
 
-pub shares_are_counts : (n : ℕ) (table : List ℕ) (group : ℕ) (first second : List ℤ) → shares_refusal n table group ≡ Accepted
+pub shares_are_counts : (n : ℕ) (table : List ℕ) (group : ℕ) (first second : List ℤ) → shares_refusal n table group ≡ Ok tt
     → size group ≤ length first → size group ≤ length second
     → GivesCounts n (in_table table) group (delivered (shares_refusal n table group) (shares_by_sets n (in_table table) group) first)
     × GivesCounts n (in_table table) group (delivered (shares_refusal n table group) (shares_by_reliability n (in_table table) group) second)

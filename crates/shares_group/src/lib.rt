@@ -5,27 +5,27 @@ ghost use Rattle.std.specs.Prelude.{◌≡◌, ◌+◌, ◌%◌, ◌^◌, slice_
 ghost use Rattle.answer.specs.Outcome.{and_then, room};
 ghost use Rattle.shares_claim.specs.Refusals.{shares_refusal};
 
-use answer::Verdict;
+use answer::Refusal;
 
 // The verdict on a call with a table and a group that needs so many cells for its result and is lent so many.
-pub fn judge(n: usize, table: &[u8], group: usize, needed: usize, lent: usize) -> Verdict
+pub fn judge(n: usize, table: &[u8], group: usize, needed: usize, lent: usize) -> Result<(), Refusal>
     ensures { result ≡ and_then (shares_refusal n table.now group) (room needed lent) }
 {
     let checked = group_verdict(n, table, group);
     match checked {
-        Verdict::Refused(refusal) => Verdict::Refused(refusal),
-        Verdict::Accepted => answer::room(needed, lent),
+        Err(refusal) => Err(refusal),
+        Ok(()) => answer::room(needed, lent),
     }
 }
 
 // The verdict on a table and a group.
-fn group_verdict(n: usize, table: &[u8], group: usize) -> Verdict
+fn group_verdict(n: usize, table: &[u8], group: usize) -> Result<(), Refusal>
     ensures { result ≡ shares_refusal n table.now group }
 {
     let checked = structure::table_verdict(n, table);
     match checked {
-        Verdict::Refused(refusal) => Verdict::Refused(refusal),
-        Verdict::Accepted => masks::group_verdict(n, group),
+        Err(refusal) => Err(refusal),
+        Ok(()) => masks::group_verdict(n, group),
     }
 }
 

@@ -13,20 +13,20 @@ ghost use Rattle.shares_claim.specs.Refusals.{shares_refusal};
 ghost use Rattle.theory_sums.specs.Sums.{gathered};
 ghost use Rattle.shares_polynomial.specs.Inside.{type_of, type_term, coefficient_of};
 
-use answer::{Verdict, Written};
+use answer::Refusal;
 
 // The (m+1)(n-m+1) coefficients of h(x,z), where x stands for the parts in the group, into a lent buffer: that of x^i z^j in cell
 // i × (n-m+1) + j.
-pub fn reliability(n: usize, table: &[u8], group: usize, cells: &mut [i64]) -> Written
+pub fn reliability(n: usize, table: &[u8], group: usize, cells: &mut [i64]) -> Result<usize, Refusal>
     ensures { outcome result cells.new ≡ delivered (shares_refusal n table.now group) (reliability_cells n (in_table table.now) group) cells.old }
 {
     let count = cells_needed(n, group);
     let judged = shares_group::judge(n, table, group, count, cells.len());
     match judged {
-        Verdict::Refused(refusal) => Written::Refused(refusal),
-        Verdict::Accepted => {
+        Err(refusal) => Err(refusal),
+        Ok(()) => {
             write_reliability(n, table, group, cells);
-            Written::Length(count)
+            Ok(count)
         }
     }
 }

@@ -9,7 +9,7 @@ use native.Mathlib.Omega.{arith}
 use lib.Dec.{ltb}
 use lib.IntN.{ℤ, pos, negsuc, neg_ℤ, nat_abs, ◌+ℤ◌, ◌*ℤ◌, pow, one}
 use lib.ListN.{length}
-use Rattle.answer.specs.declared.Verdict.TheVariants.{Accepted}
+use Rattle.std.specs.Prelude.{Ok}
 use Rattle.numbers.specs.Counts.{choose}
 use Rattle.numbers.proofs.Tables.{tabulate_at}
 use Rattle.theory_sums.specs.Sums.{sum_belowℤ}
@@ -73,7 +73,7 @@ size_sum f (suc k) m few =
 
 -- ---- the entries of an accepted vector
 
-module _ (kind : Kind) (n : ℕ) (entries : List ℤ) (accepted : vector_refusal kind n entries ≡ Accepted) where
+module _ (kind : Kind) (n : ℕ) (entries : List ℤ) (accepted : vector_refusal kind n entries ≡ Ok tt) where
   abbrev φ : ℕ → ℕ
   φ = counts_of kind n entries
 
@@ -122,7 +122,7 @@ fitting_domination z h = (written_domination z, small z h)
     small (pos v) l = omega arith
     small (negsuc w) l = omega arith
 
-pub accepted_fitting : (kind : Kind) (n : ℕ) (entries : List ℤ) → vector_refusal kind n entries ≡ Accepted → Fitting kind entries
+pub accepted_fitting : (kind : Kind) (n : ℕ) (entries : List ℤ) → vector_refusal kind n entries ≡ Ok tt → Fitting kind entries
 unfolding figure
 accepted_fitting PathCounts n entries accepted k h =
     let l : k < n + 1 = subst (λ (m : ℕ). k < m) (a PathCounts n entries accepted).long h in

@@ -3,8 +3,9 @@ use mathlib.Core.Path.{◌≡◌, refl}
 use mathlib.Core.List.{List, [], ◌∷◌, ◌++◌}
 use lib.IntN.{ℤ, pos, negsuc}
 use lib.ListN.{replicate}
+use Rattle.std.specs.Prelude.{Err}
+use Rattle.answer.specs.declared.Reason.TheVariants.{WrongPartCount, WrongPathCount, FallingProportion, EndOfBytes, WrongNumber, BytesLeft, WrongKind, TailSheet}
 use Rattle.answer.specs.Outcome.{at, outcome, delivered}
-use Rattle.answer.specs.declared.Written.TheVariants.{Refused}
 use Rattle.numbers.specs.Counts.{factorial, choose}
 use Rattle.numbers.specs.Tables.{tabulate}
 use Rattle.theory_sums.specs.Sums.{sum_belowℤ}
@@ -20,38 +21,38 @@ use Rattle.vector_kind.specs.declared.Kind.TheVariants.{PathCounts, Tail, Signat
 use Rattle.sheet.specs.Saving.{sheet_as, saved_sheet, tail_sheet_refusal}
 use Rattle.sheet.specs.Sheets.{entry_bytes, sheet_bytes, sheet, entries_at, sheet_of}
 
-empty : sheet_of [] ≡ refused (at 21 0)
+empty : sheet_of [] ≡ refused (at EndOfBytes 0)
 unfolding sheet_of field_at number_at number_in
 empty = refl
 
 -- 26 before n is read
-no_kind : sheet_of (0x00 ∷ 0x80 ∷ 0x00 ∷ []) ≡ refused (at 26 0)
+no_kind : sheet_of (0x00 ∷ 0x80 ∷ 0x00 ∷ []) ≡ refused (at WrongKind 0)
 unfolding sheet_of field_at number_at number_in
 no_kind = refl
 
-long_number : sheet_of (0x01 ∷ 0x80 ∷ 0x00 ∷ []) ≡ refused (at 22 1)
+long_number : sheet_of (0x01 ∷ 0x80 ∷ 0x00 ∷ []) ≡ refused (at WrongNumber 1)
 unfolding sheet_of field_at number_at number_in
 long_number = refl
 
 -- 1 is at place 0 although n stands at byte 1
-parts : sheet_of (0x01 ∷ 0x11 ∷ []) ≡ refused (at 1 0)
+parts : sheet_of (0x01 ∷ 0x11 ∷ []) ≡ refused (at WrongPartCount 0)
 unfolding sheet_of field_at number_at number_in
 parts = refl
 
 -- 25 before 13
-bytes_left_lem : sheet_of (0x01 ∷ 0x01 ∷ 0x00 ∷ 0x02 ∷ 0x07 ∷ []) ≡ refused (at 25 4)
+bytes_left_lem : sheet_of (0x01 ∷ 0x01 ∷ 0x00 ∷ 0x02 ∷ 0x07 ∷ []) ≡ refused (at BytesLeft 4)
 unfolding sheet_of entries_at fields_at field_at number_at number_in kind_of
 bytes_left_lem = refl
 
-wrong_count_lem : sheet_of (0x01 ∷ 0x01 ∷ 0x00 ∷ 0x02 ∷ []) ≡ refused (at 13 1)
+wrong_count_lem : sheet_of (0x01 ∷ 0x01 ∷ 0x00 ∷ 0x02 ∷ []) ≡ refused (at WrongPathCount 1)
 unfolding sheet_of entries_at fields_at field_at number_at number_in kind_of factorial choose sum_belowℤ any those scaled_count unit_of wrong_count falls path_counts_refusal counts_refusal
 wrong_count_lem = refl
 
-falling : sheet_of (0x01 ∷ 0x03 ∷ 0x00 ∷ 0x03 ∷ 0x02 ∷ 0x01 ∷ []) ≡ refused (at 14 1)
+falling : sheet_of (0x01 ∷ 0x03 ∷ 0x00 ∷ 0x03 ∷ 0x02 ∷ 0x01 ∷ []) ≡ refused (at FallingProportion 1)
 unfolding sheet_of entries_at fields_at field_at number_at number_in kind_of factorial choose sum_belowℤ any those scaled_count unit_of wrong_count falls path_counts_refusal counts_refusal
 falling = refl
 
-short : sheet_of (0x01 ∷ 0x02 ∷ 0x00 ∷ 0x01 ∷ []) ≡ refused (at 21 4)
+short : sheet_of (0x01 ∷ 0x02 ∷ 0x00 ∷ 0x01 ∷ []) ≡ refused (at EndOfBytes 4)
 unfolding sheet_of entries_at fields_at field_at number_at number_in kind_of
 short = refl
 
@@ -68,7 +69,7 @@ unfolding sheet_bytes entry_bytes forms_of bytes_of grouped
 domination_bytes = refl
 
 -- the largest number of a sheet is an entry far below 0
-largest : sheet_of (0x04 ∷ 0x01 ∷ 0x00 ∷ replicate 8 0xFF ++ (0x7F ∷ [])) ≡ refused (at 13 1)
+largest : sheet_of (0x04 ∷ 0x01 ∷ 0x00 ∷ replicate 8 0xFF ++ (0x7F ∷ [])) ≡ refused (at WrongPathCount 1)
 unfolding sheet_of entries_at fields_at field_at number_at number_in kind_of factorial choose sum_belowℤ any those scaled_count unit_of wrong_count falls path_counts_refusal counts_refusal
 largest = refl
 
@@ -95,5 +96,5 @@ bridge_as_counts = refl
 
 -- by name as a tail it is 34, whatever is wrong beside: here the vector's kind is 0, n is 0 and the buffer is empty
 tail_by_name : delivered (tail_sheet_refusal 2 (kind_refusal 0 (kind_refusal 2 (vector_refusal (kind_of 0) 0 [])))) (sheet_as (kind_of 2) (kind_of 0) 0 []) []
-    ≡ outcome (Refused (at 34 0)) []
+    ≡ outcome (Err (at TailSheet 0)) []
 tail_by_name = refl

@@ -5,7 +5,7 @@ use Prim.Native.Nat.{ℕ, ◌≤◌}
 use native.Mathlib.Omega.{arith}
 use lib.IntN.{ℤ}
 use lib.ListN.{length, length-append, length-map}
-use Rattle.answer.specs.declared.Verdict.TheVariants.{Accepted}
+use Rattle.std.specs.Prelude.{Ok}
 use Rattle.codec.specs.declared.Field.TheVariants as field
 use Rattle.codec.specs.ByteForm.{bytes_of, forms_of}
 use Rattle.codec.proofs.ByteForms.{bytes_at_most}
@@ -18,7 +18,7 @@ use Rattle.sheet.specs.Sheets.{coded, entry_bytes, sheet_bytes}
 use Rattle.sheet.proofs.Codes.{kind_few, length_few}
 use Rattle.sheet.proofs.Bounds.{accepted_fitting, fitting_allowed}
 
-pub written_longest : (kind : Kind) (n : ℕ) (entries : List ℤ) → vector_refusal kind n entries ≡ Accepted → length (sheet_bytes kind n entries) ≤ 155
+pub written_longest : (kind : Kind) (n : ℕ) (entries : List ℤ) → vector_refusal kind n entries ≡ Ok tt → length (sheet_bytes kind n entries) ≤ 155
 unfolding sheet_bytes entry_bytes
 written_longest kind n entries accepted =
     let a = accepted_vector kind n entries accepted in

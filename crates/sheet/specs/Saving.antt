@@ -1,8 +1,7 @@
 -- Which sheet a vector is saved as (02, §11): tails are read and no longer written.
 use Rattle.std.specs.Prelude.{List, ◌⊎◌, ◌≡◌, ℕ, eqb, ℤ, get_or}
-use Rattle.answer.specs.Outcome.{refuse}
-use Rattle.answer.specs.Refusals.{tail_sheet}
-use Rattle.answer.specs.declared.Verdict.{Verdict}
+use Rattle.answer.specs.Outcome.{refuse, Verdict}
+use Rattle.answer.specs.declared.Reason.TheVariants.{TailSheet}
 use Rattle.vector_conversion.specs.Vectors.{converted}
 use Rattle.vector_kind.specs.declared.Kind.{Kind}
 use Rattle.vector_kind.specs.declared.Kind.TheVariants.{PathCounts, Tail, Signature, Domination}
@@ -25,7 +24,7 @@ saved_sheet kind n entries = sheet_as (saved_kind kind) kind n entries
 
 -- the kind to write, where it is named: 34 for the tail, at place 0, before every other check
 abbrev pub tail_sheet_refusal : ℕ → Verdict → Verdict
-tail_sheet_refusal target later = refuse (eqb target 2) tail_sheet 0 later
+tail_sheet_refusal target later = refuse (eqb target 2) TailSheet 0 later
 
 -- bytes that begin with the number of a kind that is written: 1, 3 or 4
 abbrev pub WrittenKindFirst : List ℕ → Type 0

@@ -1,8 +1,7 @@
 -- Vector sheets (01, "Records on disk" and "Where each refusal is found"): kind, n, entries, each a number in groups of seven bits.
-use Rattle.std.specs.Prelude.{cond, List, [], ◌++◌, map, ℕ, ◌+◌, ◌*◌, ◌/◌, ◌%◌, eqb, ℤ, pos, negsuc, nat_abs}
+use Rattle.answer.specs.Outcome.{Verdict}
+use Rattle.std.specs.Prelude.{cond, List, [], ◌++◌, map, ℕ, ◌+◌, ◌*◌, ◌/◌, ◌%◌, eqb, ℤ, pos, negsuc, nat_abs, Ok}
 use Rattle.answer.specs.Checks.{part_count_refusal}
-use Rattle.answer.specs.declared.Verdict.{Verdict}
-use Rattle.answer.specs.declared.Verdict.TheVariants.{Accepted}
 use Rattle.codec.specs.ByteForm.{bytes_of, forms_of}
 use Rattle.codec.specs.declared.Field.TheVariants as field
 use Rattle.codec.specs.Reads.{Read, found, then, unless, alone}
@@ -49,11 +48,11 @@ sheet kind n entries = record { kind = kind; n = n; entries = entries }
 
 -- the kind's number: 26, at place 0
 abbrev pub kind_judged : ℕ → Verdict
-kind_judged number = kind_refusal number Accepted
+kind_judged number = kind_refusal number (Ok tt)
 
 -- n: 1, at place 0
 abbrev pub parts_judged : ℕ → Verdict
-parts_judged n = part_count_refusal 0 n Accepted
+parts_judged n = part_count_refusal 0 n (Ok tt)
 
 -- so many entries from a position on; 21 and 22 alone refuse one
 unfoldable pub entries_at : List ℕ → Kind → ℕ → ℕ → Read (List ℤ)

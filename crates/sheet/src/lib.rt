@@ -9,29 +9,29 @@ ghost use Rattle.vector_conversion.specs.Vectors.{vector_refusal};
 ghost use Rattle.sheet.specs.Saving.{sheet_as, saved_kind, saved_sheet, tail_sheet_refusal};
 ghost use Rattle.sheet.specs.Sheets.{coded, sheet_bytes};
 
-use answer::{Verdict, Written};
+use answer::{Reason, Refusal};
 use vector::Vector;
 use vector_kind::Kind;
 
 // Saves a vector: the sheet of its own kind, and of a tail the signature sheet with the same path counts, into a lent buffer.
-pub fn save_sheet(kind: Kind, n: usize, entries: &[i64], buffer: &mut [u8]) -> Written
+pub fn save_sheet(kind: Kind, n: usize, entries: &[i64], buffer: &mut [u8]) -> Result<usize, Refusal>
     ensures { outcome result buffer.new ≡ delivered (vector_refusal kind n entries.now) (saved_sheet kind n entries.now) buffer.old }
 {
     write_as(kind, n, entries, saved_kind(kind), buffer)
 }
 
 // Saves a vector whose kind comes as a number.
-pub fn save_sheet_numbered(kind: u8, n: usize, entries: &[i64], buffer: &mut [u8]) -> Written
+pub fn save_sheet_numbered(kind: u8, n: usize, entries: &[i64], buffer: &mut [u8]) -> Result<usize, Refusal>
     ensures { outcome result buffer.new ≡ delivered (kind_refusal kind (vector_refusal (kind_of kind) n entries.now)) (saved_sheet (kind_of kind) n entries.now) buffer.old }
 {
     if vector_kind::is_kind(kind) {
         return save_sheet(vector_kind::kind_of(kind), n, entries, buffer);
     }
-    answer::unwritten(answer::WRONG_KIND, 0)
+    Err(Reason::WrongKind.at(0))
 }
 
 // Saves a vector in a struct.
-pub fn save_vector(vector: Vector, buffer: &mut [u8]) -> Written
+pub fn save_vector(vector: Vector, buffer: &mut [u8]) -> Result<usize, Refusal>
     ensures { outcome result buffer.new ≡ delivered (struct_refusal vector) (saved_sheet vector.kind vector.n (entries_of vector)) buffer.old }
 {
     let kind = vector.kind;
@@ -45,11 +45,11 @@ pub fn save_sheet_as(
     entries: &[i64],
     target: Kind,
     buffer: &mut [u8],
-) -> Written
+) -> Result<usize, Refusal>
     ensures { outcome result buffer.new ≡ delivered (tail_sheet_refusal (kind_number target) (vector_refusal kind n entries.now)) (sheet_as target kind n entries.now) buffer.old }
 {
     if target.number() == 2 {
-        return answer::unwritten(answer::TAIL_SHEET, 0);
+        return Err(Reason::TailSheet.at(0));
     }
     write_as(kind, n, entries, target, buffer)
 }
@@ -61,11 +61,11 @@ pub fn save_sheet_as_numbered(
     entries: &[i64],
     target: u8,
     buffer: &mut [u8],
-) -> Written
+) -> Result<usize, Refusal>
     ensures { outcome result buffer.new ≡ delivered (tail_sheet_refusal target (kind_refusal kind (kind_refusal target (vector_refusal (kind_of kind) n entries.now)))) (sheet_as (kind_of target) (kind_of kind) n entries.now) buffer.old }
 {
     if target == 2 {
-        return answer::unwritten(answer::TAIL_SHEET, 0);
+        return Err(Reason::TailSheet.at(0));
     }
     if vector_kind::is_kind(kind) {
         if vector_kind::is_kind(target) {
@@ -77,17 +77,17 @@ pub fn save_sheet_as_numbered(
                 buffer,
             );
         }
-        return answer::unwritten(answer::WRONG_KIND, 0);
+        return Err(Reason::WrongKind.at(0));
     }
-    answer::unwritten(answer::WRONG_KIND, 0)
+    Err(Reason::WrongKind.at(0))
 }
 
 // Saves a vector in a struct as the sheet of the kind that is named.
-pub fn save_vector_as(vector: Vector, target: Kind, buffer: &mut [u8]) -> Written
+pub fn save_vector_as(vector: Vector, target: Kind, buffer: &mut [u8]) -> Result<usize, Refusal>
     ensures { outcome result buffer.new ≡ delivered (tail_sheet_refusal (kind_number target) (struct_refusal vector)) (sheet_as target vector.kind vector.n (entries_of vector)) buffer.old }
 {
     if target.number() == 2 {
-        return answer::unwritten(answer::TAIL_SHEET, 0);
+        return Err(Reason::TailSheet.at(0));
     }
     write_vector_as(vector, target, buffer)
 }
@@ -104,13 +104,13 @@ fn saved_kind(kind: Kind) -> Kind
 }
 
 // The sheet of a kind for a vector in a struct.
-fn write_vector_as(vector: Vector, target: Kind, buffer: &mut [u8]) -> Written
+fn write_vector_as(vector: Vector, target: Kind, buffer: &mut [u8]) -> Result<usize, Refusal>
     ensures { outcome result buffer.new ≡ delivered (struct_refusal vector) (sheet_as target vector.kind vector.n (entries_of vector)) buffer.old }
 {
     let verdict = vector.judge();
     match verdict {
-        Verdict::Refused(refusal) => Written::Refused(refusal),
-        Verdict::Accepted => {
+        Err(refusal) => Err(refusal),
+        Ok(()) => {
             let kind = vector.kind;
             let length = vector.length;
             let entries = vector.entries;
@@ -120,17 +120,17 @@ fn write_vector_as(vector: Vector, target: Kind, buffer: &mut [u8]) -> Written
 }
 
 // The sheet of a kind for a vector: its entries are converted, and written as numbers.
-fn write_as(kind: Kind, n: usize, entries: &[i64], target: Kind, buffer: &mut [u8]) -> Written
+fn write_as(kind: Kind, n: usize, entries: &[i64], target: Kind, buffer: &mut [u8]) -> Result<usize, Refusal>
     ensures { outcome result buffer.new ≡ delivered (vector_refusal kind n entries.now) (sheet_as target kind n entries.now) buffer.old }
 {
     let mut cells = [0i64; 17];
     let converted = vector_conversion::convert(kind, n, entries, target, &mut cells);
     match converted {
-        Written::Refused(refusal) => Written::Refused(refusal),
-        Written::Length(count) => {
+        Err(refusal) => Err(refusal),
+        Ok(count) => {
             let mut sheet = [0u8; 155];
             let length = write_numbers(target, n, &cells[..count], &mut sheet);
-            answer::hand_out_bytes(&sheet[..length], buffer)
+            answer::hand_out(&sheet[..length], buffer)
         }
     }
 }
@@ -138,7 +138,7 @@ fn write_as(kind: Kind, n: usize, entries: &[i64], target: Kind, buffer: &mut [u
 // Writes a sheet's numbers into a buffer that has room for them all, and answers how many bytes they take.
 fn write_numbers(kind: Kind, n: usize, entries: &[i64], buffer: &mut [u8]) -> usize
     requires { length (sheet_bytes kind n entries.now) ≤ length buffer.old }
-    ensures { outcome (Written.Length result) buffer.new ≡ delivered Verdict.Accepted (sheet_bytes kind n entries.now) buffer.old }
+    ensures { outcome (Ok result) buffer.new ≡ delivered (Ok tt) (sheet_bytes kind n entries.now) buffer.old }
 {
     let start = codec::write_number(buffer, 0, u64::from(kind.number()));
     let mut next = codec::write_number(buffer, start, n as u64);

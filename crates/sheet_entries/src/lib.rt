@@ -6,7 +6,7 @@ ghost use Rattle.answer.specs.Outcome.{outcome};
 ghost use Rattle.sheet.specs.Sheets.{sheet_of};
 ghost use Rattle.sheet_entries.specs.Answers.{entries_read, entries_delivered};
 
-use answer::{Verdict, Written};
+use answer::Refusal;
 use vector_kind::Kind;
 
 // What reading a sheet into a lent buffer answers: its kind, n and the number of its entries; of a refused sheet path counts and 0.
@@ -14,7 +14,7 @@ use vector_kind::Kind;
 pub struct EntriesRead {
     pub kind: Kind,
     pub n: usize,
-    pub answer: Written,
+    pub answer: Result<usize, Refusal>,
 }
 
 // The entries of a sheet, into a lent buffer.
@@ -24,12 +24,12 @@ pub fn read_sheet(bytes: &[u8], cells: &mut [i64]) -> EntriesRead
     let read = sheet_reading::vector_of_sheet(bytes);
     let verdict = read.verdict;
     match verdict {
-        Verdict::Refused(refusal) => entries_read(Kind::PathCounts, 0, Written::Refused(refusal)),
-        Verdict::Accepted => {
+        Err(refusal) => entries_read(Kind::PathCounts, 0, Err(refusal)),
+        Ok(()) => {
             let vector = read.vector;
             let length = vector.length;
             let entries = vector.entries;
-            let handed = answer::hand_out_entries(&entries[..length], cells);
+            let handed = answer::hand_out(&entries[..length], cells);
             let kind = vector.kind;
             entries_read(kind, vector.n, handed)
         }
@@ -37,19 +37,19 @@ pub fn read_sheet(bytes: &[u8], cells: &mut [i64]) -> EntriesRead
 }
 
 // What is told of a sheet, with the answer to handing its entries out.
-fn entries_read(kind: Kind, n: usize, handed: Written) -> EntriesRead
+fn entries_read(kind: Kind, n: usize, handed: Result<usize, Refusal>) -> EntriesRead
     ensures { result ≡ entries_read kind n handed }
 {
     match handed {
-        Written::Length(count) => EntriesRead {
+        Ok(count) => EntriesRead {
             kind,
             n,
-            answer: Written::Length(count),
+            answer: Ok(count),
         },
-        Written::Refused(refusal) => EntriesRead {
+        Err(refusal) => EntriesRead {
             kind: Kind::PathCounts,
             n: 0,
-            answer: Written::Refused(refusal),
+            answer: Err(refusal),
         },
     }
 }

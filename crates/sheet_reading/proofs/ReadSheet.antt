@@ -9,8 +9,8 @@ use lib.Dec.{eqb}
 use lib.IntN.{ℤ}
 use lib.ListN.{length, drop, length-append, length-map}
 use borrow.Author.Tests.{le-ltb}
-use Rattle.answer.specs.Refusals.{wrong_vector_length, wrong_kind}
-use Rattle.answer.specs.declared.Verdict.TheVariants.{Accepted}
+use Rattle.std.specs.Prelude.{Ok}
+use Rattle.answer.specs.declared.Reason.TheVariants.{WrongVectorLength, WrongKind}
 use Rattle.answer.proofs.Outcomes.{refuse_accepted, refuse_passed}
 use Rattle.answer.proofs.Checks.{parts_passed, parts_right}
 use Rattle.codec.specs.ByteForm.{bytes_of, forms_of}
@@ -61,22 +61,22 @@ sheet_steps bytes = refl
 
 -- ---- the byte form of an accepted vector
 
-counts_accepted : (kind : Kind) (n : ℕ) (entries : List ℤ) → vector_refusal kind n entries ≡ Accepted → counts_refusal kind n entries ≡ Accepted
+counts_accepted : (kind : Kind) (n : ℕ) (entries : List ℤ) → vector_refusal kind n entries ≡ Ok tt → counts_refusal kind n entries ≡ Ok tt
 unfolding vector_refusal
 counts_accepted kind n entries h =
-    (refuse_accepted (not (eqb (length entries) (length_of kind n))) wrong_vector_length 0 (counts_refusal kind n entries) (parts_right 0 n _ h).2).1
+    (refuse_accepted (not (eqb (length entries) (length_of kind n))) WrongVectorLength 0 (counts_refusal kind n entries) (parts_right 0 n _ h).2).1
 
 -- with entries that have a place on a sheet
-fitting_read : (kind : Kind) (n : ℕ) (entries : List ℤ) → vector_refusal kind n entries ≡ Accepted → Fitting kind entries
+fitting_read : (kind : Kind) (n : ℕ) (entries : List ℤ) → vector_refusal kind n entries ≡ Ok tt → Fitting kind entries
     → sheet_of (sheet_bytes kind n entries) ≡ found (sheet kind n entries) (length (sheet_bytes kind n entries))
 unfolding sheet_bytes
 fitting_read kind n entries accepted fits =
     sheet_steps bytes
     ∙ ap (λ (r : Read ℕ). then r (λ number next. kinded bytes (kind_of number) next))
-    (field_read bytes 0 field.Sheet kind_judged (kind_number kind) rest refl (le_trans (kind_few kind) (omega arith)) (refuse_passed _ wrong_kind 0 Accepted (ap not (kind_is_one kind))))
+    (field_read bytes 0 field.Sheet kind_judged (kind_number kind) rest refl (le_trans (kind_few kind) (omega arith)) (refuse_passed _ WrongKind 0 (Ok tt) (ap not (kind_is_one kind))))
     ∙ ap (λ (k : Kind). kinded bytes k first) (kind_back kind)
     ∙ ap (λ (r : Read ℕ). then r (entered bytes kind))
-    (field_read bytes first field.Sheet parts_judged n (entry_bytes kind entries) after (le_trans a.few (omega arith)) (parts_passed 0 n Accepted a.some a.few))
+    (field_read bytes first field.Sheet parts_judged n (entry_bytes kind entries) after (le_trans a.few (omega arith)) (parts_passed 0 n (Ok tt) a.some a.few))
     ∙ ap (λ (m : ℕ). then (entries_at bytes kind m second) (ended bytes kind n)) (sym a.long)
     ∙ ap (λ (r : Read (List ℤ)). then r (ended bytes kind n)) (entries_read_lem bytes kind entries second (behind bytes first (bytes_of n) (entry_bytes kind entries) after) fits)
     ∙ ap (λ (end : ℕ). ended bytes kind n entries end) (sym all)
@@ -104,6 +104,6 @@ fitting_read kind n entries accepted fits =
     all = omega (arith, length-append (bytes_of (kind_number kind)) rest, length-append (bytes_of n) (entry_bytes kind entries))
 
 -- the byte form of an accepted vector is read as that vector
-pub sheet_read_lem : (kind : Kind) (n : ℕ) (entries : List ℤ) → vector_refusal kind n entries ≡ Accepted
+pub sheet_read_lem : (kind : Kind) (n : ℕ) (entries : List ℤ) → vector_refusal kind n entries ≡ Ok tt
     → sheet_of (sheet_bytes kind n entries) ≡ found (sheet kind n entries) (length (sheet_bytes kind n entries))
 sheet_read_lem kind n entries accepted = fitting_read kind n entries accepted (accepted_fitting kind n entries accepted)

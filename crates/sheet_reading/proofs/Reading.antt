@@ -5,8 +5,8 @@ use Prim.Native.Nat.{ℕ, ◌-◌, ◌≤◌}
 use native.Mathlib.Omega.{arith}
 use lib.IntN.{ℤ, pos}
 use lib.ListN.{length, replicate, length-append}
+use Rattle.std.specs.Prelude.{Ok, Err}
 use Rattle.answer.specs.declared.Refusal.{Refusal}
-use Rattle.answer.specs.declared.Verdict.TheVariants as verdict
 use Rattle.vector.specs.InStruct.{most_entries, entry_cells, entries_of}
 use Rattle.sheet_reading.specs.Answers.{sheet_read}
 use Rattle.codec.specs.Reads.{Read, found, refused}
@@ -21,7 +21,7 @@ pub record GivenAs (read : Read Sheet) (answer : SheetRead) : Type 0 where
   pub counted : length (entries_of answer.vector) ≡ answer.vector.length
   pub inside : answer.vector.length ≤ length answer.vector.entries
 
-pub sheet_given : (read : Read Sheet) (answer : SheetRead) → answer ≡ sheet_read read → answer.verdict ≡ verdict.Accepted → GivenAs read answer
+pub sheet_given : (read : Read Sheet) (answer : SheetRead) → answer ≡ sheet_read read → answer.verdict ≡ Ok tt → GivenAs read answer
 sheet_given (refused why) answer e accepted = let clash : ◌≡◌ {A = ℕ} 0 1 = cc (ap (λ (r : SheetRead). r.verdict) e) in absurd (omega arith)
 sheet_given (found s end) answer e accepted =
     let held = entries_held (length s.entries) (entry_cells s.entries) s.entries refl refl in
@@ -34,6 +34,6 @@ sheet_given (found s end) answer e accepted =
     })
 
 -- the sheet of a refused one
-pub sheet_refused : (read : Read Sheet) (answer : SheetRead) (why : Refusal) → answer ≡ sheet_read read → answer.verdict ≡ verdict.Refused why → read ≡ refused why
+pub sheet_refused : (read : Read Sheet) (answer : SheetRead) (why : Refusal) → answer ≡ sheet_read read → answer.verdict ≡ Err why → read ≡ refused why
 sheet_refused (refused other) answer why e held = cc (ap (λ (r : SheetRead). r.verdict) e)
 sheet_refused (found s end) answer why e held = let clash : ◌≡◌ {A = ℕ} 0 1 = cc (ap (λ (r : SheetRead). r.verdict) e) in absurd (omega arith)

@@ -8,11 +8,9 @@ use Prim.Native.Nat.{ℕ, ◌≤◌}
 use lib.Dec.{eqb}
 use lib.IntN.{ℤ}
 use lib.ListN.{length, take}
-use Rattle.answer.specs.Outcome.{refuse, outcome, delivered}
-use Rattle.answer.specs.Refusals.{wrong_vector_length, wrong_kind}
-use Rattle.answer.specs.declared.Verdict.{Verdict}
-use Rattle.answer.specs.declared.Verdict.TheVariants.{Accepted}
-use Rattle.answer.specs.declared.Written.TheVariants.{Length}
+use Rattle.std.specs.Prelude.{Ok}
+use Rattle.answer.specs.Outcome.{refuse, outcome, delivered, Verdict}
+use Rattle.answer.specs.declared.Reason.TheVariants.{WrongVectorLength, WrongKind}
 use Rattle.answer.proofs.Deliveries.{given}
 use Rattle.answer.proofs.Outcomes.{refuse_accepted}
 use Rattle.codec.specs.Bytes.{Bytes}
@@ -38,8 +36,8 @@ use Rattle.sheet_reading.proofs.SheetForm.{sheet_form}
 -- ---- sheets as they were written until 02, §11
 
 -- What was left of a vector of any kind, also of a tail, by a call whose checks passed only what is accepted is read as that vector.
-pub sheet_as_before : (kind : Kind) (n : ℕ) (entries : List ℤ) (judged : Verdict) → (judged ≡ Accepted → vector_refusal kind n entries ≡ Accepted)
-    → (before after : List ℕ) (count : ℕ) → outcome (Length count) after ≡ delivered judged (sheet_bytes kind n entries) before
+pub sheet_as_before : (kind : Kind) (n : ℕ) (entries : List ℤ) (judged : Verdict) → (judged ≡ Ok tt → vector_refusal kind n entries ≡ Ok tt)
+    → (before after : List ℕ) (count : ℕ) → outcome (Ok count) after ≡ delivered judged (sheet_bytes kind n entries) before
     → sheet_of (take count after) ≡ found (sheet kind n entries) count
 sheet_as_before kind n entries judged passes before after count e =
     let m = given judged (sheet_bytes kind n entries) before after count e in
@@ -47,21 +45,21 @@ sheet_as_before kind n entries judged passes before after count e =
 
 -- so is what the call with the kind as a number left, which C had
 pub numbered_as_before : (number n : ℕ) (entries : List ℤ) (before after : List ℕ) (count : ℕ)
-    → outcome (Length count) after ≡ delivered (kind_refusal number (vector_refusal (kind_of number) n entries)) (sheet_bytes (kind_of number) n entries) before
+    → outcome (Ok count) after ≡ delivered (kind_refusal number (vector_refusal (kind_of number) n entries)) (sheet_bytes (kind_of number) n entries) before
     → sheet_of (take count after) ≡ found (sheet (kind_of number) n entries) count
 numbered_as_before number n entries =
-    sheet_as_before (kind_of number) n entries (kind_refusal number (vector_refusal (kind_of number) n entries)) (λ passed. (refuse_accepted (not (is_kind number)) wrong_kind 0 _ passed).1)
+    sheet_as_before (kind_of number) n entries (kind_refusal number (vector_refusal (kind_of number) n entries)) (λ passed. (refuse_accepted (not (is_kind number)) WrongKind 0 _ passed).1)
 
 -- and the one with a vector in a struct, which has all its cells
 pub held_as_before : (vector : Vector) → length vector.entries ≡ most_entries → (before after : List ℕ) (count : ℕ)
-    → outcome (Length count) after ≡ delivered (struct_refusal vector) (sheet_bytes vector.kind vector.n (entries_of vector)) before
+    → outcome (Ok count) after ≡ delivered (struct_refusal vector) (sheet_bytes vector.kind vector.n (entries_of vector)) before
     → sheet_of (take count after) ≡ found (sheet vector.kind vector.n (entries_of vector)) count
 held_as_before vector all =
     sheet_as_before vector.kind vector.n (entries_of vector) (struct_refusal vector) (λ passed. held_same vector all passed ∙ passed)
 
 -- ---- read after save
 
-module _ (kind : Kind) (n : ℕ) (entries : List ℤ) (accepted : vector_refusal kind n entries ≡ Accepted) where
+module _ (kind : Kind) (n : ℕ) (entries : List ℤ) (accepted : vector_refusal kind n entries ≡ Ok tt) where
   -- what is saved by name is read as the vector of that kind
   pub named_read : (target : Kind)
       → sheet_of (sheet_as target kind n entries) ≡ found (sheet target n (converted target kind n entries)) (length (sheet_as target kind n entries))
@@ -86,13 +84,13 @@ module _ (kind : Kind) (n : ℕ) (entries : List ℤ) (accepted : vector_refusal
 -- whoever read it, into a struct or into lent cells: a sheet is saved as the very bytes that it was read from, and a tail as the signature
 module _ (bytes : List ℕ) (narrow : Bytes bytes) (n : ℕ) (entries : List ℤ) (end : ℕ) (buffer : List ℕ) where
   pub sheet_saved : (kind : Kind) → sheet_of bytes ≡ found (sheet kind n entries) end → (kind ≡ Tail → ⊥)
-      → delivered (vector_refusal kind n entries) (saved_sheet kind n entries) buffer ≡ delivered Accepted bytes buffer
+      → delivered (vector_refusal kind n entries) (saved_sheet kind n entries) buffer ≡ delivered (Ok tt) bytes buffer
   sheet_saved kind read other =
       let form = sheet_form bytes narrow kind n entries end read in
       ap₂ (λ (v : Verdict) (l : List ℕ). delivered v l buffer) form.1 (saved_own kind n entries other form.1 ∙ form.0)
 
   pub tail_sheet_saved : sheet_of bytes ≡ found (sheet Tail n entries) end
-      → delivered (vector_refusal Tail n entries) (saved_sheet Tail n entries) buffer ≡ delivered Accepted (sheet_as Signature Tail n entries) buffer
+      → delivered (vector_refusal Tail n entries) (saved_sheet Tail n entries) buffer ≡ delivered (Ok tt) (sheet_as Signature Tail n entries) buffer
   tail_sheet_saved read =
       ap (λ (v : Verdict). delivered v (saved_sheet Tail n entries) buffer) (sheet_form bytes narrow Tail n entries end read).1
 
@@ -100,10 +98,10 @@ module _ (bytes : List ℕ) (narrow : Bytes bytes) (n : ℕ) (entries : List ℤ
 held_entries : (vector : Vector) → length (entries_of vector) ≡ vector.length → struct_refusal vector ≡ vector_refusal vector.kind vector.n (entries_of vector)
 unfolding struct_refusal vector_refusal
 held_entries vector counted =
-    ap (λ (k : ℕ). part_count_refusal 0 vector.n (refuse (not (eqb k (length_of vector.kind vector.n))) wrong_vector_length 0 (counts_refusal vector.kind vector.n (entries_of vector))))
+    ap (λ (k : ℕ). part_count_refusal 0 vector.n (refuse (not (eqb k (length_of vector.kind vector.n))) WrongVectorLength 0 (counts_refusal vector.kind vector.n (entries_of vector))))
     (sym counted)
 
-module _ (bytes buffer : List ℕ) (narrow : Bytes bytes) (accepted : (sheet_read (sheet_of bytes)).verdict ≡ Accepted) where
+module _ (bytes buffer : List ℕ) (narrow : Bytes bytes) (accepted : (sheet_read (sheet_of bytes)).verdict ≡ Ok tt) where
   -- the vector that is read
   abbrev vector : Vector
   vector = (sheet_read (sheet_of bytes)).vector
@@ -116,7 +114,7 @@ module _ (bytes buffer : List ℕ) (narrow : Bytes bytes) (accepted : (sheet_rea
 
   -- what is read is saved as the very bytes that it was read from, unless it is a tail
   pub read_saved : (vector.kind ≡ Tail → ⊥)
-      → delivered (struct_refusal vector) (saved_sheet vector.kind vector.n (entries_of vector)) buffer ≡ delivered Accepted bytes buffer
+      → delivered (struct_refusal vector) (saved_sheet vector.kind vector.n (entries_of vector)) buffer ≡ delivered (Ok tt) bytes buffer
   read_saved other =
       ap (λ (v : Verdict). delivered v (saved_sheet vector.kind vector.n (entries_of vector)) buffer) same
       ∙ sheet_saved bytes narrow vector.n (entries_of vector) read.end buffer vector.kind read.given other
@@ -124,7 +122,7 @@ module _ (bytes buffer : List ℕ) (narrow : Bytes bytes) (accepted : (sheet_rea
   -- a tail that is read is saved as the signature sheet, and reading that gives the same path counts
   pub record SavedTail : Type 0 where
     pub saved : delivered (struct_refusal vector) (saved_sheet vector.kind vector.n (entries_of vector)) buffer
-        ≡ delivered Accepted (sheet_as Signature Tail vector.n (entries_of vector)) buffer
+        ≡ delivered (Ok tt) (sheet_as Signature Tail vector.n (entries_of vector)) buffer
     pub again : sheet_of (sheet_as Signature Tail vector.n (entries_of vector))
         ≡ found (sheet Signature vector.n (converted Signature Tail vector.n (entries_of vector))) (length (sheet_as Signature Tail vector.n (entries_of vector)))
     pub counts : (j : ℕ) → j ≤ vector.n → counts_of Signature vector.n (converted Signature Tail vector.n (entries_of vector)) j ≡ counts_of Tail vector.n (entries_of vector) j
@@ -133,7 +131,7 @@ module _ (bytes buffer : List ℕ) (narrow : Bytes bytes) (accepted : (sheet_rea
   tail_saved tail =
       let given : sheet_of bytes ≡ found (sheet Tail vector.n (entries_of vector)) read.end =
       read.given ∙ ap (λ (kind : Kind). found (sheet kind vector.n (entries_of vector)) read.end) tail in
-      let right : vector_refusal Tail vector.n (entries_of vector) ≡ Accepted = (sheet_form bytes narrow Tail vector.n (entries_of vector) read.end given).1 in
+      let right : vector_refusal Tail vector.n (entries_of vector) ≡ Ok tt = (sheet_form bytes narrow Tail vector.n (entries_of vector) read.end given).1 in
       record {
         saved =
             ap₂ (λ (v : Verdict) (kind : Kind). delivered v (saved_sheet kind vector.n (entries_of vector)) buffer)

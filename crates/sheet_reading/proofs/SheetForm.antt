@@ -7,8 +7,8 @@ use Prim.Native.Nat.{ℕ, ◌≤◌}
 use lib.IntN.{ℤ}
 use lib.ListN.{length, drop, drop_of_length-le, length-map}
 use borrow.Author.Tests.{eq-eqb, not-false}
-use Rattle.answer.specs.Refusals.{wrong_vector_length, wrong_kind}
-use Rattle.answer.specs.declared.Verdict.TheVariants.{Accepted}
+use Rattle.std.specs.Prelude.{Ok}
+use Rattle.answer.specs.declared.Reason.TheVariants.{WrongVectorLength, WrongKind}
 use Rattle.answer.proofs.Outcomes.{refuse_accepted, refuse_passed}
 use Rattle.answer.proofs.Checks.{parts_passed, parts_right}
 use Rattle.codec.specs.ByteForm.{bytes_of, forms_of}
@@ -55,7 +55,7 @@ module _ (bytes : List ℕ) (narrow : Bytes bytes) where
   -- ---- a given sheet
 
   pub sheet_form : (kind : Kind) (n : ℕ) (entries : List ℤ) (end : ℕ) → sheet_of bytes ≡ found (sheet kind n entries) end
-      → (sheet_bytes kind n entries ≡ bytes) × (vector_refusal kind n entries ≡ Accepted)
+      → (sheet_bytes kind n entries ≡ bytes) × (vector_refusal kind n entries ≡ Ok tt)
   unfolding sheet_bytes vector_refusal
   sheet_form kind n entries end e =
       let s : Sheet = sheet kind n entries in
@@ -73,21 +73,21 @@ module _ (bytes : List ℕ) (narrow : Bytes bytes) where
       let body = entries_form k (length_of k m) two.1 three.0 three.1 second.stands.inside three.2 in
       let nothing : drop three.1 bytes ≡ [] = drop_of_length-le bytes (subst (λ (i : ℕ). length bytes ≤ i) (sym last.1) last.2) in
       let list : List ℤ = three.0 in
-      whole number m list one.1 two.1 (refuse_accepted _ wrong_kind 0 Accepted first.passed).0 first.stands.stands second.stands.stands
+      whole number m list one.1 two.1 (refuse_accepted _ WrongKind 0 (Ok tt) first.passed).0 first.stands.stands second.stands.stands
       (body.form ∙ ap (λ (x : List ℕ). entry_bytes k list ++ x) nothing ∙ append-nil (entry_bytes k list))
-      (parts_passed 0 m _ (parts_right 0 m Accepted second.passed).0 (parts_right 0 m Accepted second.passed).1
-      ∙ refuse_passed _ wrong_vector_length 0 _ (ap not (eq-eqb (length list) (length_of k m) body.long))
+      (parts_passed 0 m _ (parts_right 0 m (Ok tt) second.passed).0 (parts_right 0 m (Ok tt) second.passed).1
+      ∙ refuse_passed _ WrongVectorLength 0 _ (ap not (eq-eqb (length list) (length_of k m) body.long))
       ∙ ap (counts_refusal k m) last.0 ∙ right.0)
       (ap (sheet k m) last.0 ∙ cc right.1)
     where
       whole : (number m : ℕ) (list : List ℤ) (next start : ℕ) → not (is_kind number) ≡ false
           → bytes ≡ bytes_of number ++ drop next bytes → drop next bytes ≡ bytes_of m ++ drop start bytes
-          → drop start bytes ≡ entry_bytes (kind_of number) list → vector_refusal (kind_of number) m list ≡ Accepted → sheet (kind_of number) m list ≡ sheet kind n entries
-          → (sheet_bytes kind n entries ≡ bytes) × (vector_refusal kind n entries ≡ Accepted)
+          → drop start bytes ≡ entry_bytes (kind_of number) list → vector_refusal (kind_of number) m list ≡ Ok tt → sheet (kind_of number) m list ≡ sheet kind n entries
+          → (sheet_bytes kind n entries ≡ bytes) × (vector_refusal kind n entries ≡ Ok tt)
       whole number m list next start known front middle back accepted same = (
         ap (λ (s : Sheet). bytes_of (kind_number s.kind) ++ (bytes_of s.n ++ entry_bytes s.kind s.entries)) (sym same)
             ∙ ap (λ (x : ℕ). bytes_of x ++ (bytes_of m ++ entry_bytes (kind_of number) list)) (number_back number (not-false (is_kind number) known))
             ∙ ap (λ (x : List ℕ). bytes_of number ++ (bytes_of m ++ x)) (sym back)
             ∙ ap (λ (x : List ℕ). bytes_of number ++ x) (sym middle) ∙ sym front,
-        subst (λ (s : Sheet). vector_refusal s.kind s.n s.entries ≡ Accepted) same accepted,
+        subst (λ (s : Sheet). vector_refusal s.kind s.n s.entries ≡ Ok tt) same accepted,
       )

@@ -10,10 +10,10 @@ use lib.Dec.{ltb}
 use lib.ListN.{length, take, set, replicate, length-append}
 use lib.Seq.{take-append_seam}
 use borrow.Author.Tests.{eq-eqb}
+use Rattle.std.specs.Prelude.{Ok}
 use Rattle.answer.specs.Outcome.{at, refuse, and_then}
-use Rattle.answer.specs.Refusals.{wrong_vector_length, bytes_left}
+use Rattle.answer.specs.declared.Reason.TheVariants.{WrongVectorLength, BytesLeft}
 use Rattle.answer.specs.declared.Refusal.{Refusal}
-use Rattle.answer.specs.declared.Verdict.TheVariants.{Accepted}
 use Rattle.answer.proofs.Outcomes.{refuse_passed}
 use Rattle.answer.proofs.Checks.{parts_passed}
 use Rattle.answer.proofs.FixedCells.{cells_more}
@@ -80,14 +80,14 @@ pub vector_counts : (kind : Kind) (n : ℕ) (entries : List ℤ) → 1 ≤ n →
 unfolding vector_refusal
 vector_counts kind n entries some few long =
     parts_passed 0 n _ some few
-    ∙ refuse_passed _ wrong_vector_length 0 _ (ap not (eq-eqb (length entries) (length_of kind n) long))
+    ∙ refuse_passed _ WrongVectorLength 0 _ (ap not (eq-eqb (length entries) (length_of kind n) long))
 
 -- 25, and then 13 and 14, are the first of two verdicts
 pub ended_first : (bytes : List ℕ) (kind : Kind) (n : ℕ) (entries : List ℤ) (end : ℕ) → ended bytes kind n entries end
-    ≡ unless (and_then (refuse (ltb end (length bytes)) bytes_left end Accepted) (counts_refusal kind n entries)) (found (sheet kind n entries) end)
+    ≡ unless (and_then (refuse (ltb end (length bytes)) BytesLeft end (Ok tt)) (counts_refusal kind n entries)) (found (sheet kind n entries) end)
 ended_first bytes kind n entries end = either (ltb end (length bytes))
   where
-    either : (t : Bool) → then (cond t (refused (at bytes_left end)) (found entries end)) (λ all last. unless (counts_refusal kind n all) (found (sheet kind n all) last))
-        ≡ unless (and_then (refuse t bytes_left end Accepted) (counts_refusal kind n entries)) (found (sheet kind n entries) end)
+    either : (t : Bool) → then (cond t (refused (at BytesLeft end)) (found entries end)) (λ all last. unless (counts_refusal kind n all) (found (sheet kind n all) last))
+        ≡ unless (and_then (refuse t BytesLeft end (Ok tt)) (counts_refusal kind n entries)) (found (sheet kind n entries) end)
     either true = refl
     either false = refl

@@ -3,7 +3,6 @@
 
 ghost use Rattle.std.specs.Prelude.{◌≡◌, ◌≤◌, ltb, length};
 ghost use Rattle.answer.specs.Outcome.{at, refuse, and_then};
-ghost use Rattle.answer.specs.Refusals.{bytes_left};
 ghost use Rattle.codec.specs.Fields.{top};
 ghost use Rattle.codec.specs.Reads.{refused};
 ghost use Rattle.vector.specs.InStruct.{entry_cells, entries_of};
@@ -12,8 +11,8 @@ ghost use Rattle.sheet.specs.Sheets.{decoded, sheet_of};
 ghost use Rattle.sheet_reading.specs.Answers.{sheet_read};
 ghost use Rattle.sheet_reading.specs.Inside.{ended, entered, kinded};
 
-use answer::Verdict;
-use codec::{Field, Reading};
+use answer::{Reason, Refusal};
+use codec::{Field, Standing};
 use vector::Vector;
 use vector_kind::Kind;
 
@@ -21,7 +20,7 @@ use vector_kind::Kind;
 #[derive(Drop)]
 pub struct SheetRead {
     pub vector: Vector,
-    pub verdict: Verdict,
+    pub verdict: Result<(), Refusal>,
 }
 
 // The vector of a sheet.
@@ -30,13 +29,13 @@ pub fn vector_of_sheet(bytes: &[u8]) -> SheetRead
 {
     let number = codec::read_number(bytes, 0, Field::Sheet);
     match number {
-        Reading::Refused(refusal) => refused_sheet(refusal.number, refusal.place),
-        Reading::Number { value, next } => {
+        Err(refusal) => refused_sheet(refusal.reason, refusal.place),
+        Ok(Standing { value, next }) => {
             if value < 1 {
-                return refused_sheet(answer::WRONG_KIND, 0);
+                return refused_sheet(Reason::WrongKind, 0);
             }
             if 4 < value {
-                return refused_sheet(answer::WRONG_KIND, 0);
+                return refused_sheet(Reason::WrongKind, 0);
             }
             read_parts(bytes, vector_kind::kind_of(value as u8), next)
         }
@@ -44,8 +43,8 @@ pub fn vector_of_sheet(bytes: &[u8]) -> SheetRead
 }
 
 // A refused sheet.
-fn refused_sheet(number: u8, place: usize) -> SheetRead
-    ensures { result ≡ sheet_read (refused (at number place)) }
+fn refused_sheet(reason: Reason, place: usize) -> SheetRead
+    ensures { result ≡ sheet_read (refused (at reason place)) }
 {
     SheetRead {
         vector: Vector {
@@ -54,7 +53,7 @@ fn refused_sheet(number: u8, place: usize) -> SheetRead
             length: 0,
             entries: [0i64; 17],
         },
-        verdict: answer::refused(number, place),
+        verdict: Err(reason.at(place)),
     }
 }
 
@@ -64,15 +63,15 @@ fn read_parts(bytes: &[u8], kind: Kind, start: usize) -> SheetRead
 {
     let number = codec::read_number(bytes, start, Field::Sheet);
     match number {
-        Reading::Refused(refusal) => refused_sheet(refusal.number, refusal.place),
-        Reading::Number { value, next } => {
+        Err(refusal) => refused_sheet(refusal.reason, refusal.place),
+        Ok(Standing { value, next }) => {
             if value < 1 {
-                return refused_sheet(answer::WRONG_PART_COUNT, 0);
+                return refused_sheet(Reason::WrongPartCount, 0);
             }
             if value <= 16 {
                 return read_entries(bytes, kind, value as usize, next);
             }
-            refused_sheet(answer::WRONG_PART_COUNT, 0)
+            refused_sheet(Reason::WrongPartCount, 0)
         }
     }
 }
@@ -90,8 +89,8 @@ fn read_entries(bytes: &[u8], kind: Kind, n: usize, start: usize) -> SheetRead
     while index < length {
         let number = codec::read_number(bytes, next, Field::Sheet);
         match number {
-            Reading::Refused(refusal) => return refused_sheet(refusal.number, refusal.place),
-            Reading::Number { value, next: after } => {
+            Err(refusal) => return refused_sheet(refusal.reason, refusal.place),
+            Ok(Standing { value, next: after }) => {
                 entries[index] = decode(kind, value);
                 next = after;
                 index += 1;
@@ -121,31 +120,31 @@ fn judged_sheet(bytes: &[u8], vector: Vector, end: usize) -> SheetRead
     let counted = vector_conversion::judge(kind, vector.n, &entries[..length]);
     let verdict = first_of(left, counted);
     match verdict {
-        Verdict::Refused(refusal) => refused_sheet(refusal.number, refusal.place),
-        Verdict::Accepted => SheetRead {
+        Err(refusal) => refused_sheet(refusal.reason, refusal.place),
+        Ok(()) => SheetRead {
             vector,
-            verdict: Verdict::Accepted,
+            verdict: Ok(()),
         },
     }
 }
 
 // 25 where bytes are left from a position on.
-fn bytes_left(bytes: &[u8], end: usize) -> Verdict
-    ensures { result ≡ refuse (ltb end (length bytes.now)) bytes_left end Verdict.Accepted }
+fn bytes_left(bytes: &[u8], end: usize) -> Result<(), Refusal>
+    ensures { result ≡ refuse (ltb end (length bytes.now)) Reason.BytesLeft end (Ok tt) }
 {
     if end < bytes.len() {
-        return answer::refused(answer::BYTES_LEFT, end);
+        return Err(Reason::BytesLeft.at(end));
     }
-    Verdict::Accepted
+    Ok(())
 }
 
 // The first of two refusals.
-fn first_of(first: Verdict, later: Verdict) -> Verdict
+fn first_of(first: Result<(), Refusal>, later: Result<(), Refusal>) -> Result<(), Refusal>
     ensures { result ≡ and_then first later }
 {
     match first {
-        Verdict::Refused(refusal) => Verdict::Refused(refusal),
-        Verdict::Accepted => later,
+        Err(refusal) => Err(refusal),
+        Ok(()) => later,
     }
 }
 

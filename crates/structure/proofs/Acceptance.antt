@@ -15,9 +15,9 @@ use lib.ListN.{length, get_or, drop}
 use lib.Pow.{ones_lt}
 use lib.Seq.{drop-cons}
 use borrow.Author.Tests.{eqb-true, eqb-false, eq-eqb, ne_eqb, leb-true, leb-false, le-leb, lt-leb, ltb-true, ltb-false, lt-ltb, le-ltb, not-false}
+use Rattle.std.specs.Prelude.{Ok}
 use Rattle.answer.specs.Outcome.{refuse}
-use Rattle.answer.specs.Refusals.{wrong_part_count, empty_list, long_list, unknown_part, empty_set, wrong_table_length, unused_bit, empty_set_works, full_set_fails, broken_set}
-use Rattle.answer.specs.declared.Verdict.TheVariants.{Accepted}
+use Rattle.answer.specs.declared.Reason.TheVariants.{WrongPartCount, EmptyList, LongList, UnknownPart, EmptySet, WrongTableLength, UnusedBit, EmptySetWorks, FullSetFails, BrokenSet}
 use Rattle.answer.proofs.Outcomes.{refuse_accepted, refuse_passed}
 use Rattle.theory_orders.specs.Antichains.{most_sets}
 use Rattle.theory_orders.proofs.Sperner.{minimal_sets_most}
@@ -44,7 +44,7 @@ parts_in_lem n h =
 in_parts : (n : ℕ) → 1 ≤ n → n ≤ 16 → not (leb 1 n && leb n 16) ≡ false
 in_parts n some few = ap not (and_both (le-leb 1 n some) (le-leb n 16 few))
 
-pub accepted_table : (n : ℕ) (table : List ℕ) → table_refusal n table ≡ Accepted → AcceptedTable n table
+pub accepted_table : (n : ℕ) (table : List ℕ) → table_refusal n table ≡ Ok tt → AcceptedTable n table
 unfolding table_refusal
 accepted_table n table h =
     let c1 = refuse_accepted _ _ _ _ h in
@@ -66,16 +66,16 @@ accepted_table n table h =
       };
     }
 
-pub table_accepted : (n : ℕ) (table : List ℕ) → AcceptedTable n table → table_refusal n table ≡ Accepted
+pub table_accepted : (n : ℕ) (table : List ℕ) → AcceptedTable n table → table_refusal n table ≡ Ok tt
 unfolding table_refusal
 table_accepted n table t =
     let sc = t.semicoherent in
-    refuse_passed _ wrong_part_count 0 _ (in_parts n t.some t.few)
-    ∙ refuse_passed _ wrong_table_length 0 _ (ap not (eq-eqb (length table) (table_length n) t.long))
-    ∙ refuse_passed _ unused_bit 0 _ t.clear
-    ∙ refuse_passed _ empty_set_works 0 _ sc.empty
-    ∙ refuse_passed _ full_set_fails 0 _ (ap not sc.full)
-    ∙ refuse_passed _ broken_set (least (broken n (in_table table)) (2 ^ n)) Accepted
+    refuse_passed _ WrongPartCount 0 _ (in_parts n t.some t.few)
+    ∙ refuse_passed _ WrongTableLength 0 _ (ap not (eq-eqb (length table) (table_length n) t.long))
+    ∙ refuse_passed _ UnusedBit 0 _ t.clear
+    ∙ refuse_passed _ EmptySetWorks 0 _ sc.empty
+    ∙ refuse_passed _ FullSetFails 0 _ (ap not sc.full)
+    ∙ refuse_passed _ BrokenSet (least (broken n (in_table table)) (2 ^ n)) (Ok tt)
     (by_parts_unbroken n (in_table table) (upward_by_parts n (in_table table) sc.upward))
 
 -- the unused bits are those of the first byte
@@ -99,7 +99,7 @@ table_beyond n table long clear a h = cases (below_or_above n 3)
         byte (inr high) = in_table_beyond table a (omega (arith, long, table_length_small n small))
 
 -- the table of a semicoherent structure is accepted
-pub table_of_accepted : (n : ℕ) (works : ℕ → Bool) → 1 ≤ n → n ≤ 16 → Semicoherent n works → table_refusal n (table_of n works) ≡ Accepted
+pub table_of_accepted : (n : ℕ) (works : ℕ → Bool) → 1 ≤ n → n ≤ 16 → Semicoherent n works → table_refusal n (table_of n works) ≡ Ok tt
 table_of_accepted n works some few sc =
     table_accepted n (table_of n works) (record {
       some = some;
@@ -122,15 +122,15 @@ pub record AcceptedList (n : ℕ) (list : List ℕ) : Type 0 where
   pub most : length list ≤ most_sets
   pub sets : (b : ℕ) → Memᴰ b list → (b < 2 ^ n) × (0 < b)
 
-entries_accepted : (n index : ℕ) (list : List ℕ) → entries_refusal n index list ≡ Accepted → (b : ℕ) → Memᴰ b list → (b < 2 ^ n) × (0 < b)
+entries_accepted : (n index : ℕ) (list : List ℕ) → entries_refusal n index list ≡ Ok tt → (b : ℕ) → Memᴰ b list → (b < 2 ^ n) × (0 < b)
 unfolding entries_refusal
 entries_accepted n index [] h b m = absurd (Memᴰ.not-nil m)
 entries_accepted n index (x ∷ xs) h b m = cases (Memᴰ.cases_cons m) (entries_accepted n (suc index) xs c5.1 b)
   where
-    c4 : (leb (2 ^ n) x ≡ false) × (refuse (eqb x 0) empty_set index (entries_refusal n (suc index) xs) ≡ Accepted)
+    c4 : (leb (2 ^ n) x ≡ false) × (refuse (eqb x 0) EmptySet index (entries_refusal n (suc index) xs) ≡ Ok tt)
     c4 = refuse_accepted _ _ _ _ h
 
-    c5 : (eqb x 0 ≡ false) × (entries_refusal n (suc index) xs ≡ Accepted)
+    c5 : (eqb x 0 ≡ false) × (entries_refusal n (suc index) xs ≡ Ok tt)
     c5 = refuse_accepted _ _ _ _ c4.1
 
     cases : (b ≡ x) ⊎ Memᴰ b xs → (Memᴰ b xs → (b < 2 ^ n) × (0 < b)) → (b < 2 ^ n) × (0 < b)
@@ -138,24 +138,24 @@ entries_accepted n index (x ∷ xs) h b m = cases (Memᴰ.cases_cons m) (entries
         subst (λ (y : ℕ). (y < 2 ^ n) × (0 < y)) (sym e) (leb-false (2 ^ n) x c4.0, pos_of_ne-zero (eqb-false x 0 c5.0))
     cases (inr later) rest = rest later
 
-accepted_entries : (n index : ℕ) (list : List ℕ) → ((b : ℕ) → Memᴰ b list → (b < 2 ^ n) × (0 < b)) → entries_refusal n index list ≡ Accepted
+accepted_entries : (n index : ℕ) (list : List ℕ) → ((b : ℕ) → Memᴰ b list → (b < 2 ^ n) × (0 < b)) → entries_refusal n index list ≡ Ok tt
 unfolding entries_refusal
 accepted_entries n index [] good = refl
 accepted_entries n index (x ∷ xs) good =
     let first = good x (Memᴰ.head refl) in
-    refuse_passed _ unknown_part index _ (lt-leb (2 ^ n) x first.0)
-    ∙ refuse_passed _ empty_set index _ (ne_eqb x 0 (λ e. lt_irrefl 0 (subst (λ (y : ℕ). 0 < y) e first.1)))
+    refuse_passed _ UnknownPart index _ (lt-leb (2 ^ n) x first.0)
+    ∙ refuse_passed _ EmptySet index _ (ne_eqb x 0 (λ e. lt_irrefl 0 (subst (λ (y : ℕ). 0 < y) e first.1)))
     ∙ accepted_entries n (suc index) xs (λ b m. good b (Memᴰ.tail m))
 
 -- the entries from an index on: this one's checks, and then the entries after it
 pub entries_from : (n i : ℕ) (list : List ℕ) → i < length list → entries_refusal n i (drop i list)
-    ≡ refuse (leb (2 ^ n) (get_or list i 0)) unknown_part i (refuse (eqb (get_or list i 0) 0) empty_set i (entries_refusal n (i + 1) (drop (i + 1) list)))
+    ≡ refuse (leb (2 ^ n) (get_or list i 0)) UnknownPart i (refuse (eqb (get_or list i 0) 0) EmptySet i (entries_refusal n (i + 1) (drop (i + 1) list)))
 unfolding entries_refusal
 entries_from n i list h =
     ap (entries_refusal n i) (drop-cons list i 0 h)
-    ∙ ap (λ (k : ℕ). refuse (leb (2 ^ n) (get_or list i 0)) unknown_part i (refuse (eqb (get_or list i 0) 0) empty_set i (entries_refusal n k (drop k list)))) (sym (add-one i))
+    ∙ ap (λ (k : ℕ). refuse (leb (2 ^ n) (get_or list i 0)) UnknownPart i (refuse (eqb (get_or list i 0) 0) EmptySet i (entries_refusal n k (drop k list)))) (sym (add-one i))
 
-pub accepted_list : (n : ℕ) (list : List ℕ) → list_refusal n list ≡ Accepted → AcceptedList n list
+pub accepted_list : (n : ℕ) (list : List ℕ) → list_refusal n list ≡ Ok tt → AcceptedList n list
 unfolding list_refusal
 accepted_list n list h =
     let c1 = refuse_accepted _ _ _ _ h in
@@ -170,12 +170,12 @@ accepted_list n list h =
       sets = entries_accepted n 0 list c3.1;
     }
 
-pub list_accepted : (n : ℕ) (list : List ℕ) → AcceptedList n list → list_refusal n list ≡ Accepted
+pub list_accepted : (n : ℕ) (list : List ℕ) → AcceptedList n list → list_refusal n list ≡ Ok tt
 unfolding list_refusal
 list_accepted n list l =
-    refuse_passed _ wrong_part_count 0 _ (in_parts n l.some l.few)
-    ∙ refuse_passed _ empty_list 0 _ (ne_eqb (length list) 0 (λ e. lt_irrefl 0 (subst (λ (k : ℕ). 0 < k) e l.any_set)))
-    ∙ refuse_passed _ long_list 0 _ (le-ltb most_sets (length list) l.most)
+    refuse_passed _ WrongPartCount 0 _ (in_parts n l.some l.few)
+    ∙ refuse_passed _ EmptyList 0 _ (ne_eqb (length list) 0 (λ e. lt_irrefl 0 (subst (λ (k : ℕ). 0 < k) e l.any_set)))
+    ∙ refuse_passed _ LongList 0 _ (le-ltb most_sets (length list) l.most)
     ∙ accepted_entries n 0 list l.sets
 
 -- ---- lists, tables and minimal sets
@@ -185,7 +185,7 @@ pub listed_coherent : (n : ℕ) (list : List ℕ) → AcceptedList n list → Se
 listed_coherent n list l = listed_semicoherent n list l.any_set l.sets
 
 -- an accepted list's table is accepted
-pub list_table : (n : ℕ) (list : List ℕ) → list_refusal n list ≡ Accepted → table_refusal n (table_of n (listed list)) ≡ Accepted
+pub list_table : (n : ℕ) (list : List ℕ) → list_refusal n list ≡ Ok tt → table_refusal n (table_of n (listed list)) ≡ Ok tt
 list_table n list h =
     let l = accepted_list n list h in
     table_of_accepted n (listed list) l.some l.few (listed_coherent n list l)
@@ -199,7 +199,7 @@ pub list_same : (n : ℕ) (xs ys : List ℕ) → Covers xs ys → Covers ys xs �
 list_same n xs ys there back = ap (table_of n) (fun_ext (listed_same xs ys there back))
 
 -- an accepted table of bytes is the table of every structure that has its path sets
-pub table_back : (n : ℕ) (table : List ℕ) (works : ℕ → Bool) → ((b : ℕ) → get_or table b 0 < 256) → table_refusal n table ≡ Accepted
+pub table_back : (n : ℕ) (table : List ℕ) (works : ℕ → Bool) → ((b : ℕ) → get_or table b 0 < 256) → table_refusal n table ≡ Ok tt
     → ((a : ℕ) → a < 2 ^ n → works a ≡ in_table table a) → table_of n works ≡ table
 unfolding table_of
 table_back n table works bytes h same =
@@ -215,7 +215,7 @@ table_back n table works bytes h same =
     bit a (inr above) = table_beyond n table t.long t.clear a above ∙ sym (rw (le-ltb a (2 ^ n) above))
 
 -- the minimal sets of an accepted table are an accepted list
-pub minimal_accepted : (n : ℕ) (table : List ℕ) → table_refusal n table ≡ Accepted → list_refusal n (minimal_sets n (in_table table)) ≡ Accepted
+pub minimal_accepted : (n : ℕ) (table : List ℕ) → table_refusal n table ≡ Ok tt → list_refusal n (minimal_sets n (in_table table)) ≡ Ok tt
 minimal_accepted n table h =
     list_accepted n (minimal_sets n (in_table table)) (record {
       some = t.some;
@@ -235,13 +235,13 @@ minimal_accepted n table h =
     least_set = minimal_below n (in_table table) (2 ^ n - 1) t.semicoherent.full
 
 -- and they give back the same table
-pub minimal_table : (n : ℕ) (table : List ℕ) → ((b : ℕ) → get_or table b 0 < 256) → table_refusal n table ≡ Accepted
+pub minimal_table : (n : ℕ) (table : List ℕ) → ((b : ℕ) → get_or table b 0 < 256) → table_refusal n table ≡ Ok tt
     → table_of n (listed (minimal_sets n (in_table table))) ≡ table
 minimal_table n table bytes h =
     table_back n table (listed (minimal_sets n (in_table table))) bytes h (minimal_listed n (in_table table) (accepted_table n table h).semicoherent)
 
 -- a rising list of sets none of which holds another is the minimal sets of its table
-pub list_minimal : (n : ℕ) (list : List ℕ) → list_refusal n list ≡ Accepted → Rising list
+pub list_minimal : (n : ℕ) (list : List ℕ) → list_refusal n list ≡ Ok tt → Rising list
     → ((a b : ℕ) → Memᴰ a list → Memᴰ b list → holds a b ≡ true → a ≡ b) → minimal_sets n (in_table (table_of n (listed list))) ≡ list
 list_minimal n list h rising apart =
     minimal_sets_same n (in_table (table_of n (listed list))) (listed list) (table_of_works n (listed list))

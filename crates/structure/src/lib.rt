@@ -9,36 +9,36 @@ ghost use Rattle.theory_sets.specs.Tables.{in_table, table_length};
 ghost use Rattle.structure_words.specs.Words.{bytes_in};
 ghost use Rattle.structure.specs.Checks.{list_refusal, entries_refusal, table_refusal, structure_refusal};
 
-use answer::{Verdict, Written};
+use answer::{Reason, Refusal};
 
 // The verdict on a list of sets.
-pub fn list_verdict(n: usize, list: &[u16]) -> Verdict
+pub fn list_verdict(n: usize, list: &[u16]) -> Result<(), Refusal>
     ensures { result ≡ list_refusal n list.now }
 {
     if !numbers::in_range(n, 16) {
-        return answer::refused(answer::WRONG_PART_COUNT, 0);
+        return Err(Reason::WrongPartCount.at(0));
     }
     if list.len() == 0 {
-        return answer::refused(answer::EMPTY_LIST, 0);
+        return Err(Reason::EmptyList.at(0));
     }
     if 12870 < list.len() {
-        return answer::refused(answer::LONG_LIST, 0);
+        return Err(Reason::LongList.at(0));
     }
     entries_verdict(n, list)
 }
 
 // The verdict on a table.
-pub fn table_verdict(n: usize, table: &[u8]) -> Verdict
+pub fn table_verdict(n: usize, table: &[u8]) -> Result<(), Refusal>
     ensures { result ≡ table_refusal n table.now }
 {
     if !numbers::in_range(n, 16) {
-        return answer::refused(answer::WRONG_PART_COUNT, 0);
+        return Err(Reason::WrongPartCount.at(0));
     }
     if table.len() != table_length(n) {
-        return answer::refused(answer::WRONG_TABLE_LENGTH, 0);
+        return Err(Reason::WrongTableLength.at(0));
     }
     if has_unused(n, table[0]) {
-        return answer::refused(answer::UNUSED_BIT, 0);
+        return Err(Reason::UnusedBit.at(0));
     }
     structure_verdict(n, table)
 }
@@ -58,52 +58,52 @@ pub fn table_length(n: usize) -> usize
 }
 
 // The table of n parts in words, into a lent buffer; a table of no bytes where no structure has so many parts.
-pub fn hand_out_table(n: usize, words: &[u64], table: &mut [u8]) -> Written
-    ensures { outcome result table.new ≡ delivered Verdict.Accepted (bytes_in (up_to_16 n (table_length n)) words.now) table.old }
+pub fn hand_out_table(n: usize, words: &[u64], table: &mut [u8]) -> Result<usize, Refusal>
+    ensures { outcome result table.new ≡ delivered (Ok tt) (bytes_in (up_to_16 n (table_length n)) words.now) table.old }
 {
     let needed = table_length(n);
     if table.len() < needed {
-        return answer::short(needed);
+        return Err(Reason::ShortBuffer.at(needed));
     }
     structure_words::store(words, &mut table[..needed]);
-    Written::Length(needed)
+    Ok(needed)
 }
 
 // The verdict on a table's bits.
-fn structure_verdict(n: usize, table: &[u8]) -> Verdict
+fn structure_verdict(n: usize, table: &[u8]) -> Result<(), Refusal>
     requires n_bound { n ≤ 16 }
     requires by_index { (a : ℕ) → 2 ^ n ≤ a → in_table table.now a ≡ false }
     ensures { result ≡ structure_refusal n (in_table table.now) }
 {
     let loaded = structure_words::load(table);
     if structure_words::works(&loaded, 0) {
-        return answer::refused(answer::EMPTY_SET_WORKS, 0);
+        return Err(Reason::EmptySetWorks.at(0));
     }
     if !structure_words::works(&loaded, numbers::power_of_two(n) - 1) {
-        return answer::refused(answer::FULL_SET_FAILS, 0);
+        return Err(Reason::FullSetFails.at(0));
     }
     let place = structure_closure::first_broken(&loaded, n);
     if place < 65536 {
-        return answer::refused(answer::BROKEN_SET, place);
+        return Err(Reason::BrokenSet.at(place));
     }
-    Verdict::Accepted
+    Ok(())
 }
 
 // The verdict on the entries of a list, one after the other.
-fn entries_verdict(n: usize, list: &[u16]) -> Verdict
+fn entries_verdict(n: usize, list: &[u16]) -> Result<(), Refusal>
     requires { n ≤ 16 }
     ensures { result ≡ entries_refusal n 0 list.now }
 {
     for i in 0..list.len() {
         let mask = list[i] as usize;
         if numbers::power_of_two(n) <= mask {
-            return answer::refused(answer::UNKNOWN_PART, i);
+            return Err(Reason::UnknownPart.at(i));
         }
         if mask == 0 {
-            return answer::refused(answer::EMPTY_SET, i);
+            return Err(Reason::EmptySet.at(i));
         }
     }
-    Verdict::Accepted
+    Ok(())
 }
 
 // Whether a table's first byte has a bit that is for no set of n parts.

@@ -6,7 +6,7 @@ use mathlib.Core.List.{List, Memᴰ}
 use Prim.Native.Nat.{ℕ, ◌+◌, ◌-◌, ◌^◌, ◌≤◌, ◌<◌}
 use lib.ListN.{get_or}
 use lib.Pow.{ones_lt}
-use Rattle.answer.specs.declared.Verdict.TheVariants.{Accepted}
+use Rattle.std.specs.Prelude.{Ok}
 use Rattle.numbers.specs.Counts.{choose}
 use Rattle.theory_sets.specs.Masks.{size, holds, Rising}
 use Rattle.theory_sets.specs.Structures.{Covers, Semicoherent, listed, minimal_sets}
@@ -33,7 +33,7 @@ pub cut_list_exactly : (n : ℕ) (cuts : List ℕ) (a : ℕ) → a < 2 ^ n → c
 cut_list_exactly n cuts a h = cut_same n (in_table (table_of n (by_cuts n cuts))) (by_cuts n cuts) (table_of_works n (by_cuts n cuts)) a ∙ cut_by_cuts n cuts a h
 
 -- an accepted list's table is accepted
-pub cut_list_table : (n : ℕ) (cuts : List ℕ) → list_refusal n cuts ≡ Accepted → table_refusal n (table_of n (by_cuts n cuts)) ≡ Accepted
+pub cut_list_table : (n : ℕ) (cuts : List ℕ) → list_refusal n cuts ≡ Ok tt → table_refusal n (table_of n (by_cuts n cuts)) ≡ Ok tt
 unfolding by_cuts cut
 cut_list_table n cuts h =
     let l = accepted_list n cuts h in
@@ -52,7 +52,7 @@ cut_list_dual n cuts =
     sym (dual_is_cut n (in_table (table_of n (listed cuts))) a h ∙ cut_same n (in_table (table_of n (listed cuts))) (listed cuts) (table_of_works n (listed cuts)) a))
 
 -- a rising list of sets none of which holds another is the minimal cut sets of its table
-pub cut_list_minimal : (n : ℕ) (cuts : List ℕ) → list_refusal n cuts ≡ Accepted → Rising cuts
+pub cut_list_minimal : (n : ℕ) (cuts : List ℕ) → list_refusal n cuts ≡ Ok tt → Rising cuts
     → ((a b : ℕ) → Memᴰ a cuts → Memᴰ b cuts → holds a b ≡ true → a ≡ b) → minimal_cuts n (in_table (table_of n (by_cuts n cuts))) ≡ cuts
 cut_list_minimal n cuts h rising apart =
     minimal_sets_same n (cut n (in_table (table_of n (by_cuts n cuts)))) (listed cuts) (cut_list_exactly n cuts)
@@ -91,7 +91,7 @@ module _ (n : ℕ) (table : List ℕ) where
 
 -- ---- an accepted table
 
-module _ (n : ℕ) (table : List ℕ) (accepted : table_refusal n table ≡ Accepted) where
+module _ (n : ℕ) (table : List ℕ) (accepted : table_refusal n table ≡ Ok tt) where
   coherent : Semicoherent n (in_table table)
   coherent = (accepted_table n table accepted).semicoherent
 
@@ -99,7 +99,7 @@ module _ (n : ℕ) (table : List ℕ) (accepted : table_refusal n table ≡ Acce
   dual_coherent = dual_semicoherent n (in_table table) coherent
 
   -- the dual is accepted
-  pub dual_accepted : table_refusal n (dual_table n table) ≡ Accepted
+  pub dual_accepted : table_refusal n (dual_table n table) ≡ Ok tt
   dual_accepted =
       let t = accepted_table n table accepted in
       table_of_accepted n (dual n (in_table table)) t.some t.few dual_coherent
@@ -112,7 +112,7 @@ module _ (n : ℕ) (table : List ℕ) (accepted : table_refusal n table ≡ Acce
       ∙ cut_twice n (in_table table) a h)
 
   -- the minimal cut sets are an accepted list
-  pub minimal_cuts_accepted : list_refusal n (minimal_cuts n (in_table table)) ≡ Accepted
+  pub minimal_cuts_accepted : list_refusal n (minimal_cuts n (in_table table)) ≡ Ok tt
   minimal_cuts_accepted = ap (list_refusal n) (sym (dual_minimal n table)) ∙ minimal_accepted n (dual_table n table) dual_accepted
 
   -- and give the same table back

@@ -10,16 +10,16 @@ ghost use Rattle.structure_words.specs.Words.{in_words, word_of, words_of};
 ghost use Rattle.structure.specs.Checks.{list_refusal, table_refusal};
 ghost use Rattle.structure_cuts.specs.Inside.{cuts_within, backwards};
 
-use answer::{Verdict, Written};
+use answer::Refusal;
 
 // The table of the machine that a list of cut sets gives, into a lent buffer.
-pub fn table_of_cuts(n: usize, cuts: &[u16], table: &mut [u8]) -> Written
+pub fn table_of_cuts(n: usize, cuts: &[u16], table: &mut [u8]) -> Result<usize, Refusal>
     ensures { outcome result table.new ≡ delivered (list_refusal n cuts.now) (table_of n (by_cuts n cuts.now)) table.old }
 {
     let checked = structure::list_verdict(n, cuts);
     match checked {
-        Verdict::Refused(refusal) => Written::Refused(refusal),
-        Verdict::Accepted => {
+        Err(refusal) => Err(refusal),
+        Ok(()) => {
             let listed = structure_words::marked(cuts);
             let stopping = structure_closure::spread(&listed, n);
             // The dual's dual is the machine: what the cut sets cut are its path sets.
@@ -30,13 +30,13 @@ pub fn table_of_cuts(n: usize, cuts: &[u16], table: &mut [u8]) -> Written
 }
 
 // The minimal cut sets of a table, ascending, into a lent buffer.
-pub fn minimal_cuts(n: usize, table: &[u8], cuts: &mut [u16]) -> Written
+pub fn minimal_cuts(n: usize, table: &[u8], cuts: &mut [u16]) -> Result<usize, Refusal>
     ensures { outcome result cuts.new ≡ delivered (table_refusal n table.now) (minimal_cuts n (in_table table.now)) cuts.old }
 {
     let checked = structure::table_verdict(n, table);
     match checked {
-        Verdict::Refused(refusal) => Written::Refused(refusal),
-        Verdict::Accepted => {
+        Err(refusal) => Err(refusal),
+        Ok(()) => {
             let loaded = structure_words::load(table);
             let stopping = cut_sets(&loaded, n);
             let minimal = structure_closure::irredundant(&stopping, n);
@@ -46,13 +46,13 @@ pub fn minimal_cuts(n: usize, table: &[u8], cuts: &mut [u16]) -> Written
 }
 
 // The table of the dual, whose path sets are the cut sets, into a lent buffer.
-pub fn dual(n: usize, table: &[u8], buffer: &mut [u8]) -> Written
+pub fn dual(n: usize, table: &[u8], buffer: &mut [u8]) -> Result<usize, Refusal>
     ensures { outcome result buffer.new ≡ delivered (table_refusal n table.now) (dual_table n table.now) buffer.old }
 {
     let checked = structure::table_verdict(n, table);
     match checked {
-        Verdict::Refused(refusal) => Written::Refused(refusal),
-        Verdict::Accepted => {
+        Err(refusal) => Err(refusal),
+        Ok(()) => {
             let loaded = structure_words::load(table);
             let stopping = cut_sets(&loaded, n);
             structure::hand_out_table(n, &stopping, buffer)

@@ -7,16 +7,16 @@ ghost use Rattle.theory_sets.specs.Structures.{listed, minimal_sets};
 ghost use Rattle.theory_sets.specs.Tables.{in_table, table_of};
 ghost use Rattle.structure.specs.Checks.{list_refusal, table_refusal};
 
-use answer::{Verdict, Written};
+use answer::Refusal;
 
 // The table of a list of sets, into a lent buffer.
-pub fn table_of_list(n: usize, list: &[u16], table: &mut [u8]) -> Written
+pub fn table_of_list(n: usize, list: &[u16], table: &mut [u8]) -> Result<usize, Refusal>
     ensures { outcome result table.new ≡ delivered (list_refusal n list.now) (table_of n (listed list.now)) table.old }
 {
     let checked = structure::list_verdict(n, list);
     match checked {
-        Verdict::Refused(refusal) => Written::Refused(refusal),
-        Verdict::Accepted => {
+        Err(refusal) => Err(refusal),
+        Ok(()) => {
             let listed = structure_words::marked(list);
             let reached = structure_closure::spread(&listed, n);
             structure::hand_out_table(n, &reached, table)
@@ -25,13 +25,13 @@ pub fn table_of_list(n: usize, list: &[u16], table: &mut [u8]) -> Written
 }
 
 // The minimal path sets of a table, ascending, into a lent buffer.
-pub fn minimal_sets(n: usize, table: &[u8], sets: &mut [u16]) -> Written
+pub fn minimal_sets(n: usize, table: &[u8], sets: &mut [u16]) -> Result<usize, Refusal>
     ensures { outcome result sets.new ≡ delivered (table_refusal n table.now) (minimal_sets n (in_table table.now)) sets.old }
 {
     let checked = structure::table_verdict(n, table);
     match checked {
-        Verdict::Refused(refusal) => Written::Refused(refusal),
-        Verdict::Accepted => {
+        Err(refusal) => Err(refusal),
+        Ok(()) => {
             let loaded = structure_words::load(table);
             let minimal = structure_closure::irredundant(&loaded, n);
             structure_words::list(&minimal, sets)

@@ -9,7 +9,7 @@ use native.Mathlib.Nat.{lt_of_lt_of_le, min-eq_left}
 use native.Mathlib.Omega.{arith}
 use lib.Dec.{eqb}
 use lib.IntN.{pos}
-use Rattle.answer.specs.declared.Verdict.TheVariants.{Accepted}
+use Rattle.std.specs.Prelude.{Ok}
 use Rattle.theory_sets.specs.Masks.{has}
 use Rattle.theory_sets.specs.Structures.{minimal_sets}
 use Rattle.theory_sets.specs.Tables.{packed, in_table}
@@ -36,7 +36,7 @@ words_idle n table accepted =
     idle_same 16 (in_words (words_of (in_table table))) (in_table table) (in_words_words_of (in_table table)) part (lt_of_lt_of_le l accepted.few)
     ∙ idle_beyond n 16 (in_table table) accepted.few (table_beyond n table accepted.long accepted.clear) part)
 
-module _ (n : ℕ) (table : List ℕ) (accepted : table_refusal n table ≡ Accepted) (i : ℕ) (some : 1 ≤ i) (most : i ≤ n) where
+module _ (n : ℕ) (table : List ℕ) (accepted : table_refusal n table ≡ Ok tt) (i : ℕ) (some : 1 ≤ i) (most : i ≤ n) where
   inside : i - 1 < n
   inside = omega arith
 

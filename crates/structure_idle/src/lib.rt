@@ -7,18 +7,18 @@ ghost use Rattle.theory_sets.specs.Tables.{in_table};
 ghost use Rattle.theory_sets.specs.Idle.{idle_parts};
 ghost use Rattle.structure.specs.Checks.{table_refusal};
 
-use answer::{Value, Verdict};
+use answer::Refusal;
 
 // The mask of the idle parts of a table.
-pub fn idle_parts(n: usize, table: &[u8]) -> Value
+pub fn idle_parts(n: usize, table: &[u8]) -> Result<usize, Refusal>
     ensures { result ≡ valued (table_refusal n table.now) (idle_parts n (in_table table.now)) }
 {
     let checked = structure::table_verdict(n, table);
     match checked {
-        Verdict::Refused(refusal) => Value::Refused(refusal),
-        Verdict::Accepted => {
+        Err(refusal) => Err(refusal),
+        Ok(()) => {
             let loaded = structure_words::load(table);
-            Value::Given(structure_closure::idle_parts(&loaded, n))
+            Ok(structure_closure::idle_parts(&loaded, n))
         }
     }
 }

@@ -8,8 +8,8 @@ use lib.Dec.{eqb, leb}
 use lib.IntN.{pos}
 use lib.Pow.{ones_lt}
 use borrow.Author.Tests.{leb-true, not-false}
-use Rattle.answer.specs.Refusals.{wrong_threshold}
-use Rattle.answer.specs.declared.Verdict.TheVariants.{Accepted}
+use Rattle.std.specs.Prelude.{Ok}
+use Rattle.answer.specs.declared.Reason.TheVariants.{WrongThreshold}
 use Rattle.answer.proofs.Checks.{parts_right}
 use Rattle.answer.proofs.Outcomes.{refuse_accepted}
 use Rattle.numbers.specs.Counts.{factorial}
@@ -41,11 +41,11 @@ pub record AcceptedPattern (n k : ℕ) : Type 0 where
   pub some : 1 ≤ k
   pub most : k ≤ n
 
-pub accepted_pattern : (n k : ℕ) → pattern_refusal n k ≡ Accepted → AcceptedPattern n k
+pub accepted_pattern : (n k : ℕ) → pattern_refusal n k ≡ Ok tt → AcceptedPattern n k
 unfolding pattern_refusal
 accepted_pattern n k h =
     let parts = parts_right 0 n _ h in
-    let passed = refuse_accepted (not (leb 1 k && leb k n)) wrong_threshold 0 Accepted parts.2 in
+    let passed = refuse_accepted (not (leb 1 k && leb k n)) WrongThreshold 0 (Ok tt) parts.2 in
     let both = not-false (leb 1 k && leb k n) passed.0 in
     record {
       few = parts.1;
@@ -55,7 +55,7 @@ accepted_pattern n k h =
 
 -- ---- one proof for all patterns
 
-module _ (pattern : Pattern) (n k : ℕ) (accepted : pattern_refusal n k ≡ Accepted) where
+module _ (pattern : Pattern) (n k : ℕ) (accepted : pattern_refusal n k ≡ Ok tt) where
   -- each pattern is stopped exactly by its family of sets, none of them empty and at least one of them there
   pub pattern_stopped : StoppedBy n (family_of pattern n k) (patterned pattern n k)
   pattern_stopped = cases pattern
@@ -73,14 +73,14 @@ module _ (pattern : Pattern) (n k : ℕ) (accepted : pattern_refusal n k ≡ Acc
   pattern_semicoherent = stopped_semicoherent n (family_of pattern n k) (patterned pattern n k) pattern_stopped
 
   -- and its table is accepted
-  pub pattern_accepted : table_refusal n (table_of n (patterned pattern n k)) ≡ Accepted
+  pub pattern_accepted : table_refusal n (table_of n (patterned pattern n k)) ≡ Ok tt
   pattern_accepted =
       let p = accepted_pattern n k accepted in
       table_of_accepted n (patterned pattern n k) (omega (arith, p.some, p.most)) p.few pattern_semicoherent
 
 -- ---- at least k of n
 
-module _ (n k : ℕ) (accepted : pattern_refusal n k ≡ Accepted) where
+module _ (n k : ℕ) (accepted : pattern_refusal n k ≡ Ok tt) where
   same : (a : ℕ) → a < 2 ^ n → at_least k a ≡ in_table (table_of n (patterned AtLeast n k)) a
   same a h = sym (table_of_works n (at_least k) a h)
 

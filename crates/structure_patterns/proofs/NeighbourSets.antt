@@ -10,7 +10,7 @@ use native.Mathlib.Omega.{arith}
 use lib.Bits.{or_lt}
 use lib.Dec.{eqb}
 use lib.Pow.{pow-lt, pow_pos}
-use Rattle.answer.specs.declared.Verdict.TheVariants.{Accepted}
+use Rattle.std.specs.Prelude.{Ok}
 use Rattle.numbers.proofs.Tables.{tabulate_length, tabulate_same}
 use Rattle.theory_sets.specs.Masks.{has, any, join}
 use Rattle.theory_sets.specs.Tables.{table_of}
@@ -59,7 +59,7 @@ row_first n k =
 
 module _ (n k : ℕ) (some : 1 ≤ k) (most : k ≤ n) where
   -- as a list of cut sets they are accepted
-  pub neighbours_accepted : (count : ℕ) → n ≤ 16 → 1 ≤ count → count ≤ n → list_refusal n (first_neighbours n k count) ≡ Accepted
+  pub neighbours_accepted : (count : ℕ) → n ≤ 16 → 1 ≤ count → count ≤ n → list_refusal n (first_neighbours n k count) ≡ Ok tt
   neighbours_accepted count few any_set short =
       let stopped = numbered_stopped n k count (λ i j. (i + j) % n) some any_set (λ i j l m. mod-lt (i + j) (omega arith)) in
       list_accepted n (first_neighbours n k count) (record {

@@ -10,7 +10,7 @@ ghost use Rattle.structure_words.specs.Words.{word_of, words_of};
 ghost use Rattle.structure_patterns.specs.Patterns.{patterned, pattern_refusal};
 ghost use Rattle.structure_patterns.specs.Inside.{neighbours_from, first_neighbours, six_with};
 
-use answer::{Verdict, Written};
+use answer::{Reason, Refusal};
 
 // The shapes: at least k of n parts work; or the machine is stopped exactly by k failed neighbours in a row; or in a ring, in which the last
 // part and the first are neighbours.
@@ -22,13 +22,13 @@ pub enum Pattern {
 }
 
 // The table of a pattern, into a lent buffer.
-pub fn table_of_pattern(pattern: Pattern, n: usize, k: usize, table: &mut [u8]) -> Written
+pub fn table_of_pattern(pattern: Pattern, n: usize, k: usize, table: &mut [u8]) -> Result<usize, Refusal>
     ensures { outcome result table.new ≡ delivered (pattern_refusal n k) (table_of n (patterned pattern n k)) table.old }
 {
     let checked = pattern_verdict(n, k);
     match checked {
-        Verdict::Refused(refusal) => Written::Refused(refusal),
-        Verdict::Accepted => match pattern {
+        Err(refusal) => Err(refusal),
+        Ok(()) => match pattern {
             Pattern::AtLeast => {
                 let running = at_least(n, k);
                 structure::hand_out_table(n, &running, table)
@@ -40,26 +40,26 @@ pub fn table_of_pattern(pattern: Pattern, n: usize, k: usize, table: &mut [u8]) 
 }
 
 // The verdict on the number of parts and the threshold k.
-fn pattern_verdict(n: usize, k: usize) -> Verdict
+fn pattern_verdict(n: usize, k: usize) -> Result<(), Refusal>
     ensures { result ≡ pattern_refusal n k }
 {
     if !numbers::in_range(n, 16) {
-        return answer::refused(answer::WRONG_PART_COUNT, 0);
+        return Err(Reason::WrongPartCount.at(0));
     }
     if !numbers::in_range(k, n) {
-        return answer::refused(answer::WRONG_THRESHOLD, 0);
+        return Err(Reason::WrongThreshold.at(0));
     }
-    Verdict::Accepted
+    Ok(())
 }
 
 // The table of the machine that is stopped exactly by k neighbours from one of the first `count` bits on, into a lent buffer.
-fn stopped_by_neighbours(n: usize, k: usize, count: usize, table: &mut [u8]) -> Written
+fn stopped_by_neighbours(n: usize, k: usize, count: usize, table: &mut [u8]) -> Result<usize, Refusal>
     requires n_bound { n ≤ 16 }
     requires le_k { 1 ≤ k }
     requires k_le_n { k ≤ n }
     requires le_count { 1 ≤ count }
     requires count_le_n { count ≤ n }
-    ensures { outcome result table.new ≡ delivered Verdict.Accepted (table_of n (by_cuts n (first_neighbours n k count))) table.old }
+    ensures { outcome result table.new ≡ delivered (Ok tt) (table_of n (by_cuts n (first_neighbours n k count))) table.old }
 {
     let sets = neighbours(n, k);
     structure_cuts::table_of_cuts(n, &sets[..count], table)

@@ -8,7 +8,7 @@ ghost use Rattle.theory_sets.specs.Masks.{has, those, least};
 ghost use Rattle.theory_sets.specs.Tables.{packed, in_table};
 ghost use Rattle.structure_words.specs.Words.{in_words, word_of, words_of, lacks, bytes_in, among};
 
-use answer::{Verdict, Written};
+use answer::{Reason, Refusal};
 
 // The set function of a table.
 #[tactic(auto, using(numbers::proofs::Tables::filling))]
@@ -55,12 +55,12 @@ pub fn count(words: &[u64]) -> usize
 }
 
 // The sets that work, rising, into a lent buffer that is long enough for all of them.
-pub fn list(words: &[u64], sets: &mut [u16]) -> Written
-    ensures { outcome result sets.new ≡ delivered Verdict.Accepted (those (in_words words.now) 65536) sets.old }
+pub fn list(words: &[u64], sets: &mut [u16]) -> Result<usize, Refusal>
+    ensures { outcome result sets.new ≡ delivered (Ok tt) (those (in_words words.now) 65536) sets.old }
 {
     let needed = count(words);
     if sets.len() < needed {
-        return answer::short(needed);
+        return Err(Reason::ShortBuffer.at(needed));
     }
     let mut at = 0;
     let mut mask = 0;
@@ -80,7 +80,7 @@ pub fn list(words: &[u64], sets: &mut [u16]) -> Written
             rest = rest >> gap >> 1;
         }
     }
-    Written::Length(next)
+    Ok(next)
 }
 
 // The table's bytes, as many as the table has.

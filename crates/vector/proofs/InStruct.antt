@@ -12,10 +12,9 @@ use lib.IntN.{ℤ, pos}
 use lib.ListN.{length, take, drop, replicate}
 use lib.Seq.{length-take-le}
 use borrow.Author.Tests.{ltb-true, ltb-false, le-ltb, leb-true, eqb-true, ne_eqb, not-false}
-use Rattle.answer.specs.Outcome.{refuse}
-use Rattle.answer.specs.Refusals.{wrong_part_count, wrong_vector_length}
-use Rattle.answer.specs.declared.Verdict.{Verdict}
-use Rattle.answer.specs.declared.Verdict.TheVariants.{Accepted}
+use Rattle.std.specs.Prelude.{Ok}
+use Rattle.answer.specs.Outcome.{refuse, Verdict}
+use Rattle.answer.specs.declared.Reason.TheVariants.{WrongPartCount, WrongVectorLength}
 use Rattle.answer.proofs.Outcomes.{refuse_accepted}
 use Rattle.numbers.proofs.Tables.{tabulate_length}
 use Rattle.numbers.proofs.Bools.{and_left, and_right, true_or_false}
@@ -37,20 +36,20 @@ lengths Domination n some few = (omega arith, omega arith)
 
 -- 12 where the length is wrong for every number of parts
 too_long : (kind : Kind) (n count : ℕ) (p q : Verdict) → most_entries < count
-    → refuse (not (leb 1 n && leb n 16)) wrong_part_count 0 (refuse (not (eqb 0 (length_of kind n))) wrong_vector_length 0 p)
-    ≡ refuse (not (leb 1 n && leb n 16)) wrong_part_count 0 (refuse (not (eqb count (length_of kind n))) wrong_vector_length 0 q)
+    → refuse (not (leb 1 n && leb n 16)) WrongPartCount 0 (refuse (not (eqb 0 (length_of kind n))) WrongVectorLength 0 p)
+    ≡ refuse (not (leb 1 n && leb n 16)) WrongPartCount 0 (refuse (not (eqb count (length_of kind n))) WrongVectorLength 0 q)
 too_long kind n count p q long = cases (true_or_false (leb 1 n && leb n 16))
   where
     cases : (leb 1 n && leb n 16 ≡ true) ⊎ (leb 1 n && leb n 16 ≡ false)
-        → refuse (not (leb 1 n && leb n 16)) wrong_part_count 0 (refuse (not (eqb 0 (length_of kind n))) wrong_vector_length 0 p)
-        ≡ refuse (not (leb 1 n && leb n 16)) wrong_part_count 0 (refuse (not (eqb count (length_of kind n))) wrong_vector_length 0 q)
+        → refuse (not (leb 1 n && leb n 16)) WrongPartCount 0 (refuse (not (eqb 0 (length_of kind n))) WrongVectorLength 0 p)
+        ≡ refuse (not (leb 1 n && leb n 16)) WrongPartCount 0 (refuse (not (eqb count (length_of kind n))) WrongVectorLength 0 q)
     cases (inl e) =
         let range = lengths kind n (leb-true 1 n (and_left (leb 1 n) (leb n 16) e)) (leb-true n 16 (and_right (leb 1 n) (leb n 16) e)) in
-        ap (λ (t : Bool). refuse (not (leb 1 n && leb n 16)) wrong_part_count 0 (refuse (not t) wrong_vector_length 0 p)) (ne_eqb 0 (length_of kind n) (λ same. omega (arith, range)))
-        ∙ sym (ap (λ (t : Bool). refuse (not (leb 1 n && leb n 16)) wrong_part_count 0 (refuse (not t) wrong_vector_length 0 q)) (ne_eqb count (length_of kind n) (λ same. omega (arith, range))))
+        ap (λ (t : Bool). refuse (not (leb 1 n && leb n 16)) WrongPartCount 0 (refuse (not t) WrongVectorLength 0 p)) (ne_eqb 0 (length_of kind n) (λ same. omega (arith, range)))
+        ∙ sym (ap (λ (t : Bool). refuse (not (leb 1 n && leb n 16)) WrongPartCount 0 (refuse (not t) WrongVectorLength 0 q)) (ne_eqb count (length_of kind n) (λ same. omega (arith, range))))
     cases (inr e) =
-        ap (λ (t : Bool). refuse (not t) wrong_part_count 0 (refuse (not (eqb 0 (length_of kind n))) wrong_vector_length 0 p)) e
-        ∙ sym (ap (λ (t : Bool). refuse (not t) wrong_part_count 0 (refuse (not (eqb count (length_of kind n))) wrong_vector_length 0 q)) e)
+        ap (λ (t : Bool). refuse (not t) WrongPartCount 0 (refuse (not (eqb 0 (length_of kind n))) WrongVectorLength 0 p)) e
+        ∙ sym (ap (λ (t : Bool). refuse (not t) WrongPartCount 0 (refuse (not (eqb count (length_of kind n))) WrongVectorLength 0 q)) e)
 
 -- the verdict on the cells that are looked at
 pub lent_judged : (vector : Vector) → length vector.entries ≡ most_entries
@@ -65,8 +64,8 @@ lent_judged vector all = cases (true_or_false (ltb most_entries vector.length))
         ∙ too_long vector.kind vector.n vector.length _ _ (ltb-true most_entries vector.length e)
     cases (inr e) =
         ap (λ (t : Bool). vector_refusal vector.kind vector.n (take (cond t 0 vector.length) vector.entries)) e
-        ∙ ap (λ (k : ℕ). refuse (not (leb 1 vector.n && leb vector.n 16)) wrong_part_count 0
-        (refuse (not (eqb k (length_of vector.kind vector.n))) wrong_vector_length 0 (counts_refusal vector.kind vector.n (entries_of vector))))
+        ∙ ap (λ (k : ℕ). refuse (not (leb 1 vector.n && leb vector.n 16)) WrongPartCount 0
+        (refuse (not (eqb k (length_of vector.kind vector.n))) WrongVectorLength 0 (counts_refusal vector.kind vector.n (entries_of vector))))
         (length-take-le vector.length vector.entries (omega (arith, ltb-false most_entries vector.length e)))
 
 -- the cells that are looked at are no more than there are
@@ -78,7 +77,7 @@ lent_few count = cases (true_or_false (ltb most_entries count))
     cases (inr e) = rw e (omega (arith, ltb-false most_entries count e))
 
 -- an accepted vector has no more entries than cells, so all of them are looked at
-pub accepted_few : (vector : Vector) → struct_refusal vector ≡ Accepted → vector.length ≤ most_entries
+pub accepted_few : (vector : Vector) → struct_refusal vector ≡ Ok tt → vector.length ≤ most_entries
 unfolding struct_refusal
 accepted_few vector accepted =
     let c1 = refuse_accepted _ _ _ _ accepted in
@@ -88,11 +87,11 @@ accepted_few vector accepted =
     let long : vector.length ≡ length_of vector.kind n = eqb-true vector.length (length_of vector.kind n) (not-false (eqb vector.length (length_of vector.kind n)) c12.0) in
     omega (arith, lengths vector.kind n (leb-true 1 n (and_left (leb 1 n) (leb n 16) parts)) (leb-true n 16 (and_right (leb 1 n) (leb n 16) parts)))
 
-pub lent_all : (vector : Vector) → struct_refusal vector ≡ Accepted → lent_cells vector.length ≡ vector.length
+pub lent_all : (vector : Vector) → struct_refusal vector ≡ Ok tt → lent_cells vector.length ≡ vector.length
 lent_all vector accepted = ap (λ (t : Bool). cond t 0 vector.length) (le-ltb most_entries vector.length (accepted_few vector accepted))
 
 -- and its entries are an accepted vector
-pub held_same : (vector : Vector) → length vector.entries ≡ most_entries → struct_refusal vector ≡ Accepted
+pub held_same : (vector : Vector) → length vector.entries ≡ most_entries → struct_refusal vector ≡ Ok tt
     → vector_refusal vector.kind vector.n (entries_of vector) ≡ struct_refusal vector
 held_same vector all accepted =
     ap (λ (k : ℕ). vector_refusal vector.kind vector.n (take k vector.entries)) (sym (lent_all vector accepted)) ∙ lent_judged vector all
@@ -109,7 +108,7 @@ pub zeros_behind : (result : List ℤ) → result ++ drop (length result) (repli
 zeros_behind result = ap (λ (l : List ℤ). result ++ l) (drop_zeros most_entries (length result))
 
 -- a converted vector has its place in the cells
-pub converted_fits : (target kind : Kind) (n : ℕ) (entries : List ℤ) → vector_refusal kind n entries ≡ Accepted → length (converted target kind n entries) ≤ most_entries
+pub converted_fits : (target kind : Kind) (n : ℕ) (entries : List ℤ) → vector_refusal kind n entries ≡ Ok tt → length (converted target kind n entries) ≤ most_entries
 converted_fits target kind n entries accepted =
     let a = accepted_vector kind n entries accepted in
     omega (arith, tabulate_length (length_of target n) (figure target n (counts_of kind n entries)), lengths target n a.some a.few)

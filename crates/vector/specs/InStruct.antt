@@ -1,9 +1,7 @@
 -- A vector in a struct: its kind beside its array of signed entries (01, "Vector sheets" and "Which places take which form").
-use Rattle.std.specs.Prelude.{not, List, [], ◌++◌, ℕ, ◌-◌, eqb, ℤ, pos, length, take, replicate}
-use Rattle.answer.specs.Outcome.{refuse}
-use Rattle.answer.specs.Refusals.{wrong_vector_length}
-use Rattle.answer.specs.declared.Verdict.{Verdict}
-use Rattle.answer.specs.declared.Verdict.TheVariants.{Accepted, Refused}
+use Rattle.std.specs.Prelude.{not, List, [], ◌++◌, ℕ, ◌-◌, eqb, ℤ, pos, length, take, replicate, Ok, Err}
+use Rattle.answer.specs.Outcome.{refuse, Verdict}
+use Rattle.answer.specs.declared.Reason.TheVariants.{WrongVectorLength}
 use Rattle.answer.specs.Checks.{part_count_refusal}
 use Rattle.vector_kind.specs.Kinds.{length_of}
 use Rattle.vector_conversion.specs.Vectors.{counts_refusal, converted}
@@ -36,13 +34,13 @@ entries_of vector = take vector.length vector.entries
 unfoldable pub struct_refusal : Vector → Verdict
 struct_refusal vector =
     part_count_refusal 0 vector.n
-    (refuse (not (eqb vector.length (length_of vector.kind vector.n))) wrong_vector_length 0
+    (refuse (not (eqb vector.length (length_of vector.kind vector.n))) WrongVectorLength 0
     (counts_refusal vector.kind vector.n (entries_of vector)))
 
 -- a vector, or why there is none
 abbrev pub given : Verdict → Vector → Converted
-given (Refused r) vector = record { vector = no_vector; verdict = Refused r }
-given Accepted vector = record { vector = vector; verdict = Accepted }
+given (Err r) vector = record { vector = no_vector; verdict = Err r }
+given (Ok _) vector = record { vector = vector; verdict = (Ok tt) }
 
 -- the vector as one of another kind
 abbrev pub struct_converted : Vector → Kind → Converted

@@ -8,7 +8,7 @@ ghost use Rattle.vector_conversion.specs.Vectors.{vector_refusal, converted};
 ghost use Rattle.vector.specs.InStruct.{struct_refusal, struct_converted};
 ghost use Rattle.vector.specs.Inside.{lent_cells};
 
-use answer::{Verdict, Written};
+use answer::{Reason, Refusal};
 use vector_kind::Kind;
 
 // A vector of a machine of n parts: its entries are the first `length` cells. In every vector that the library makes the spare cells behind
@@ -25,12 +25,12 @@ pub struct Vector {
 #[derive(Clone, Copy)]
 pub struct Converted {
     pub vector: Vector,
-    pub verdict: Verdict,
+    pub verdict: Result<(), Refusal>,
 }
 
 impl Vector {
     // Whether the vector is accepted.
-    pub fn judge(self) -> Verdict
+    pub fn judge(self) -> Result<(), Refusal>
         ensures { result ≡ struct_refusal self }
     {
         let kind = self.kind;
@@ -55,36 +55,36 @@ impl Vector {
             &mut cells,
         );
         match written {
-            Written::Refused(refusal) => Converted {
+            Err(refusal) => Converted {
                 vector: Vector {
                     kind: Kind::PathCounts,
                     n: 0,
                     length: 0,
                     entries: [0i64; 17],
                 },
-                verdict: Verdict::Refused(refusal),
+                verdict: Err(refusal),
             },
-            Written::Length(length) => Converted {
+            Ok(length) => Converted {
                 vector: Vector {
                     kind: target,
                     n: self.n,
                     length,
                     entries: cells,
                 },
-                verdict: Verdict::Accepted,
+                verdict: Ok(()),
             },
         }
     }
 }
 
 // Whether a vector whose kind comes as a number is accepted.
-pub fn judge_numbered(kind: u8, n: usize, entries: &[i64]) -> Verdict
+pub fn judge_numbered(kind: u8, n: usize, entries: &[i64]) -> Result<(), Refusal>
     ensures { result ≡ kind_refusal kind (vector_refusal (kind_of kind) n entries.now) }
 {
     if vector_kind::is_kind(kind) {
         return vector_conversion::judge(vector_kind::kind_of(kind), n, entries);
     }
-    answer::refused(answer::WRONG_KIND, 0)
+    Err(Reason::WrongKind.at(0))
 }
 
 // A vector as one of another kind, into a lent buffer, where both kinds come as numbers.
@@ -94,7 +94,7 @@ pub fn convert_numbered(
     entries: &[i64],
     target: u8,
     cells: &mut [i64],
-) -> Written
+) -> Result<usize, Refusal>
     ensures { outcome result cells.new ≡ delivered (kind_refusal kind (kind_refusal target (vector_refusal (kind_of kind) n entries.now))) (converted (kind_of target) (kind_of kind) n entries.now) cells.old }
 {
     if vector_kind::is_kind(kind) {
@@ -107,9 +107,9 @@ pub fn convert_numbered(
                 cells,
             );
         }
-        return answer::unwritten(answer::WRONG_KIND, 0);
+        return Err(Reason::WrongKind.at(0));
     }
-    answer::unwritten(answer::WRONG_KIND, 0)
+    Err(Reason::WrongKind.at(0))
 }
 
 // How many cells of a vector are looked at: as many as it has entries, and none where it claims more than there are cells, since that length is

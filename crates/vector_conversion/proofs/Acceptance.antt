@@ -10,8 +10,8 @@ use lib.IntN.{ℤ, pos, negsuc, nat_abs}
 use lib.ListN.{length}
 use lib.Signed.{lt_z}
 use borrow.Author.Tests.{eqb-true, eq-eqb, leb-true, le-leb, ltb-false, le-ltb, not-false}
-use Rattle.answer.specs.Refusals.{wrong_part_count, wrong_vector_length, wrong_path_count, falling_proportion}
-use Rattle.answer.specs.declared.Verdict.TheVariants.{Accepted}
+use Rattle.std.specs.Prelude.{Ok}
+use Rattle.answer.specs.declared.Reason.TheVariants.{WrongPartCount, WrongVectorLength, WrongPathCount, FallingProportion}
 use Rattle.answer.proofs.Outcomes.{refuse_accepted, refuse_passed}
 use Rattle.numbers.specs.Counts.{choose}
 use Rattle.theory_sets.specs.Masks.{least}
@@ -107,7 +107,7 @@ module _ (kind : Kind) (n : ℕ) (entries : List ℤ) where
         rises = λ j h. ltb-false (counts_of kind n entries (suc j) * choose n j) (counts_of kind n entries j * choose n (suc j)) (rise j h);
       }
 
-  pub accepted_vector : vector_refusal kind n entries ≡ Accepted → AcceptedVector kind n entries
+  pub accepted_vector : vector_refusal kind n entries ≡ Ok tt → AcceptedVector kind n entries
   unfolding vector_refusal counts_refusal path_counts_refusal
   accepted_vector h =
       let c1 = refuse_accepted _ _ _ _ h in
@@ -125,14 +125,14 @@ module _ (kind : Kind) (n : ℕ) (entries : List ℤ) where
         counts = accepted_counts right (λ j l. any_none (falls n (counts_of kind n entries)) n j c14.0 l);
       }
 
-  pub vector_accepted : AcceptedVector kind n entries → vector_refusal kind n entries ≡ Accepted
+  pub vector_accepted : AcceptedVector kind n entries → vector_refusal kind n entries ≡ Ok tt
   unfolding vector_refusal counts_refusal path_counts_refusal falls
   vector_accepted a =
-      refuse_passed _ wrong_part_count 0 _ (ap not (and_both (le-leb 1 n a.some) (le-leb n 16 a.few)))
-      ∙ refuse_passed _ wrong_vector_length 0 _ (ap not (eq-eqb (length entries) (length_of kind n) a.long))
-      ∙ refuse_passed _ wrong_path_count (least (wrong_count n (stands_for kind n entries)) (suc n)) _
+      refuse_passed _ WrongPartCount 0 _ (ap not (and_both (le-leb 1 n a.some) (le-leb n 16 a.few)))
+      ∙ refuse_passed _ WrongVectorLength 0 _ (ap not (eq-eqb (length entries) (length_of kind n) a.long))
+      ∙ refuse_passed _ WrongPathCount (least (wrong_count n (stands_for kind n entries)) (suc n)) _
       (any_false (wrong_count n (stands_for kind n entries)) (suc n) (λ j h w. clash w (right j (le_of_suc-le-suc h))))
-      ∙ refuse_passed _ falling_proportion (least (falls n (counts_of kind n entries)) n) Accepted
+      ∙ refuse_passed _ FallingProportion (least (falls n (counts_of kind n entries)) n) (Ok tt)
       (any_false (falls n (counts_of kind n entries)) n (λ j h w. clash w (le-ltb _ _ (a.counts.rises j h))))
     where
       right : (j : ℕ) → j ≤ n → wrong_count n (stands_for kind n entries) j ≡ false

@@ -8,7 +8,7 @@ use native.Mathlib.Nat.{le_trans, le_of_eq, mul_assoc, mul-pos, mul-div_cancel, 
 use native.Mathlib.Numerals.{add-one}
 use native.Mathlib.Omega.{arith}
 use lib.IntN.{ℤ, pos, nat_abs, ◌-ℤ◌, ◌*ℤ◌, pos-+ℤ-pos, +ℤ-neg_ℤ_cancel}
-use Rattle.answer.specs.declared.Verdict.TheVariants.{Accepted}
+use Rattle.std.specs.Prelude.{Ok}
 use Rattle.numbers.specs.Counts.{factorial, choose}
 use Rattle.numbers.proofs.Counts.{factor_le, choose_pos, choose_mirror}
 use Rattle.numbers.proofs.Tables.{tabulate_length, tabulate_at, tabulate_unique}
@@ -67,7 +67,7 @@ module _ (n : ℕ) (some : 1 ≤ n) (few : n ≤ 16) (φ : ℕ → ℕ) (a : Acc
 
 -- ---- an accepted vector
 
-module _ (kind : Kind) (n : ℕ) (entries : List ℤ) (accepted : vector_refusal kind n entries ≡ Accepted) where
+module _ (kind : Kind) (n : ℕ) (entries : List ℤ) (accepted : vector_refusal kind n entries ≡ Ok tt) where
   -- as its own kind it is itself
   pub conversion_same : converted kind kind n entries ≡ entries
   conversion_same =
@@ -75,7 +75,7 @@ module _ (kind : Kind) (n : ℕ) (entries : List ℤ) (accepted : vector_refusal
       vector_scaled n (counts_of kind n entries) entries kind a.long a.whole
 
   -- what it converts to is accepted
-  pub conversion_accepted : (target : Kind) → vector_refusal target n (converted target kind n entries) ≡ Accepted
+  pub conversion_accepted : (target : Kind) → vector_refusal target n (converted target kind n entries) ≡ Ok tt
   conversion_accepted target =
       let a = accepted_vector kind n entries accepted in
       vector_accepted target n (converted target kind n entries) (figures_accepted n a.some a.few (counts_of kind n entries) a.counts target)
@@ -120,7 +120,7 @@ accepted_tail_falls n φ a k h =
         (subst (λ (x : ℕ). φ j * choose n (n - k) ≤ φ (n - k) * x) (choose_mirror n j (suc k) (omega arith))
         (subst (λ (x : ℕ). φ j * choose n x ≤ φ x * choose n j) next (a.rises j (omega arith))))
 
-pub signature_positive : (n : ℕ) (entries : List ℤ) → vector_refusal Signature n entries ≡ Accepted → (k : ℕ) → k < n
+pub signature_positive : (n : ℕ) (entries : List ℤ) → vector_refusal Signature n entries ≡ Ok tt → (k : ℕ) → k < n
     → entry_at entries k ≡ pos (tail n (counts_of Signature n entries) k - tail n (counts_of Signature n entries) (suc k))
 unfolding figure
 signature_positive n entries accepted k h =
@@ -151,7 +151,7 @@ module _ (n : ℕ) (some : 1 ≤ n) (few : n ≤ 16) (works : ℕ → Bool) (coh
   structure_vectors Domination = refl
 
   -- they are accepted
-  pub structure_accepted : (kind : Kind) → vector_refusal kind n (figures_of kind n works) ≡ Accepted
+  pub structure_accepted : (kind : Kind) → vector_refusal kind n (figures_of kind n works) ≡ Ok tt
   structure_accepted kind =
       ap (vector_refusal kind n) (sym (structure_vectors kind))
       ∙ vector_accepted kind n (vector_of kind n (path_count n works)) (figures_accepted n some few (path_count n works) structure_counts kind)

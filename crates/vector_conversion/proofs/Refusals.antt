@@ -8,10 +8,10 @@ use lib.Dec.{leb, ltb}
 use lib.IntN.{ℤ}
 use lib.ListN.{length, get_or}
 use borrow.Author.Tests.{leb-true, le-leb, eq-eqb, ne_eqb}
-use Rattle.answer.specs.Outcome.{at}
-use Rattle.answer.specs.Refusals.{wrong_part_count, wrong_vector_length, wrong_path_count, falling_proportion}
-use Rattle.answer.specs.declared.Verdict.{Verdict}
-use Rattle.answer.specs.declared.Verdict.TheVariants.{Accepted, Refused}
+use Rattle.std.specs.Prelude.{Ok, Err}
+use Rattle.answer.specs.Outcome.{at, Verdict}
+use Rattle.answer.specs.declared.Reason.{Reason}
+use Rattle.answer.specs.declared.Reason.TheVariants.{WrongPartCount, WrongVectorLength, WrongPathCount, FallingProportion}
 use Rattle.answer.proofs.Outcomes.{refuse_held, refuse_passed}
 use Rattle.numbers.specs.Counts.{choose}
 use Rattle.theory_sets.specs.Masks.{any, least}
@@ -23,33 +23,33 @@ use Rattle.vector_conversion.specs.Inside.{cells_of, FoundAll, FirstFall}
 use Rattle.vector_kind.specs.declared.Kind.{Kind}
 
 module _ (kind : Kind) (n : ℕ) (entries : List ℤ) where
-  pub refused_parts : (1 ≤ n → n ≤ 16 → ⊥) → Refused (at wrong_part_count 0) ≡ vector_refusal kind n entries
+  pub refused_parts : (1 ≤ n → n ≤ 16 → ⊥) → Err (at WrongPartCount 0) ≡ vector_refusal kind n entries
   unfolding vector_refusal
   refused_parts out =
-      sym (refuse_held _ wrong_part_count 0 _ (ap not (false_of (leb 1 n && leb n 16) (λ t.
+      sym (refuse_held _ WrongPartCount 0 _ (ap not (false_of (leb 1 n && leb n 16) (λ t.
       out (leb-true 1 n (and_left (leb 1 n) (leb n 16) t)) (leb-true n 16 (and_right (leb 1 n) (leb n 16) t))))))
 
   module _ (some : 1 ≤ n) (few : n ≤ 16) where
-    pub refused_length : (length entries ≡ length_of kind n → ⊥) → Refused (at wrong_vector_length 0) ≡ vector_refusal kind n entries
+    pub refused_length : (length entries ≡ length_of kind n → ⊥) → Err (at WrongVectorLength 0) ≡ vector_refusal kind n entries
     unfolding vector_refusal
     refused_length other =
-        sym (refuse_passed _ wrong_part_count 0 _ (ap not (and_both (le-leb 1 n some) (le-leb n 16 few)))
-        ∙ refuse_held _ wrong_vector_length 0 _ (ap not (ne_eqb (length entries) (length_of kind n) other)))
+        sym (refuse_passed _ WrongPartCount 0 _ (ap not (and_both (le-leb 1 n some) (le-leb n 16 few)))
+        ∙ refuse_held _ WrongVectorLength 0 _ (ap not (ne_eqb (length entries) (length_of kind n) other)))
 
     module _ (long : length entries ≡ length_of kind n) where
       passed : vector_refusal kind n entries ≡ counts_refusal kind n entries
       unfolding vector_refusal
       passed =
-          refuse_passed _ wrong_part_count 0 _ (ap not (and_both (le-leb 1 n some) (le-leb n 16 few)))
-          ∙ refuse_passed _ wrong_vector_length 0 _ (ap not (eq-eqb (length entries) (length_of kind n) long))
+          refuse_passed _ WrongPartCount 0 _ (ap not (and_both (le-leb 1 n some) (le-leb n 16 few)))
+          ∙ refuse_passed _ WrongVectorLength 0 _ (ap not (eq-eqb (length entries) (length_of kind n) long))
 
       module _ (counts : List ℕ) (wrong : ℕ) (found : FoundAll kind n entries counts wrong) where
-        pub refused_count : wrong ≤ n → Refused (at wrong_path_count wrong) ≡ vector_refusal kind n entries
+        pub refused_count : wrong ≤ n → Err (at WrongPathCount wrong) ≡ vector_refusal kind n entries
         unfolding counts_refusal path_counts_refusal
         refused_count h =
             sym (passed
-            ∙ refuse_held _ wrong_path_count (least (wrong_count n (stands_for kind n entries)) (suc n)) _ (any_intro (wrong_count n (stands_for kind n entries)) (suc n) wrong (suc-le-suc h) (found.first h))
-            ∙ ap (λ (place : ℕ). Refused (at wrong_path_count place))
+            ∙ refuse_held _ WrongPathCount (least (wrong_count n (stands_for kind n entries)) (suc n)) _ (any_intro (wrong_count n (stands_for kind n entries)) (suc n) wrong (suc-le-suc h) (found.first h))
+            ∙ ap (λ (place : ℕ). Err (at WrongPathCount place))
             (least_found (wrong_count n (stands_for kind n entries)) (suc n) wrong (suc-le-suc h) (found.first h) found.found.right))
 
         module _ (past : n < wrong) where
@@ -68,22 +68,22 @@ module _ (kind : Kind) (n : ℕ) (entries : List ℤ) where
             below : (j : ℕ) → j < fall → falls n (counts_of kind n entries) j ≡ false
             below j h = fall_same j (omega (arith, first.within)) ∙ first.rises j h
 
-            pub refused_fall : fall < n → Refused (at falling_proportion fall) ≡ vector_refusal kind n entries
+            pub refused_fall : fall < n → Err (at FallingProportion fall) ≡ vector_refusal kind n entries
             unfolding counts_refusal path_counts_refusal
             refused_fall h =
                 let here : falls n (counts_of kind n entries) fall ≡ true = fall_same fall h ∙ first.first h in
-                sym (passed ∙ refuse_passed _ wrong_path_count (least (wrong_count n (stands_for kind n entries)) (suc n)) _ none_wrong
-                ∙ refuse_held _ falling_proportion (least (falls n (counts_of kind n entries)) n) Accepted
+                sym (passed ∙ refuse_passed _ WrongPathCount (least (wrong_count n (stands_for kind n entries)) (suc n)) _ none_wrong
+                ∙ refuse_held _ FallingProportion (least (falls n (counts_of kind n entries)) n) (Ok tt)
                 (any_intro (falls n (counts_of kind n entries)) n fall h here)
-                ∙ ap (λ (place : ℕ). Refused (at falling_proportion place)) (least_found (falls n (counts_of kind n entries)) n fall h here below))
+                ∙ ap (λ (place : ℕ). Err (at FallingProportion place)) (least_found (falls n (counts_of kind n entries)) n fall h here below))
 
-            pub passed_all : n ≤ fall → Accepted ≡ vector_refusal kind n entries
+            pub passed_all : n ≤ fall → (Ok tt) ≡ vector_refusal kind n entries
             unfolding counts_refusal path_counts_refusal
             passed_all h =
-                sym (passed ∙ refuse_passed _ wrong_path_count (least (wrong_count n (stands_for kind n entries)) (suc n)) _ none_wrong
-                ∙ refuse_passed _ falling_proportion (least (falls n (counts_of kind n entries)) n) Accepted
+                sym (passed ∙ refuse_passed _ WrongPathCount (least (wrong_count n (stands_for kind n entries)) (suc n)) _ none_wrong
+                ∙ refuse_passed _ FallingProportion (least (falls n (counts_of kind n entries)) n) (Ok tt)
                 (any_false (falls n (counts_of kind n entries)) n (λ j l w. clash w (below j (omega arith)))))
 
 -- a refusal is no acceptance
-pub refused-other {ℓ} : {A : Type ℓ} (verdict : Verdict) (number place : ℕ) → verdict ≡ Refused (at number place) → verdict ≡ Accepted → A
-refused-other verdict number place refused accepted = let clash : ◌≡◌ {A = ℕ} 0 1 = cc in absurd (omega arith)
+pub refused-other {ℓ} : {A : Type ℓ} (verdict : Verdict) (reason : Reason) (place : ℕ) → verdict ≡ Err (at reason place) → verdict ≡ Ok tt → A
+refused-other verdict reason place refused accepted = let clash : ◌≡◌ {A = ℕ} 0 1 = cc in absurd (omega arith)

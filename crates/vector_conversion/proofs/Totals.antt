@@ -7,7 +7,7 @@ use mathlib.Core.Logic.{◌⊎◌, inl, inr}
 use Prim.Native.Nat.{ℕ, zero, suc, ◌-◌, ◌*◌}
 use native.Mathlib.Nat.{sub_self, suc-sub-suc, mul-one, one-mul, le_refl}
 use lib.IntN.{ℤ, pos}
-use Rattle.answer.specs.declared.Verdict.TheVariants.{Accepted}
+use Rattle.std.specs.Prelude.{Ok}
 use Rattle.numbers.specs.Counts.{factorial}
 use Rattle.theory_sums.specs.Sums.{sum_belowℤ}
 use Rattle.theory_sums.proofs.IntegerSums.{sum_belowℤ_same, sum_belowℤ_reversed}
@@ -50,7 +50,7 @@ module _ (n : ℕ) (entries : List ℤ) where
       cases (inl wrong) = wrong
       cases (inr right) = absurd (other (right_total right))
 
-  pub accepted_total : vector_refusal Signature n entries ≡ Accepted → total ≡ pos (factorial n)
+  pub accepted_total : vector_refusal Signature n entries ≡ Ok tt → total ≡ pos (factorial n)
   accepted_total accepted =
       let a = accepted_vector Signature n entries accepted in
       sym total_scaled ∙ a.whole n (le_refl n) ∙ ap (λ (k : ℕ). pos (k * unit_of Signature n n)) a.counts.all

@@ -1,11 +1,10 @@
 -- What the private functions do: a reader of the promises may pass this file over.
-use Rattle.std.specs.Prelude.{Bool, true, false, not, ◌&&◌, ◌||◌, List, ◌≡◌, ℕ, suc, ◌-◌, ◌/◌, ◌^◌, ◌≤◌, ◌<◌, ltb, eqb, ℤ, pos, nat_abs, ◌-ℤ◌, ◌*ℤ◌, get_or}
+use Rattle.answer.specs.Outcome.{Verdict}
+use Rattle.std.specs.Prelude.{Bool, true, false, not, ◌&&◌, ◌||◌, List, ◌≡◌, ℕ, suc, ◌-◌, ◌/◌, ◌^◌, ◌≤◌, ◌<◌, ltb, eqb, ℤ, pos, nat_abs, ◌-ℤ◌, ◌*ℤ◌, get_or, Ok}
 use Rattle.numbers.specs.Tables.{NoneOver}
 use Rattle.numbers.specs.Counts.{choose}
 use Rattle.theory_sums.specs.Sums.{sum_belowℤ}
 use Rattle.theory_figures.specs.Figures.{sign}
-use Rattle.answer.specs.declared.Verdict.{Verdict}
-use Rattle.answer.specs.declared.Verdict.TheVariants.{Accepted}
 use Rattle.vector_conversion.specs.Vectors.{scaled_count, unit_of, stands_for, counts_of, wrong_count, falls, vector_refusal}
 use Rattle.vector_conversion.specs.declared.Count.{Count}
 use Rattle.vector_conversion.specs.declared.Count.TheVariants.{Of, Wrong}
@@ -57,7 +56,7 @@ pub record FirstFall (n : ℕ) (counts : List ℕ) (fall : ℕ) : Type 0 where
 pub record ExaminedAs (kind : Kind) (n : ℕ) (entries : List ℤ) (counts : List ℕ) (verdict : Verdict) : Type 0 where
   pub few : NoneOver 12870 counts
   pub judged : verdict ≡ vector_refusal kind n entries
-  pub cells : verdict ≡ Accepted → (j : ℕ) → j ≤ n → get_or counts j 0 ≡ counts_of kind n entries j
+  pub cells : verdict ≡ Ok tt → (j : ℕ) → j ≤ n → get_or counts j 0 ≡ counts_of kind n entries j
 
 -- ---- the terms of a domination
 

@@ -1,15 +1,13 @@
 -- Which path counts a vector stands for, when it is accepted, what it converts to, and which vectors a machine's figures are (01, "Vector sheets"
 -- and refusals 1, 12, 13 and 14).
-use Rattle.std.specs.Prelude.{Bool, not, ◌&&◌, ◌||◌, List, ℕ, suc, ◌-◌, ◌*◌, ◌/◌, ◌%◌, ltb, eqb, ℤ, pos, nat_abs, ◌*ℤ◌, length, get_or}
+use Rattle.std.specs.Prelude.{Bool, not, ◌&&◌, ◌||◌, List, ℕ, suc, ◌-◌, ◌*◌, ◌/◌, ◌%◌, ltb, eqb, ℤ, pos, nat_abs, ◌*ℤ◌, length, get_or, Ok}
 use Rattle.std.specs.Int.Signed.{lt_z}
 use Rattle.numbers.specs.Counts.{factorial, choose}
 use Rattle.numbers.specs.Tables.{tabulate}
 use Rattle.theory_sums.specs.Sums.{sum_belowℤ}
 use Rattle.theory_sets.specs.Masks.{any, least}
-use Rattle.answer.specs.Outcome.{refuse}
-use Rattle.answer.specs.Refusals.{wrong_vector_length, wrong_path_count, falling_proportion}
-use Rattle.answer.specs.declared.Verdict.{Verdict}
-use Rattle.answer.specs.declared.Verdict.TheVariants.{Accepted}
+use Rattle.answer.specs.Outcome.{refuse, Verdict}
+use Rattle.answer.specs.declared.Reason.TheVariants.{WrongVectorLength, WrongPathCount, FallingProportion}
 use Rattle.answer.specs.Checks.{part_count_refusal}
 use Rattle.theory_figures.specs.Figures.{tail, signature, domination, path_counts, tails, signatures, dominations}
 use Rattle.vector_kind.specs.Kinds.{length_of}
@@ -70,8 +68,8 @@ falls n φ j = ltb (φ (suc j) * choose n j) (φ j * choose n (suc j))
 -- the first refusal of path counts: all of 13 before any of 14, each at its smallest size
 unfoldable pub path_counts_refusal : ℕ → (ℕ → Scaled) → Verdict
 path_counts_refusal n counts =
-    refuse (any (wrong_count n counts) (suc n)) wrong_path_count (least (wrong_count n counts) (suc n))
-    (refuse (any (falls n (λ j. whole_count (counts j))) n) falling_proportion (least (falls n (λ j. whole_count (counts j))) n) Accepted)
+    refuse (any (wrong_count n counts) (suc n)) WrongPathCount (least (wrong_count n counts) (suc n))
+    (refuse (any (falls n (λ j. whole_count (counts j))) n) FallingProportion (least (falls n (λ j. whole_count (counts j))) n) (Ok tt))
 
 -- that of the path counts that a vector stands for
 unfoldable pub counts_refusal : Kind → ℕ → List ℤ → Verdict
@@ -80,7 +78,7 @@ counts_refusal kind n entries = path_counts_refusal n (stands_for kind n entries
 -- the first refusal of a vector
 unfoldable pub vector_refusal : Kind → ℕ → List ℤ → Verdict
 vector_refusal kind n entries =
-    part_count_refusal 0 n (refuse (not (eqb (length entries) (length_of kind n))) wrong_vector_length 0 (counts_refusal kind n entries))
+    part_count_refusal 0 n (refuse (not (eqb (length entries) (length_of kind n))) WrongVectorLength 0 (counts_refusal kind n entries))
 
 -- ---- what it converts to
 

@@ -10,11 +10,11 @@ ghost use Rattle.theory_figures.specs.Figures.{tail as tail_of, domination as do
 ghost use Rattle.vector_conversion.specs.Vectors.{vector_refusal, figure as figure_of, vector_of, converted};
 ghost use Rattle.vector_conversion.specs.Inside.{count_in, off_range, count_at, cells_of, Found, FoundAll, FirstFall, ExaminedAs, TermsOf};
 
-use answer::{Verdict, Written};
+use answer::{Reason, Refusal};
 use vector_kind::Kind;
 
 // Whether a vector is accepted.
-pub fn judge(kind: Kind, n: usize, entries: &[i64]) -> Verdict
+pub fn judge(kind: Kind, n: usize, entries: &[i64]) -> Result<(), Refusal>
     ensures { result ≡ vector_refusal kind n entries.now }
 {
     let examined = examine(kind, n, entries);
@@ -22,21 +22,21 @@ pub fn judge(kind: Kind, n: usize, entries: &[i64]) -> Verdict
 }
 
 // A vector as one of another kind, into a lent buffer.
-pub fn convert(kind: Kind, n: usize, entries: &[i64], target: Kind, cells: &mut [i64]) -> Written
+pub fn convert(kind: Kind, n: usize, entries: &[i64], target: Kind, cells: &mut [i64]) -> Result<usize, Refusal>
     ensures { outcome result cells.new ≡ delivered (vector_refusal kind n entries.now) (converted target kind n entries.now) cells.old }
 {
     let examined = examine(kind, n, entries);
     let verdict = examined.verdict;
     match verdict {
-        Verdict::Refused(refusal) => Written::Refused(refusal),
-        Verdict::Accepted => {
+        Err(refusal) => Err(refusal),
+        Ok(()) => {
             let needed = target.entries(n);
             if cells.len() < needed {
-                return answer::short(needed);
+                return Err(Reason::ShortBuffer.at(needed));
             }
             let counts = examined.counts;
             write(target, n, &counts, cells);
-            Written::Length(needed)
+            Ok(needed)
         }
     }
 }
@@ -59,7 +59,7 @@ struct Counts {
 #[derive(Drop)]
 struct Examined {
     counts: [u64; 17],
-    verdict: Verdict,
+    verdict: Result<(), Refusal>,
 }
 
 // The terms of a domination by their sign.
@@ -74,13 +74,13 @@ fn examine(kind: Kind, n: usize, entries: &[i64]) -> Examined
     ensures { ExaminedAs kind n entries.now result.counts result.verdict }
 {
     if n < 1 {
-        return unread(answer::WRONG_PART_COUNT);
+        return unread(Reason::WrongPartCount);
     }
     if 16 < n {
-        return unread(answer::WRONG_PART_COUNT);
+        return unread(Reason::WrongPartCount);
     }
     if entries.len() != kind.entries(n) {
-        return unread(answer::WRONG_VECTOR_LENGTH);
+        return unread(Reason::WrongVectorLength);
     }
     let found = path_counts(kind, n, entries);
     let cells = found.cells;
@@ -88,29 +88,29 @@ fn examine(kind: Kind, n: usize, entries: &[i64]) -> Examined
     if wrong <= n {
         return Examined {
             counts: cells,
-            verdict: answer::refused(answer::WRONG_PATH_COUNT, wrong),
+            verdict: Err(Reason::WrongPathCount.at(wrong)),
         };
     }
     let fall = first_fall(n, &cells);
     if fall < n {
         return Examined {
             counts: cells,
-            verdict: answer::refused(answer::FALLING_PROPORTION, fall),
+            verdict: Err(Reason::FallingProportion.at(fall)),
         };
     }
     Examined {
         counts: cells,
-        verdict: Verdict::Accepted,
+        verdict: Ok(()),
     }
 }
 
 // A vector that is refused at place 0, with no count read.
-fn unread(number: u8) -> Examined
-    ensures { (NoneOver 12870 result.counts) × (result.verdict ≡ Verdict.Refused (at number 0)) }
+fn unread(reason: Reason) -> Examined
+    ensures { (NoneOver 12870 result.counts) × (result.verdict ≡ Err (at reason 0)) }
 {
     Examined {
         counts: [0u64; 17],
-        verdict: answer::refused(number, 0),
+        verdict: Err(reason.at(0)),
     }
 }
 

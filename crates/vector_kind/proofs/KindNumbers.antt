@@ -5,10 +5,9 @@ use Prim.Native.Nat.{ℕ, ◌≤◌}
 use native.Mathlib.Omega.{arith}
 use lib.Dec.{eqb}
 use borrow.Author.Tests.{le-ltb, eqb-true}
-use Rattle.answer.specs.Outcome.{at}
-use Rattle.answer.specs.Refusals.{wrong_kind}
-use Rattle.answer.specs.declared.Verdict.{Verdict}
-use Rattle.answer.specs.declared.Verdict.TheVariants.{Refused}
+use Rattle.std.specs.Prelude.{Err}
+use Rattle.answer.specs.Outcome.{at, Verdict}
+use Rattle.answer.specs.declared.Reason.TheVariants.{WrongKind}
 use Rattle.answer.proofs.Outcomes.{refuse_held, refuse_passed}
 use Rattle.vector_kind.specs.Kinds.{kind_number, length_of, entry_count, is_kind, kind_of, kind_refusal}
 use Rattle.vector_kind.specs.declared.Kind.{Kind}
@@ -40,10 +39,10 @@ tail_number number same = cases (eqb number 2) (eqb number 3) (eqb number 4) ref
     cases false false false e is = absurd (omega (arith, ap kind_number is))
 
 pub kind_passed : (number : ℕ) (later : Verdict) → is_kind number ≡ true → kind_refusal number later ≡ later
-kind_passed number later h = refuse_passed (not (is_kind number)) wrong_kind 0 later (ap not h)
+kind_passed number later h = refuse_passed (not (is_kind number)) WrongKind 0 later (ap not h)
 
-pub kind_refused : (number : ℕ) (later : Verdict) → is_kind number ≡ false → kind_refusal number later ≡ Refused (at wrong_kind 0)
-kind_refused number later h = refuse_held (not (is_kind number)) wrong_kind 0 later (ap not h)
+pub kind_refused : (number : ℕ) (later : Verdict) → is_kind number ≡ false → kind_refusal number later ≡ Err (at WrongKind 0)
+kind_refused number later h = refuse_held (not (is_kind number)) WrongKind 0 later (ap not h)
 
 -- for 16 parts or fewer a vector has its kind's length
 pub entries_few : (kind : Kind) (n : ℕ) → n ≤ 16 → entry_count kind n ≡ length_of kind n

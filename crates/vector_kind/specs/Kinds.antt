@@ -1,8 +1,7 @@
 -- The four kinds of vectors, each with its own number and length (01, "Vector sheets").
 use Rattle.std.specs.Prelude.{Bool, not, cond, ◌&&◌, ℕ, ◌+◌, leb, ltb, eqb}
-use Rattle.answer.specs.Outcome.{refuse}
-use Rattle.answer.specs.Refusals.{wrong_kind}
-use Rattle.answer.specs.declared.Verdict.{Verdict}
+use Rattle.answer.specs.Outcome.{refuse, Verdict}
+use Rattle.answer.specs.declared.Reason.TheVariants.{WrongKind}
 use Rattle.vector_kind.specs.declared.Kind.{Kind}
 use Rattle.vector_kind.specs.declared.Kind.TheVariants.{PathCounts, Tail, Signature, Domination}
 
@@ -34,4 +33,4 @@ kind_of number = cond (eqb number 2) Tail (cond (eqb number 3) Signature (cond (
 
 -- a kind that comes as a number, before n: 26
 abbrev pub kind_refusal : ℕ → Verdict → Verdict
-kind_refusal number later = refuse (not (is_kind number)) wrong_kind 0 later
+kind_refusal number later = refuse (not (is_kind number)) WrongKind 0 later

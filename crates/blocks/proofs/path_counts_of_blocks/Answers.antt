@@ -8,10 +8,9 @@ use native.Mathlib.Omega.{arith}
 use lib.IntN.{ℤ}
 use lib.ListN.{length, take}
 use lib.Seq.{length-take-le}
+use Rattle.std.specs.Prelude.{Ok}
 use Rattle.numbers.proofs.Tables.{tabulate_length}
-use Rattle.answer.specs.Outcome.{delivered}
-use Rattle.answer.specs.declared.Verdict.{Verdict}
-use Rattle.answer.specs.declared.Verdict.TheVariants.{Accepted}
+use Rattle.answer.specs.Outcome.{delivered, Verdict}
 use Rattle.answer.proofs.Deliveries.{refused_kept}
 use Rattle.theory_blocks.specs.Blocks.{parts_in}
 use Rattle.blocks_checks.specs.Given.{size_at}
@@ -28,8 +27,8 @@ overflow_sub-parts c =
     -- what the blocks were judged to be
     let said : let a = c.args in blocks_refusal a.blocks a.table.now a.sizes.now a.vectors.now ≡ c.blocks_verdict-judged.result =
     sym c.blocks_verdict-judged.ensures in
-    let passed : let a = c.args in blocks_refusal a.blocks a.table.now a.sizes.now a.vectors.now ≡ Accepted =
-    said ∙ c.in-Accepted.is in
+    let passed : let a = c.args in blocks_refusal a.blocks a.table.now a.sizes.now a.vectors.now ≡ Ok tt =
+    said ∙ c.in-Ok.is in
     let accepted : let a = c.args in AcceptedBlocks a.blocks a.table.now a.sizes.now a.vectors.now =
     let a = c.args in blocks_accepted a.blocks a.table.now a.sizes.now a.vectors.now passed in
     -- each vector has one entry more than its block has parts
@@ -42,8 +41,8 @@ whole_counts-counts-requires c =
     -- what the blocks were judged to be
     let said : let a = c.args in blocks_refusal a.blocks a.table.now a.sizes.now a.vectors.now ≡ c.blocks_verdict-judged.result =
     sym c.blocks_verdict-judged.ensures in
-    let passed : let a = c.args in blocks_refusal a.blocks a.table.now a.sizes.now a.vectors.now ≡ Accepted =
-    said ∙ c.in-Accepted.is in
+    let passed : let a = c.args in blocks_refusal a.blocks a.table.now a.sizes.now a.vectors.now ≡ Ok tt =
+    said ∙ c.in-Ok.is in
     let accepted : let a = c.args in AcceptedBlocks a.blocks a.table.now a.sizes.now a.vectors.now =
     let a = c.args in blocks_accepted a.blocks a.table.now a.sizes.now a.vectors.now passed in
     -- each vector has one entry more than its block has parts
@@ -62,8 +61,8 @@ slice_bounds-counts-end c =
     -- what the blocks were judged to be
     let said : let a = c.args in blocks_refusal a.blocks a.table.now a.sizes.now a.vectors.now ≡ c.blocks_verdict-judged.result =
     sym c.blocks_verdict-judged.ensures in
-    let passed : let a = c.args in blocks_refusal a.blocks a.table.now a.sizes.now a.vectors.now ≡ Accepted =
-    said ∙ c.in-Accepted.is in
+    let passed : let a = c.args in blocks_refusal a.blocks a.table.now a.sizes.now a.vectors.now ≡ Ok tt =
+    said ∙ c.in-Ok.is in
     let accepted : let a = c.args in AcceptedBlocks a.blocks a.table.now a.sizes.now a.vectors.now =
     let a = c.args in blocks_accepted a.blocks a.table.now a.sizes.now a.vectors.now passed in
     -- each vector has one entry more than its block has parts
@@ -73,13 +72,13 @@ slice_bounds-counts-end c =
     omega (arith, entries, accepted.few) in
     le_trans few (le_of_eq (sym (ap length c.whole_counts-counts.ensures ∙ tabulate_length 17 _)))
 
-pub slice_bounds-hand_out_entries-end : goal.slice_bounds-hand_out_entries-end
-slice_bounds-hand_out_entries-end c =
+pub slice_bounds-hand_out-end : goal.slice_bounds-hand_out-end
+slice_bounds-hand_out-end c =
     -- what the blocks were judged to be
     let said : let a = c.args in blocks_refusal a.blocks a.table.now a.sizes.now a.vectors.now ≡ c.blocks_verdict-judged.result =
     sym c.blocks_verdict-judged.ensures in
-    let passed : let a = c.args in blocks_refusal a.blocks a.table.now a.sizes.now a.vectors.now ≡ Accepted =
-    said ∙ c.in-Accepted.is in
+    let passed : let a = c.args in blocks_refusal a.blocks a.table.now a.sizes.now a.vectors.now ≡ Ok tt =
+    said ∙ c.in-Ok.is in
     let accepted : let a = c.args in AcceptedBlocks a.blocks a.table.now a.sizes.now a.vectors.now =
     let a = c.args in blocks_accepted a.blocks a.table.now a.sizes.now a.vectors.now passed in
     -- each vector has one entry more than its block has parts
@@ -89,21 +88,21 @@ slice_bounds-hand_out_entries-end c =
     omega (arith, entries, accepted.few) in
     sym (length-take-le _ c.whole_counts-counts.result (le_trans few (le_of_eq (sym (ap length c.whole_counts-counts.ensures ∙ tabulate_length 17 _)))))
 
-pub returns-in-Refused : goal.returns-in-Refused
-returns-in-Refused c =
+pub returns-in-Err : goal.returns-in-Err
+returns-in-Err c =
     -- what the blocks were judged to be
     let said : let a = c.args in blocks_refusal a.blocks a.table.now a.sizes.now a.vectors.now ≡ c.blocks_verdict-judged.result =
     sym c.blocks_verdict-judged.ensures in
     let a = c.args in
-    refused_kept _ (counts_of_blocks a.blocks a.table.now a.sizes.now a.vectors.now) a.cells.now _ (said ∙ c.in-Refused.is)
+    refused_kept _ (counts_of_blocks a.blocks a.table.now a.sizes.now a.vectors.now) a.cells.now _ (said ∙ c.in-Err.is)
 
-pub returns-in-Accepted : goal.returns-in-Accepted
-returns-in-Accepted c =
+pub returns-in-Ok : goal.returns-in-Ok
+returns-in-Ok c =
     -- what the blocks were judged to be
     let said : let a = c.args in blocks_refusal a.blocks a.table.now a.sizes.now a.vectors.now ≡ c.blocks_verdict-judged.result =
     sym c.blocks_verdict-judged.ensures in
-    let passed : let a = c.args in blocks_refusal a.blocks a.table.now a.sizes.now a.vectors.now ≡ Accepted =
-    said ∙ c.in-Accepted.is in
+    let passed : let a = c.args in blocks_refusal a.blocks a.table.now a.sizes.now a.vectors.now ≡ Ok tt =
+    said ∙ c.in-Ok.is in
     let accepted : let a = c.args in AcceptedBlocks a.blocks a.table.now a.sizes.now a.vectors.now =
     let a = c.args in blocks_accepted a.blocks a.table.now a.sizes.now a.vectors.now passed in
     -- each vector has one entry more than its block has parts
@@ -115,5 +114,5 @@ returns-in-Accepted c =
     let all : length a.vectors.now - a.blocks + 1 ≡ parts_in (size_at a.sizes.now) a.blocks + 1 = omega (arith, entries) in
     counts_handed a.blocks a.table.now a.sizes.now a.vectors.now accepted c.whole_counts-counts.result c.whole_counts-counts.ensures _ all in
     let cells = c.args.cells.now in
-    c.hand_out_entries.ensures
+    c.hand_out.ensures
     ∙ ap₂ (λ (v : Verdict) (xs : List ℤ). delivered v xs cells) (sym passed) handed

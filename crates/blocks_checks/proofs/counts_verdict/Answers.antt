@@ -7,9 +7,9 @@ use Prim.Native.Nat.{ℕ, ◌+◌}
 use borrow.Author.Tests.{eq-eqb, ne_eqb, lt-ltb, le-ltb}
 use lib.Dec.{ltb}
 use lib.ListN.{length}
+use Rattle.std.specs.Prelude.{Ok, Err}
 use Rattle.answer.specs.Outcome.{refuse, and_then}
-use Rattle.answer.specs.Refusals.{wrong_vector_length, many_parts}
-use Rattle.answer.specs.declared.Verdict.TheVariants.{Accepted}
+use Rattle.answer.specs.declared.Reason.TheVariants.{WrongVectorLength, ManyParts}
 use Rattle.answer.proofs.Outcomes.{refuse_held, refuse_passed, then_passed, then_refused}
 use Rattle.theory_blocks.specs.Blocks.{parts_in}
 use Rattle.blocks_checks.specs.Given.{size_at, start_of}
@@ -24,7 +24,7 @@ returns-then-vectors-parts c =
     let asked : let sizes = c.args.sizes.now in c.parts_in-parts.result + length sizes ≡ start_of sizes (length sizes) =
     let sizes = c.args.sizes.now in
     ap (λ (n : ℕ). n + length sizes) c.parts_in-parts.ensures.0 ∙ sym (start_parts sizes (length sizes)) in
-    c.refused.ensures ∙ sym (refuse_held _ wrong_vector_length 0 _ (ap not (ne_eqb _ _ (λ e. c.if-vectors-parts.true (e ∙ sym asked)))))
+    (ap Err c.at.ensures) ∙ sym (refuse_held _ WrongVectorLength 0 _ (ap not (ne_eqb _ _ (λ e. c.if-vectors-parts.true (e ∙ sym asked)))))
 
 pub vectors_verdict-judged-requires : goal.vectors_verdict-judged-requires
 vectors_verdict-judged-requires c =
@@ -46,15 +46,15 @@ returns-then-parts-gt16 c =
     let long : let a = c.args in length a.vectors.now ≡ start_of a.sizes.now (length a.sizes.now) =
     c.if-vectors-parts.false ∙ asked in
     -- what is left to check where the length is right
-    let left : let sizes = c.args.sizes.now in let vectors = c.args.vectors.now in block_counts_refusal (length sizes) sizes vectors ≡ and_then (vectors_refusal sizes vectors (length sizes)) (refuse (ltb 16 (parts_in (size_at sizes) (length sizes))) many_parts 0 Accepted) =
-    refuse_passed _ wrong_vector_length 0 _ (ap not (eq-eqb _ _ long)) in
-    c.refused-then-parts-gt16.ensures
-    ∙ sym (left ∙ then_passed _ (sym c.vectors_verdict-judged.ensures ∙ c.in-Accepted.is)
-    ∙ refuse_held _ many_parts 0 Accepted (lt-ltb 16 _ (rw c.parts_in-parts.ensures.0 at c.if-parts-gt16.true)))
+    let left : let sizes = c.args.sizes.now in let vectors = c.args.vectors.now in block_counts_refusal (length sizes) sizes vectors ≡ and_then (vectors_refusal sizes vectors (length sizes)) (refuse (ltb 16 (parts_in (size_at sizes) (length sizes))) ManyParts 0 (Ok tt)) =
+    refuse_passed _ WrongVectorLength 0 _ (ap not (eq-eqb _ _ long)) in
+    (ap Err c.at-then-parts-gt16.ensures)
+    ∙ sym (left ∙ then_passed _ (sym c.vectors_verdict-judged.ensures ∙ c.in-Ok.is)
+    ∙ refuse_held _ ManyParts 0 (Ok tt) (lt-ltb 16 _ (rw c.parts_in-parts.ensures.0 at c.if-parts-gt16.true)))
 
-pub returns-in-Refused : goal.returns-in-Refused
+pub returns-in-Err : goal.returns-in-Err
 unfolding block_counts_refusal
-returns-in-Refused c =
+returns-in-Err c =
     -- the length that is asked for is where a next vector would start
     let asked : let sizes = c.args.sizes.now in c.parts_in-parts.result + length sizes ≡ start_of sizes (length sizes) =
     let sizes = c.args.sizes.now in
@@ -62,9 +62,9 @@ returns-in-Refused c =
     let long : let a = c.args in length a.vectors.now ≡ start_of a.sizes.now (length a.sizes.now) =
     c.if-vectors-parts.false ∙ asked in
     -- what is left to check where the length is right
-    let left : let sizes = c.args.sizes.now in let vectors = c.args.vectors.now in block_counts_refusal (length sizes) sizes vectors ≡ and_then (vectors_refusal sizes vectors (length sizes)) (refuse (ltb 16 (parts_in (size_at sizes) (length sizes))) many_parts 0 Accepted) =
-    refuse_passed _ wrong_vector_length 0 _ (ap not (eq-eqb _ _ long)) in
-    sym (left ∙ then_refused _ (sym c.vectors_verdict-judged.ensures ∙ c.in-Refused.is))
+    let left : let sizes = c.args.sizes.now in let vectors = c.args.vectors.now in block_counts_refusal (length sizes) sizes vectors ≡ and_then (vectors_refusal sizes vectors (length sizes)) (refuse (ltb 16 (parts_in (size_at sizes) (length sizes))) ManyParts 0 (Ok tt)) =
+    refuse_passed _ WrongVectorLength 0 _ (ap not (eq-eqb _ _ long)) in
+    sym (left ∙ then_refused _ (sym c.vectors_verdict-judged.ensures ∙ c.in-Err.is))
 
 pub returns-else-parts-gt16 : goal.returns-else-parts-gt16
 unfolding block_counts_refusal
@@ -76,7 +76,7 @@ returns-else-parts-gt16 c =
     let long : let a = c.args in length a.vectors.now ≡ start_of a.sizes.now (length a.sizes.now) =
     c.if-vectors-parts.false ∙ asked in
     -- what is left to check where the length is right
-    let left : let sizes = c.args.sizes.now in let vectors = c.args.vectors.now in block_counts_refusal (length sizes) sizes vectors ≡ and_then (vectors_refusal sizes vectors (length sizes)) (refuse (ltb 16 (parts_in (size_at sizes) (length sizes))) many_parts 0 Accepted) =
-    refuse_passed _ wrong_vector_length 0 _ (ap not (eq-eqb _ _ long)) in
-    sym (left ∙ then_passed _ (sym c.vectors_verdict-judged.ensures ∙ c.in-Accepted.is)
-    ∙ refuse_passed _ many_parts 0 Accepted (le-ltb 16 _ (rw c.parts_in-parts.ensures.0 at c.if-parts-gt16.false)))
+    let left : let sizes = c.args.sizes.now in let vectors = c.args.vectors.now in block_counts_refusal (length sizes) sizes vectors ≡ and_then (vectors_refusal sizes vectors (length sizes)) (refuse (ltb 16 (parts_in (size_at sizes) (length sizes))) ManyParts 0 (Ok tt)) =
+    refuse_passed _ WrongVectorLength 0 _ (ap not (eq-eqb _ _ long)) in
+    sym (left ∙ then_passed _ (sym c.vectors_verdict-judged.ensures ∙ c.in-Ok.is)
+    ∙ refuse_passed _ ManyParts 0 (Ok tt) (le-ltb 16 _ (rw c.parts_in-parts.ensures.0 at c.if-parts-gt16.false)))

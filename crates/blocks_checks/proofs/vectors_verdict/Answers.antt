@@ -52,8 +52,8 @@ slice_bounds-judge-end c =
     omega (arith, start_inside sizes c.loop-b.b (length sizes) c.loop-b-test.true, c.loop-b.invariant.1.0, c.requires) in
     omega (arith, inside)
 
-pub returns-in-Refused : goal.returns-in-Refused
-returns-in-Refused c =
+pub returns-in-Err : goal.returns-in-Err
+returns-in-Err c =
     -- what the block's vector was judged to be
     let judged_is : let sizes = c.args.sizes.now in block_refusal sizes c.args.vectors.now c.loop-b.b ≡ c.judge-judged.result =
     let a = c.args in
@@ -61,7 +61,7 @@ returns-in-Refused c =
     ap (vector_refusal PathCounts (size_at a.sizes.now b)) (sym (part_vector a.sizes.now a.vectors.now b c.loop-b.start c.loop-b.invariant.1.0))
     ∙ sym c.judge-judged.ensures in
     let sizes = c.args.sizes.now in
-    sym (vectors_refused sizes c.args.vectors.now c.loop-b.b c.loop-b.invariant.1.1 (judged_is ∙ c.in-Refused.is)
+    sym (vectors_refused sizes c.args.vectors.now c.loop-b.b c.loop-b.invariant.1.1 (judged_is ∙ c.in-Err.is)
     (length sizes) c.loop-b-test.true)
 
 pub loop-b-preserved : goal.loop-b-preserved
@@ -78,7 +78,7 @@ loop-b-preserved c =
       omega arith,
       (
         omega (arith, c.loop-b.invariant.1.0, start_next a.sizes.now b),
-        ap (vectors_refusal a.sizes.now a.vectors.now) (add-one b) ∙ then_passed _ c.loop-b.invariant.1.1 ∙ judged_is ∙ c.in-Accepted.is,
+        ap (vectors_refusal a.sizes.now a.vectors.now) (add-one b) ∙ then_passed _ c.loop-b.invariant.1.1 ∙ judged_is ∙ c.in-Ok.is,
       ),
     )
 

@@ -4,7 +4,7 @@
 use mathlib.Core.Path.{◌≡◌}
 use Prim.Native.Nat.{◌-◌, ◌≤◌}
 use lib.ListN.{length}
-use Rattle.answer.specs.declared.Verdict.TheVariants.{Accepted}
+use Rattle.std.specs.Prelude.{Ok}
 use Rattle.blocks_checks.specs.Given.{start_of}
 use Rattle.blocks_checks.specs.Refusals.{vectors_refusal}
 use Rattle.blocks_checks.proofs.vectors_verdict.Given as goal
@@ -13,7 +13,7 @@ use Rattle.blocks_checks.proofs.vectors_verdict.Given as goal
 -- next one starts where it ends.
 -- Assumes nothing.
 abbrev pub invariant-loop-b : goal.invariant-loop-b
-invariant-loop-b l = (l.b ≤ length l.sizes) × ((l.start ≡ start_of l.sizes l.b) × (vectors_refusal l.sizes l.vectors l.b ≡ Accepted))
+invariant-loop-b l = (l.b ≤ length l.sizes) × ((l.start ≡ start_of l.sizes l.b) × (vectors_refusal l.sizes l.vectors l.b ≡ Ok tt))
 
 abbrev pub decreases-loop-b : goal.decreases-loop-b
 decreases-loop-b l = length l.sizes - l.b

@@ -4,6 +4,7 @@
 use mathlib.Core.Path.{◌≡◌, sym, ap, ◌∙◌}
 use Prim.Native.Nat.{ℕ, ◌+◌, ◌-◌, ◌*◌, ◌^◌, ◌<◌, ◌≤◌}
 use native.Mathlib.Omega.{arith}
+use Rattle.std.specs.Prelude.{Err}
 use Rattle.codec.specs.Reads.{reading_of}
 use Rattle.codec.specs.declared.Field.{Field}
 use Rattle.codec.specs.Fields.{groups}
@@ -17,7 +18,7 @@ loop-left-init c = walked_none _ _ _
 pub returns-then-bytes-next : goal.returns-then-bytes-next
 returns-then-bytes-next c =
     let l = c.before.before.before in
-    c.refused.ensures ∙ sym (ap reading_of (walked_short l.loop-left.invariant _ l.groups-left.ensures (omega arith) (omega arith)))
+    (ap Err c.at.ensures) ∙ sym (ap reading_of (walked_short l.loop-left.invariant _ l.groups-left.ensures (omega arith) (omega arith)))
 
 few : (field : Field) (most : ℕ) → most ≡ groups field → most ≤ 9
 few field most is = omega (arith, (allowed field).few, is)
@@ -68,4 +69,4 @@ loop-left-preserved c =
 pub returns : goal.returns
 returns c =
     let l = c.before.before in
-    c.refused-2.ensures ∙ sym (ap reading_of (walked_over l.loop-left.invariant _ l.groups-left.ensures (omega arith)))
+    (ap Err c.at-2.ensures) ∙ sym (ap reading_of (walked_over l.loop-left.invariant _ l.groups-left.ensures (omega arith)))

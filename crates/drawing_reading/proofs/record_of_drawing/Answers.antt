@@ -5,10 +5,10 @@ use lib.ListN.{length}
 use Rattle.drawing_reading.proofs.Records.{DrawnRead, drawn_read, drawn_refused, drawn_record}
 use Rattle.drawing_reading.proofs.record_of_drawing.Goals as goal
 
-pub returns-in-Refused : goal.returns-in-Refused
-returns-in-Refused c =
+pub returns-in-Err : goal.returns-in-Err
+returns-in-Err c =
     let a = c.args in
-    drawn_refused a.text.now c.read_drawing-drawn.result c.read_drawing-drawn.ensures _ c.in-Refused.is a.buffer.now
+    drawn_refused a.text.now c.read_drawing-drawn.result c.read_drawing-drawn.ensures _ c.in-Err.is a.buffer.now
 
 pub slice_bounds-sets-end : goal.slice_bounds-sets-end
 slice_bounds-sets-end c =

@@ -5,8 +5,8 @@ use mathlib.Core.List.{List}
 use Prim.Native.Nat.{ℕ}
 use native.Mathlib.Omega.{arith}
 use lib.ListN.{length}
+use Rattle.std.specs.Prelude.{Ok}
 use Rattle.answer.specs.Outcome.{delivered}
-use Rattle.answer.specs.declared.Verdict.TheVariants.{Accepted}
 use Rattle.codec.specs.Reads.{Read}
 use Rattle.record_parts.specs.declared.PartList.{PartList}
 use Rattle.record.specs.Records.{Design}
@@ -15,12 +15,12 @@ use Rattle.record_opening.proofs.Designs.{RecordOpened, opened_record, opened_wh
 use Rattle.drawing_text.specs.Writing.{drawing_of, drawing_read, drawing_of_record, text_of}
 use Rattle.drawing_writing.proofs.drawing_of_record.Goals as goal
 
-pub returns-in-Refused : goal.returns-in-Refused
+pub returns-in-Err : goal.returns-in-Err
 unfolding drawing_of_record
-returns-in-Refused c =
+returns-in-Err c =
     let a = c.args in
     ap (λ (r : Read Design). drawing_read r a.buffer.now)
-    (sym (refused_design a.bytes.now _ (opened_why a.bytes.now c.open_record-opened.result c.open_record-opened.ensures _ c.in-Refused.is)))
+    (sym (refused_design a.bytes.now _ (opened_why a.bytes.now c.open_record-opened.result c.open_record-opened.ensures _ c.in-Err.is)))
 
 pub slice_bounds-sets-end : goal.slice_bounds-sets-end
 slice_bounds-sets-end c =
@@ -53,5 +53,5 @@ returns c =
     let a = c.args in
     let r = read in
     c.write_text.ensures
-    ∙ ap₂ (λ (l : PartList) (s : List ℕ). delivered Accepted (text_of l.count s) a.buffer.now) r.list (sets_front r)
+    ∙ ap₂ (λ (l : PartList) (s : List ℕ). delivered (Ok tt) (text_of l.count s) a.buffer.now) r.list (sets_front r)
     ∙ ap (λ (x : Read Design). drawing_read x a.buffer.now) (sym (stored_design a.bytes.now r.s r.next r.read))

@@ -6,9 +6,8 @@ use mathlib.Core.List.{[], ◌∷◌}
 use Prim.Native.Nat.{◌+◌, ◌≤◌}
 use native.Mathlib.Omega.{arith}
 use lib.ListN.{length, length-append}
-use Rattle.answer.specs.Outcome.{outcome}
-use Rattle.answer.specs.declared.Verdict.TheVariants.{Accepted}
-use Rattle.answer.specs.declared.Written.{Written}
+use Rattle.std.specs.Prelude.{Ok, Err}
+use Rattle.answer.specs.Outcome.{outcome, Numbered}
 use Rattle.answer.proofs.Outcomes.{InFront, in_front_none, in_front_delivered}
 use Rattle.answer.proofs.Placing.{in_front_more}
 use Rattle.answer.proofs.Deliveries.{delivered_short}
@@ -37,8 +36,8 @@ returns-then-buffer-needed c =
     let a = c.args in
     omega (arith, c.parts_line_length.ensures, c.set_lines_length.ensures, length-append (line_of parts_word (a.n ∷ [])) (lines_of_sets a.sets.now)) in
     let a = c.args in
-    ap (λ (w : Written). outcome w a.buffer.now) c.short.ensures
-    ∙ delivered_short Accepted (text_of a.n a.sets.now) a.buffer.now refl _ whole c.if-buffer-needed.true
+    ap (λ (w : Numbered). outcome w a.buffer.now) (ap Err c.at.ensures)
+    ∙ delivered_short (Ok tt) (text_of a.n a.sets.now) a.buffer.now refl _ whole c.if-buffer-needed.true
 
 pub put_parts_line-first-requires : goal.put_parts_line-first-requires
 put_parts_line-first-requires c =

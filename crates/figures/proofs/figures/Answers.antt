@@ -2,34 +2,34 @@
 -- Assumes nothing.
 use mathlib.Core.Path.{◌≡◌, sym, ap, ◌∙◌}
 use lib.ListN.{length}
+use Rattle.std.specs.Prelude.{Ok, Err}
 use Rattle.answer.specs.Outcome.{outcome}
-use Rattle.answer.specs.declared.Verdict.TheVariants.{Accepted, Refused}
 use Rattle.answer.proofs.Outcomes.{settled_refused, settled_given}
 use Rattle.figures.specs.All.{Buffers, buffers_of, all_figures}
 use Rattle.figures.specs.Inside.{figures_refusal}
 use Rattle.figures.proofs.figures.Goals as goal
-use Rattle.figures.proofs.figures.Goals.{In-Accepted}
+use Rattle.figures.proofs.figures.Goals.{In-Ok}
 
 -- nothing is refused
-accepted : (c : In-Accepted) → figures_refusal c.args.n c.args.table.now
+accepted : (c : In-Ok) → figures_refusal c.args.n c.args.table.now
     (length c.args.counts.now) (length c.args.signature.now)
     (length c.args.domination.now) (length c.args.importance.now)
-    ≡ Accepted
-accepted c = sym c.figures_verdict-verdict.ensures ∙ c.in-Accepted.is
+    ≡ Ok tt
+accepted c = sym c.figures_verdict-verdict.ensures ∙ c.in-Ok.is
 
 pub write_figures-requires : goal.write_figures-requires
-write_figures-requires c = accepted (goal.at.write_figures-requires c).In-Accepted
+write_figures-requires c = accepted (goal.at.write_figures-requires c).In-Ok
 
-pub returns-in-Refused : goal.returns-in-Refused
+pub returns-in-Err : goal.returns-in-Err
 unfolding all_figures
-returns-in-Refused c =
+returns-in-Err c =
     let a = c.args in
-    settled_refused _ Refused (buffers_of a.counts.now a.signature.now a.domination.now a.importance.now) _
-    (sym c.figures_verdict-verdict.ensures ∙ c.in-Refused.is)
+    settled_refused _ Err (buffers_of a.counts.now a.signature.now a.domination.now a.importance.now) _
+    (sym c.figures_verdict-verdict.ensures ∙ c.in-Err.is)
 
-pub returns-in-Accepted : goal.returns-in-Accepted
+pub returns-in-Ok : goal.returns-in-Ok
 unfolding all_figures
-returns-in-Accepted c =
+returns-in-Ok c =
     let a = c.args in
-    ap (λ (buffers : Buffers). outcome Accepted buffers) c.write_figures.ensures
-    ∙ settled_given _ Refused (buffers_of a.counts.now a.signature.now a.domination.now a.importance.now) _ (accepted (goal.at.returns-in-Accepted c).In-Accepted)
+    ap (λ (buffers : Buffers). outcome (Ok tt) buffers) c.write_figures.ensures
+    ∙ settled_given _ Err (buffers_of a.counts.now a.signature.now a.domination.now a.importance.now) _ (accepted (goal.at.returns-in-Ok c).In-Ok)

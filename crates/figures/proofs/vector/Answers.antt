@@ -8,9 +8,8 @@ use native.Mathlib.Omega.{arith}
 use lib.IntN.{ℤ, pos}
 use lib.ListN.{length, take}
 use lib.Seq.{length-take-le}
-use Rattle.answer.specs.Outcome.{delivered}
-use Rattle.answer.specs.declared.Verdict.{Verdict}
-use Rattle.answer.specs.declared.Verdict.TheVariants.{Accepted}
+use Rattle.std.specs.Prelude.{Ok}
+use Rattle.answer.specs.Outcome.{delivered, Verdict}
 use Rattle.answer.proofs.Deliveries.{refused_kept}
 use Rattle.numbers.proofs.Tables.{tabulate_length}
 use Rattle.theory_sets.specs.Tables.{in_table}
@@ -26,7 +25,7 @@ use Rattle.figures.proofs.Claims.{vectors_accepted, vectors_converted}
 use Rattle.figures.proofs.vector.Goals as goal
 
 -- the path counts as entries are enough, and are the table's
-module _ (n : ℕ) (table : List ℕ) (verdict : table_refusal n table ≡ Accepted) (made : List ℤ) (is : made ≡ entries_of (sized_in table)) where
+module _ (n : ℕ) (table : List ℕ) (verdict : table_refusal n table ≡ Ok tt) (made : List ℤ) (is : made ≡ entries_of (sized_in table)) where
   accepted : AcceptedTable n table
   accepted = accepted_table n table verdict
 
@@ -38,25 +37,25 @@ module _ (n : ℕ) (table : List ℕ) (verdict : table_refusal n table ≡ Accep
 
 pub overflow_add-entries : goal.overflow_add-entries
 overflow_add-entries c =
-    let accepted = accepted_table c.args.n c.args.table.now (sym c.table_verdict-checked.ensures ∙ c.in-Accepted.is) in
+    let accepted = accepted_table c.args.n c.args.table.now (sym c.table_verdict-checked.ensures ∙ c.in-Ok.is) in
     record { fits = omega (arith, accepted.few) }
 
 pub slice_bounds-entries-end : goal.slice_bounds-entries-end
-slice_bounds-entries-end c = room _ _ (sym c.table_verdict-checked.ensures ∙ c.in-Accepted.is) _ c.entries_of-entries.ensures
+slice_bounds-entries-end c = room _ _ (sym c.table_verdict-checked.ensures ∙ c.in-Ok.is) _ c.entries_of-entries.ensures
 
 pub slice_bounds-convert-end : goal.slice_bounds-convert-end
-slice_bounds-convert-end c = sym (length-take-le _ c.entries_of-entries.result (room _ _ (sym c.table_verdict-checked.ensures ∙ c.in-Accepted.is) _ c.entries_of-entries.ensures))
+slice_bounds-convert-end c = sym (length-take-le _ c.entries_of-entries.result (room _ _ (sym c.table_verdict-checked.ensures ∙ c.in-Ok.is) _ c.entries_of-entries.ensures))
 
-pub returns-in-Refused : goal.returns-in-Refused
-returns-in-Refused c =
+pub returns-in-Err : goal.returns-in-Err
+returns-in-Err c =
     let a = c.args in
     refused_kept (table_refusal a.n a.table.now) (figures_of a.kind a.n (in_table a.table.now)) a.cells.now _
-    (sym c.table_verdict-checked.ensures ∙ c.in-Refused.is)
+    (sym c.table_verdict-checked.ensures ∙ c.in-Err.is)
 
-pub returns-in-Accepted : goal.returns-in-Accepted
-returns-in-Accepted c =
+pub returns-in-Ok : goal.returns-in-Ok
+returns-in-Ok c =
     let a = c.args in
     c.convert.ensures
     ∙ ap₂ (λ (v : Verdict) (xs : List ℤ). delivered v xs a.cells.now)
-    (ap (vector_refusal PathCounts a.n) (entries _ _ (sym c.table_verdict-checked.ensures ∙ c.in-Accepted.is) _ c.entries_of-entries.ensures) ∙ vectors_accepted a.n a.table.now (sym c.table_verdict-checked.ensures ∙ c.in-Accepted.is) PathCounts ∙ sym (sym c.table_verdict-checked.ensures ∙ c.in-Accepted.is))
-    (ap (converted a.kind PathCounts a.n) (entries _ _ (sym c.table_verdict-checked.ensures ∙ c.in-Accepted.is) _ c.entries_of-entries.ensures) ∙ vectors_converted a.n a.table.now (sym c.table_verdict-checked.ensures ∙ c.in-Accepted.is) PathCounts a.kind)
+    (ap (vector_refusal PathCounts a.n) (entries _ _ (sym c.table_verdict-checked.ensures ∙ c.in-Ok.is) _ c.entries_of-entries.ensures) ∙ vectors_accepted a.n a.table.now (sym c.table_verdict-checked.ensures ∙ c.in-Ok.is) PathCounts ∙ sym (sym c.table_verdict-checked.ensures ∙ c.in-Ok.is))
+    (ap (converted a.kind PathCounts a.n) (entries _ _ (sym c.table_verdict-checked.ensures ∙ c.in-Ok.is) _ c.entries_of-entries.ensures) ∙ vectors_converted a.n a.table.now (sym c.table_verdict-checked.ensures ∙ c.in-Ok.is) PathCounts a.kind)

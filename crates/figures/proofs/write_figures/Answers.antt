@@ -8,8 +8,8 @@ use native.Mathlib.Omega.{arith}
 use lib.IntN.{ℤ, pos}
 use lib.ListN.{length, take}
 use lib.Seq.{length-take-le}
+use Rattle.std.specs.Prelude.{Ok}
 use Rattle.answer.specs.Outcome.{front, delivered}
-use Rattle.answer.specs.declared.Verdict.TheVariants.{Accepted}
 use Rattle.answer.proofs.Outcomes.{then_accepted}
 use Rattle.numbers.proofs.Tables.{tabulate_length}
 use Rattle.theory_sets.specs.Tables.{in_table}
@@ -29,8 +29,8 @@ use Rattle.figures.proofs.Claims.{vectors_accepted, vectors_converted}
 use Rattle.figures.proofs.write_figures.Goals as goal
 
 -- the table is accepted, and there is room
-module _ (n : ℕ) (table : List ℕ) (counts signature domination importance : ℕ) (passed : figures_refusal n table counts signature domination importance ≡ Accepted) where
-  verdict : table_refusal n table ≡ Accepted
+module _ (n : ℕ) (table : List ℕ) (counts signature domination importance : ℕ) (passed : figures_refusal n table counts signature domination importance ≡ Ok tt) where
+  verdict : table_refusal n table ≡ Ok tt
   verdict = (then_accepted (table_refusal n table) (room_refusal n counts signature domination importance) passed).0
 
   accepted : AcceptedTable n table
@@ -42,7 +42,7 @@ module _ (n : ℕ) (table : List ℕ) (counts signature domination importance : 
       (then_accepted (table_refusal n table) (room_refusal n counts signature domination importance) passed).1
 
 -- the row of all path sets as entries
-module _ (n : ℕ) (table : List ℕ) (verdict : table_refusal n table ≡ Accepted) (rows : List ℕ) (counted : rows ≡ rows_in table) (made : List ℤ)
+module _ (n : ℕ) (table : List ℕ) (verdict : table_refusal n table ≡ Ok tt) (rows : List ℕ) (counted : rows ≡ rows_in table) (made : List ℤ)
     (is : made ≡ entries_of (row 16 rows)) where
   enough : n + 1 ≤ length made
   enough = omega (arith, (accepted_table n table verdict).few, ap length is ∙ tabulate_length 17 (λ s. pos (counts_of (row 16 rows) s)))
@@ -87,8 +87,8 @@ part_importances-made-requires c =
 pub slice_bounds-made-end : goal.slice_bounds-made-end
 slice_bounds-made-end c = made_room _ _ _ _ c.part_importances-made.ensures
 
-pub slice_bounds-hand_out_counts-end : goal.slice_bounds-hand_out_counts-end
-slice_bounds-hand_out_counts-end c = sym (length-take-le _ _ (made_room _ _ _ _ c.part_importances-made.ensures))
+pub slice_bounds-hand_out-end : goal.slice_bounds-hand_out-end
+slice_bounds-hand_out-end c = sym (length-take-le _ _ (made_room _ _ _ _ c.part_importances-made.ensures))
 
 pub returns : goal.returns
 returns c =
@@ -103,4 +103,4 @@ returns c =
     (stands.signature_after ∙ ap (λ (xs : List ℤ). front xs a.signature.now) (vector _ _ (verdict _ _ _ _ _ _ c.requires) _ c.rows_of-rows.ensures _ c.signed-entries.ensures Signature))
     (stands.domination_after ∙ ap (λ (xs : List ℤ). front xs a.domination.now) (vector _ _ (verdict _ _ _ _ _ _ c.requires) _ c.rows_of-rows.ensures _ c.signed-entries.ensures Domination))
     (importances_front a.n works a.importance.now _ _ (room _ _ _ _ _ _ c.requires).for_importance
-    (c.hand_out_counts.ensures ∙ ap (λ (xs : List ℕ). delivered Accepted xs a.importance.now) parts))
+    (c.hand_out.ensures ∙ ap (λ (xs : List ℕ). delivered (Ok tt) xs a.importance.now) parts))

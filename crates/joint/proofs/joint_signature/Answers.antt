@@ -4,8 +4,8 @@ use mathlib.Core.Path.{◌≡◌, sym, ap, ◌∙◌, subst}
 use mathlib.Core.List.{◌++◌}
 use Prim.Native.Nat.{ℕ, ◌*◌, ◌≤◌}
 use lib.ListN.{length, drop}
+use Rattle.std.specs.Prelude.{Ok}
 use Rattle.answer.specs.Outcome.{and_then, room}
-use Rattle.answer.specs.declared.Verdict.TheVariants.{Accepted}
 use Rattle.answer.proofs.Outcomes.{then_accepted, room_accepted}
 use Rattle.answer.proofs.Deliveries.{checked_refused, checked_whole}
 use Rattle.theory_sets.specs.Tables.{in_table}
@@ -16,12 +16,12 @@ use Rattle.joint.proofs.joint_signature.Goals as goal
 
 pub write_square-requires : goal.write_square-requires
 write_square-requires c =
-    let count : (accepted : joint_refusal c.args.n c.args.first.now c.args.second.now ≡ Accepted) → c.cells_needed-count.result ≡ c.args.n * c.args.n =
+    let count : (accepted : joint_refusal c.args.n c.args.first.now c.args.second.now ≡ Ok tt) → c.cells_needed-count.result ≡ c.args.n * c.args.n =
     λ accepted. let a = c.args in
     c.cells_needed-count.ensures (tables_accepted a.n a.first.now a.second.now accepted).0.few in
     -- nothing is refused, and there is room
-    let passed : and_then (joint_refusal c.args.n c.args.first.now c.args.second.now) (room c.cells_needed-count.result (length c.args.cells.now)) ≡ Accepted =
-    sym c.judge-judged.ensures ∙ c.in-Accepted.is in
+    let passed : and_then (joint_refusal c.args.n c.args.first.now c.args.second.now) (room c.cells_needed-count.result (length c.args.cells.now)) ≡ Ok tt =
+    sym c.judge-judged.ensures ∙ c.in-Ok.is in
     let a = c.args in
     let both = then_accepted (joint_refusal a.n a.first.now a.second.now) _ passed in
     record {
@@ -29,29 +29,29 @@ write_square-requires c =
       n_in_bounds = subst (λ (x : ℕ). x ≤ length a.cells.now) (count both.0) (room_accepted c.cells_needed-count.result (length a.cells.now) both.1);
     }
 
-pub returns-in-Refused : goal.returns-in-Refused
-returns-in-Refused c =
-    let count : (accepted : joint_refusal c.args.n c.args.first.now c.args.second.now ≡ Accepted) → c.cells_needed-count.result ≡ c.args.n * c.args.n =
+pub returns-in-Err : goal.returns-in-Err
+returns-in-Err c =
+    let count : (accepted : joint_refusal c.args.n c.args.first.now c.args.second.now ≡ Ok tt) → c.cells_needed-count.result ≡ c.args.n * c.args.n =
     λ accepted. let a = c.args in
     c.cells_needed-count.ensures (tables_accepted a.n a.first.now a.second.now accepted).0.few in
-    let long : (accepted : joint_refusal c.args.n c.args.first.now c.args.second.now ≡ Accepted) → c.cells_needed-count.result ≡ length (joint_square c.args.n (in_table c.args.first.now) (in_table c.args.second.now)) =
+    let long : (accepted : joint_refusal c.args.n c.args.first.now c.args.second.now ≡ Ok tt) → c.cells_needed-count.result ≡ length (joint_square c.args.n (in_table c.args.first.now) (in_table c.args.second.now)) =
     λ accepted. let a = c.args in
     (count accepted) ∙ sym (square_length a.n (in_table a.first.now) (in_table a.second.now)) in
     let a = c.args in
     checked_refused (joint_refusal a.n a.first.now a.second.now) (joint_square a.n (in_table a.first.now) (in_table a.second.now)) a.cells.now
-    c.cells_needed-count.result long (sym c.judge-judged.ensures ∙ c.in-Refused.is)
+    c.cells_needed-count.result long (sym c.judge-judged.ensures ∙ c.in-Err.is)
 
-pub returns-in-Accepted : goal.returns-in-Accepted
-returns-in-Accepted c =
-    let count : (accepted : joint_refusal c.args.n c.args.first.now c.args.second.now ≡ Accepted) → c.cells_needed-count.result ≡ c.args.n * c.args.n =
+pub returns-in-Ok : goal.returns-in-Ok
+returns-in-Ok c =
+    let count : (accepted : joint_refusal c.args.n c.args.first.now c.args.second.now ≡ Ok tt) → c.cells_needed-count.result ≡ c.args.n * c.args.n =
     λ accepted. let a = c.args in
     c.cells_needed-count.ensures (tables_accepted a.n a.first.now a.second.now accepted).0.few in
-    let long : (accepted : joint_refusal c.args.n c.args.first.now c.args.second.now ≡ Accepted) → c.cells_needed-count.result ≡ length (joint_square c.args.n (in_table c.args.first.now) (in_table c.args.second.now)) =
+    let long : (accepted : joint_refusal c.args.n c.args.first.now c.args.second.now ≡ Ok tt) → c.cells_needed-count.result ≡ length (joint_square c.args.n (in_table c.args.first.now) (in_table c.args.second.now)) =
     λ accepted. let a = c.args in
     (count accepted) ∙ sym (square_length a.n (in_table a.first.now) (in_table a.second.now)) in
     -- nothing is refused, and there is room
-    let passed : and_then (joint_refusal c.args.n c.args.first.now c.args.second.now) (room c.cells_needed-count.result (length c.args.cells.now)) ≡ Accepted =
-    sym c.judge-judged.ensures ∙ c.in-Accepted.is in
+    let passed : and_then (joint_refusal c.args.n c.args.first.now c.args.second.now) (room c.cells_needed-count.result (length c.args.cells.now)) ≡ Ok tt =
+    sym c.judge-judged.ensures ∙ c.in-Ok.is in
     let a = c.args in
     let refusal = joint_refusal a.n a.first.now a.second.now in
     let result = joint_square a.n (in_table a.first.now) (in_table a.second.now) in

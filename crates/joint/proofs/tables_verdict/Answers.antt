@@ -6,15 +6,15 @@ use Rattle.structure.specs.Checks.{table_refusal}
 use Rattle.joint.specs.Refusals.{joint_refusal}
 use Rattle.joint.proofs.tables_verdict.Goals as goal
 
-pub returns-in-Refused : goal.returns-in-Refused
+pub returns-in-Err : goal.returns-in-Err
 unfolding joint_refusal
-returns-in-Refused c =
+returns-in-Err c =
     let a = c.args in
-    sym (then_refused (table_refusal a.n a.second.now) (sym c.table_verdict-checked.ensures ∙ c.in-Refused.is))
+    sym (then_refused (table_refusal a.n a.second.now) (sym c.table_verdict-checked.ensures ∙ c.in-Err.is))
 
-pub returns-in-Accepted : goal.returns-in-Accepted
+pub returns-in-Ok : goal.returns-in-Ok
 unfolding joint_refusal
-returns-in-Accepted c =
+returns-in-Ok c =
     let a = c.args in
     c.table_verdict.ensures
-    ∙ sym (then_passed (table_refusal a.n a.second.now) (sym c.table_verdict-checked.ensures ∙ c.in-Accepted.is))
+    ∙ sym (then_passed (table_refusal a.n a.second.now) (sym c.table_verdict-checked.ensures ∙ c.in-Ok.is))

@@ -4,8 +4,8 @@ use mathlib.Core.Path.{sym, ap}
 use Rattle.nahokipe.specs.Answers.{of_value}
 use Rattle.nahokipe.proofs.of_value.Goals as goal
 
-pub returns-in-Given : goal.returns-in-Given
-returns-in-Given c = sym (ap of_value c.in-Given.is)
+pub returns-in-Ok : goal.returns-in-Ok
+returns-in-Ok c = sym (ap of_value c.in-Ok.is)
 
-pub returns-in-Refused : goal.returns-in-Refused
-returns-in-Refused c = sym (ap of_value c.in-Refused.is)
+pub returns-in-Err : goal.returns-in-Err
+returns-in-Err c = sym (ap of_value c.in-Err.is)

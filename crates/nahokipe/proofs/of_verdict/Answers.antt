@@ -4,8 +4,8 @@ use mathlib.Core.Path.{sym, ap}
 use Rattle.nahokipe.specs.Answers.{of_verdict}
 use Rattle.nahokipe.proofs.of_verdict.Goals as goal
 
-pub returns-in-Accepted : goal.returns-in-Accepted
-returns-in-Accepted c = sym (ap of_verdict c.in-Accepted.is)
+pub returns-in-Ok : goal.returns-in-Ok
+returns-in-Ok c = sym (ap of_verdict c.in-Ok.is)
 
-pub returns-in-Refused : goal.returns-in-Refused
-returns-in-Refused c = sym (ap of_verdict c.in-Refused.is)
+pub returns-in-Err : goal.returns-in-Err
+returns-in-Err c = sym (ap of_verdict c.in-Err.is)

@@ -4,8 +4,8 @@ use mathlib.Core.Path.{sym, ap}
 use Rattle.nahokipe.specs.Answers.{of_written}
 use Rattle.nahokipe.proofs.of_written.Goals as goal
 
-pub returns-in-Length : goal.returns-in-Length
-returns-in-Length c = sym (ap of_written c.in-Length.is)
+pub returns-in-Ok : goal.returns-in-Ok
+returns-in-Ok c = sym (ap of_written c.in-Ok.is)
 
-pub returns-in-Refused : goal.returns-in-Refused
-returns-in-Refused c = sym (ap of_written c.in-Refused.is)
+pub returns-in-Err : goal.returns-in-Err
+returns-in-Err c = sym (ap of_written c.in-Err.is)

@@ -5,6 +5,7 @@ use mathlib.Core.Bool.{not}
 use Prim.Native.Nat.{ℕ}
 use native.Mathlib.Nat.{sub-zero}
 use native.Mathlib.Omega.{arith}
+use Rattle.std.specs.Prelude.{Err}
 use Rattle.codec.proofs.Found.{answer_number, answer_refused}
 use Rattle.structure_words.specs.Words.{in_words}
 use Rattle.record.specs.Inside.{nested_at}
@@ -25,16 +26,16 @@ returns-in_default c =
 pub returns-then-not-works : goal.returns-then-not-works
 returns-then-not-works c =
     let a = c.args in
-    c.refused.ensures
+    (ap Err c.at.ensures)
     ∙ nested_here a.bytes.now (in_words a.minimal.now) a.count c.loop-index.index c.loop-index.next c.loop-index-test.true _ _
-    (answer_number _ _ _ (sym c.in-Number.is ∙ c.read_number-number.ensures)) (ap not (sym c.works.ensures ∙ c.if-not-works.true)) ∙ c.loop-index.invariant.1
+    (answer_number _ _ _ (sym c.in-Ok.is ∙ c.read_number-number.ensures)) (ap not (sym c.works.ensures ∙ c.if-not-works.true)) ∙ c.loop-index.invariant.1
 
 pub loop-index-preserved : goal.loop-index-preserved
 loop-index-preserved c =
     let a = c.args in (
       omega arith,
       nested_past a.bytes.now (in_words a.minimal.now) a.count c.loop-index.index c.loop-index.next c.loop-index-test.true _ _
-          (answer_number _ _ _ (sym c.in-Number.is ∙ c.read_number-number.ensures)) (ap not (sym c.works.ensures ∙ c.if-not-works.false)) ∙ c.loop-index.invariant.1,
+          (answer_number _ _ _ (sym c.in-Ok.is ∙ c.read_number-number.ensures)) (ap not (sym c.works.ensures ∙ c.if-not-works.false)) ∙ c.loop-index.invariant.1,
     )
 
 pub returns : goal.returns

@@ -3,8 +3,8 @@
 use mathlib.Core.Path.{◌≡◌, sym, ap, ap₂, ◌∙◌}
 use mathlib.Core.List.{List, []}
 use Prim.Native.Nat.{ℕ, min}
-use Rattle.answer.specs.declared.Verdict.{Verdict}
-use Rattle.answer.specs.declared.Verdict.TheVariants.{Accepted}
+use Rattle.std.specs.Prelude.{Ok}
+use Rattle.answer.specs.Outcome.{Verdict}
 use Rattle.structure_words.specs.Words.{in_words, words_of}
 use Rattle.structure_closure.specs.Closure.{spread, irredundant}
 use Rattle.record.specs.declared.Marked.{Marked}
@@ -29,22 +29,22 @@ passes c =
     ∙ ap (λ (v : Verdict). decided v p)
     (sym (c.first_nested-nested.ensures ∙ ap₂ (λ (w : List ℕ) (r : ℕ). nested_at a.bytes.now (in_words w) r a.start) minimal (ap (λ (m : Marked). m.read) marked)))
 
-pub returns-in-Refused : goal.returns-in-Refused
-returns-in-Refused c =
+pub returns-in-Err : goal.returns-in-Err
+returns-in-Err c =
     let a = c.args in
-    c.refused_sets.ensures ∙ sym (ap (sets_read_of a.n) (passes (goal.at.returns-in-Refused c).After-first_nested-nested ∙ decided_nested _ _ _ c.in-Refused.is))
+    c.refused_sets.ensures ∙ sym (ap (sets_read_of a.n) (passes (goal.at.returns-in-Err c).After-first_nested-nested ∙ decided_nested _ _ _ c.in-Err.is))
 
-pub returns-in-Refused-verdict : goal.returns-in-Refused-verdict
-returns-in-Refused-verdict c =
+pub returns-in-Err-verdict : goal.returns-in-Err-verdict
+returns-in-Err-verdict c =
     let a = c.args in
-    c.refused_sets-in-Refused-verdict.ensures
-    ∙ sym (ap (sets_read_of a.n) (passes (goal.at.returns-in-Refused-verdict c).After-first_nested-nested ∙ decided_refused _ _ _ c.in_default.is (sym (ap (λ (m : Marked). m.verdict) c.mark_sets-marked.ensures) ∙ c.in-Refused-verdict.is)))
+    c.refused_sets-in-Err-verdict.ensures
+    ∙ sym (ap (sets_read_of a.n) (passes (goal.at.returns-in-Err-verdict c).After-first_nested-nested ∙ decided_refused _ _ _ c.in_default.is (sym (ap (λ (m : Marked). m.verdict) c.mark_sets-marked.ensures) ∙ c.in-Err-verdict.is)))
 
-pub returns-in-Accepted : goal.returns-in-Accepted
-returns-in-Accepted c =
+pub returns-in-Ok : goal.returns-in-Ok
+returns-in-Ok c =
     let a = c.args in
     let marked = c.mark_sets-marked.ensures in
     let words = c.spread-reached.ensures ∙ ap (λ (m : Marked). words_of (spread (min a.n 16) (in_words m.words))) marked
     ∙ pass_words a.bytes.now a.n a.count a.start c.requires in
-    ap₂ (λ (w : List ℕ) (end : ℕ). record { words = w; end = end; verdict = Accepted }) words (ap (λ (m : Marked). m.next) marked)
-    ∙ sym (ap (sets_read_of a.n) (passes (goal.at.returns-in-Accepted c).After-first_nested-nested ∙ decided_given _ _ c.in_default.is (sym (ap (λ (m : Marked). m.verdict) marked) ∙ c.in-Accepted.is)))
+    ap₂ (λ (w : List ℕ) (end : ℕ). record { words = w; end = end; verdict = (Ok tt) }) words (ap (λ (m : Marked). m.next) marked)
+    ∙ sym (ap (sets_read_of a.n) (passes (goal.at.returns-in-Ok c).After-first_nested-nested ∙ decided_given _ _ c.in_default.is (sym (ap (λ (m : Marked). m.verdict) marked) ∙ c.in-Ok.is)))

@@ -7,34 +7,34 @@ use Rattle.record_head.proofs.Answers.{head_few, heading_given, heading_refused}
 use Rattle.record.proofs.Answers.{sets_given, sets_refused, record_no_head, record_no_sets, record_given}
 use Rattle.record.specs.Contents.{with_words_of}
 use Rattle.record.proofs.read_with_words.Goals as goal
-use Rattle.record.proofs.read_with_words.Goals.{In-Accepted}
+use Rattle.record.proofs.read_with_words.Goals.{In-Ok}
 
 -- what stands before the sets, which was read
-head : (c : In-Accepted) → head_at c.args.bytes.now c.args.start
+head : (c : In-Ok) → head_at c.args.bytes.now c.args.start
     ≡ found (record { parts = c.read_heading-heading.result.list; count = c.read_heading-heading.result.sets }) c.read_heading-heading.result.begin
 head c =
-    heading_given _ c.read_heading-heading.result c.read_heading-heading.ensures c.in-Accepted.is
+    heading_given _ c.read_heading-heading.result c.read_heading-heading.ensures c.in-Ok.is
 
 pub read_sets-read-requires : goal.read_sets-read-requires
 read_sets-read-requires c =
     let a = c.args in
-    head_few a.bytes.now a.start _ _ (head (goal.at.read_sets-read-requires c).In-Accepted)
+    head_few a.bytes.now a.start _ _ (head (goal.at.read_sets-read-requires c).In-Ok)
 
-pub returns-in-Refused : goal.returns-in-Refused
-returns-in-Refused c =
+pub returns-in-Err : goal.returns-in-Err
+returns-in-Err c =
     let a = c.args in
     c.refused_with_words.ensures
-    ∙ sym (ap with_words_of (record_no_head a.bytes.now a.start _ (heading_refused _ c.read_heading-heading.result _ c.read_heading-heading.ensures c.in-Refused.is)))
+    ∙ sym (ap with_words_of (record_no_head a.bytes.now a.start _ (heading_refused _ c.read_heading-heading.result _ c.read_heading-heading.ensures c.in-Err.is)))
 
-pub returns-in-Refused-judged : goal.returns-in-Refused-judged
-returns-in-Refused-judged c =
+pub returns-in-Err-judged : goal.returns-in-Err-judged
+returns-in-Err-judged c =
     let a = c.args in
-    c.refused_with_words-in-Refused-judged.ensures
-    ∙ sym (ap with_words_of (record_no_sets a.bytes.now a.start _ _ _ (head (goal.at.returns-in-Refused-judged c).In-Accepted) (sets_refused _ _ c.read_sets-read.result _ c.read_sets-read.ensures c.in-Refused-judged.is)))
+    c.refused_with_words-in-Err-judged.ensures
+    ∙ sym (ap with_words_of (record_no_sets a.bytes.now a.start _ _ _ (head (goal.at.returns-in-Err-judged c).In-Ok) (sets_refused _ _ c.read_sets-read.result _ c.read_sets-read.ensures c.in-Err-judged.is)))
 
-pub returns-in-Accepted-judged : goal.returns-in-Accepted-judged
-returns-in-Accepted-judged c =
+pub returns-in-Ok-judged : goal.returns-in-Ok-judged
+returns-in-Ok-judged c =
     let a = c.args in
     let heading = c.read_heading-heading.result in
-    let sets = sets_given _ _ c.read_sets-read.result c.read_sets-read.ensures c.in-Accepted-judged.is in
-    record_given a.bytes.now a.start (record { parts = heading.list; count = heading.sets }) heading.begin sets.sets _ _ (head (goal.at.returns-in-Accepted-judged c).In-Accepted) sets.given sets.words
+    let sets = sets_given _ _ c.read_sets-read.result c.read_sets-read.ensures c.in-Ok-judged.is in
+    record_given a.bytes.now a.start (record { parts = heading.list; count = heading.sets }) heading.begin sets.sets _ _ (head (goal.at.returns-in-Ok-judged c).In-Ok) sets.given sets.words

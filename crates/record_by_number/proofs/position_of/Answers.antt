@@ -7,11 +7,11 @@ use Rattle.record_by_number.specs.Parts.{part_position}
 use Rattle.record_by_number.proofs.Looking.{DesignSeen, looked_refused, looked_design, numbers_room, numbers_counted, looked_up_lem}
 use Rattle.record_by_number.proofs.position_of.Goals as goal
 
-pub returns-in-Refused : goal.returns-in-Refused
+pub returns-in-Err : goal.returns-in-Err
 unfolding part_position
-returns-in-Refused c =
+returns-in-Err c =
     let a = c.args in
-    looked_refused a.bytes.now (λ i. omega (arith, c.shared_slice_known-1.given i)) c.whole_record-contents.result c.whole_record-contents.ensures _ c.in-Refused.is
+    looked_refused a.bytes.now (λ i. omega (arith, c.shared_slice_known-1.given i)) c.whole_record-contents.result c.whole_record-contents.ensures _ c.in-Err.is
     (λ numbers. found_position numbers a.number)
 
 pub slice_bounds-numbers-end : goal.slice_bounds-numbers-end

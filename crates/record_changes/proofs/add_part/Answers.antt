@@ -3,7 +3,7 @@
 use mathlib.Core.Path.{◌≡◌, refl, sym, ap, ◌∙◌}
 use native.Mathlib.Omega.{arith}
 use lib.ListN.{length}
-use Rattle.answer.specs.declared.Verdict.TheVariants.{Accepted}
+use Rattle.std.specs.Prelude.{Ok}
 use Rattle.record_parts.specs.declared.Changed.{Changed}
 use Rattle.record_parts.specs.Changes.{part_added}
 use Rattle.record_lines.specs.Changes.{add_part, change_refusal}
@@ -31,7 +31,7 @@ write_stored-requires c =
     -- the part list's answer is that of the design's
     let list_changed : c.add-changed.result ≡ part_added (d read).parts =
     c.add-changed.ensures ∙ ap part_added read.list in
-    let made : change_refusal add_part (d read) ≡ Accepted =
+    let made : change_refusal add_part (d read) ≡ Ok tt =
     let r = read in
     add_made (d r) (design_kept r) _ (sym (ap (λ (x : Changed). x.answer) list_changed) ∙ c.in_default-numbered.is) in
     let r = read in
@@ -41,20 +41,20 @@ write_stored-requires c =
       count_in_bounds = retired_inside r;
     }
 
-pub returns-in-Refused : goal.returns-in-Refused
-returns-in-Refused c =
+pub returns-in-Err : goal.returns-in-Err
+returns-in-Err c =
     let a = c.args in
-    opened_refused a.bytes.now c.open_record-opened.result c.open_record-opened.ensures _ c.in-Refused.is add_part a.buffer.now
+    opened_refused a.bytes.now c.open_record-opened.result c.open_record-opened.ensures _ c.in-Err.is add_part a.buffer.now
 
-pub returns-in-Refused-numbered : goal.returns-in-Refused-numbered
-returns-in-Refused-numbered c =
+pub returns-in-Err-numbered : goal.returns-in-Err-numbered
+returns-in-Err-numbered c =
     -- what was opened, where the record is accepted
     let read = opened_record c.args.bytes.now _ c.open_record-opened.ensures (λ i. omega (arith, c.shared_slice_known-1.given i)) c.in_default.is in
     -- the part list's answer is that of the design's
     let list_changed : c.add-changed.result ≡ part_added (d read).parts =
     c.add-changed.ensures ∙ ap part_added read.list in
     let r = read in
-    change_refused r add_part _ (add_refused (d r) (design_kept r) _ (sym (ap (λ (x : Changed). x.answer) list_changed) ∙ c.in-Refused-numbered.is))
+    change_refused r add_part _ (add_refused (d r) (design_kept r) _ (sym (ap (λ (x : Changed). x.answer) list_changed) ∙ c.in-Err-numbered.is))
     c.args.buffer.now
 
 pub returns : goal.returns
@@ -64,7 +64,7 @@ returns c =
     -- the part list's answer is that of the design's
     let list_changed : c.add-changed.result ≡ part_added (d read).parts =
     c.add-changed.ensures ∙ ap part_added read.list in
-    let made : change_refusal add_part (d read) ≡ Accepted =
+    let made : change_refusal add_part (d read) ≡ Ok tt =
     let r = read in
     add_made (d r) (design_kept r) _ (sym (ap (λ (x : Changed). x.answer) list_changed) ∙ c.in_default-numbered.is) in
     let r = read in

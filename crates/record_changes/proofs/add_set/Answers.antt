@@ -6,10 +6,8 @@ use mathlib.Core.List.{List, ◌∷◌}
 use Prim.Native.Nat.{ℕ, ◌≤◌}
 use native.Mathlib.Omega.{arith}
 use lib.ListN.{length, take, replicate, length-replicate}
-use Rattle.answer.specs.Outcome.{outcome, delivered}
-use Rattle.answer.specs.declared.Verdict.{Verdict}
-use Rattle.answer.specs.declared.Verdict.TheVariants.{Accepted}
-use Rattle.answer.specs.declared.Written.{Written}
+use Rattle.std.specs.Prelude.{Ok}
+use Rattle.answer.specs.Outcome.{outcome, delivered, Numbered, Verdict}
 use Rattle.record_parts.specs.declared.PartList.{PartList}
 use Rattle.theory_sets.specs.Structures.{listed, minimal_sets}
 use Rattle.record_sets.specs.Lists.{with_set_refusal}
@@ -24,7 +22,7 @@ use Rattle.record_changes.proofs.add_set.Goals as goal
 
 -- what the call for the minimal sets answers: those of the changed design, or what refuses the change
 module _ (set : ℕ) {bytes : List ℕ} {o : Opened} (r : RecordOpened bytes o) where
-  found_is : (result : Written) (sets : List ℕ)
+  found_is : (result : Numbered) (sets : List ℕ)
       → outcome result sets ≡ delivered (with_set_refusal o.list.count (take o.count o.sets) set) (minimal_sets o.list.count (listed (set ∷ take o.count o.sets))) (replicate 12870 0)
       → outcome result sets ≡ delivered (change_refusal (add_set set) (d r)) (changed (add_set set) (d r)).sets (replicate 12870 0)
   found_is result sets e =
@@ -32,7 +30,7 @@ module _ (set : ℕ) {bytes : List ℕ} {o : Opened} (r : RecordOpened bytes o) 
       ∙ ap₂ (λ (n : ℕ) (l : List ℕ). delivered (with_set_refusal n l set) (minimal_sets n (listed (set ∷ l))) (replicate 12870 0)) (ap (λ (l : PartList). l.count) r.list) (sets_front r)
       ∙ ap (λ (v : Verdict). delivered v (changed (add_set set) (d r)).sets (replicate 12870 0)) (with_set (d r) (design_kept r) set)
 
-  most : change_refusal (add_set set) (d r) ≡ Accepted → length (changed (add_set set) (d r)).sets ≤ 12870
+  most : change_refusal (add_set set) (d r) ≡ Ok tt → length (changed (add_set set) (d r)).sets ≤ 12870
   most accepted = (changed_rules (add_set set) (d r) (design_kept r) accepted).sets.most
 
 pub slice_bounds-minimal_with-end : goal.slice_bounds-minimal_with-end
@@ -46,8 +44,8 @@ slice_bounds-minimal-end c =
     let a = c.args in
     let r = opened_record a.bytes.now _ c.open_record-opened.ensures (λ i. omega (arith, c.shared_slice_known-1.given i)) c.in_default.is in
     let found = found_is a.set r c.minimal_with-found.result c.minimal_with-found.new.sets c.minimal_with-found.ensures in
-    let built = given (change_refusal (add_set a.set) (d r)) (changed (add_set a.set) (d r)).sets (replicate 12870 0) c.minimal_with-found.new.sets c.in-Length.left
-    (ap (λ (x : Written). outcome x c.minimal_with-found.new.sets) (sym c.in-Length.is) ∙ found) in
+    let built = given (change_refusal (add_set a.set) (d r)) (changed (add_set a.set) (d r)).sets (replicate 12870 0) c.minimal_with-found.new.sets c.in-Ok.left
+    (ap (λ (x : Numbered). outcome x c.minimal_with-found.new.sets) (sym c.in-Ok.is) ∙ found) in
     omega (arith, built.counted, most a.set r built.accepted)
 
 pub slice_bounds-write_stored-end : goal.slice_bounds-write_stored-end
@@ -55,8 +53,8 @@ slice_bounds-write_stored-end c =
     let a = c.args in
     let r = opened_record a.bytes.now _ c.open_record-opened.ensures (λ i. omega (arith, c.shared_slice_known-1.given i)) c.in_default.is in
     let found = found_is a.set r c.minimal_with-found.result c.minimal_with-found.new.sets c.minimal_with-found.ensures in
-    let built = given (change_refusal (add_set a.set) (d r)) (changed (add_set a.set) (d r)).sets (replicate 12870 0) c.minimal_with-found.new.sets c.in-Length.left
-    (ap (λ (x : Written). outcome x c.minimal_with-found.new.sets) (sym c.in-Length.is) ∙ found) in
+    let built = given (change_refusal (add_set a.set) (d r)) (changed (add_set a.set) (d r)).sets (replicate 12870 0) c.minimal_with-found.new.sets c.in-Ok.left
+    (ap (λ (x : Numbered). outcome x c.minimal_with-found.new.sets) (sym c.in-Ok.is) ∙ found) in
     built.counted ∙ ap length (sym built.front)
 
 pub write_stored-requires : goal.write_stored-requires
@@ -64,36 +62,36 @@ write_stored-requires c =
     let a = c.args in
     let r = opened_record a.bytes.now _ c.open_record-opened.ensures (λ i. omega (arith, c.shared_slice_known-1.given i)) c.in_default.is in
     let found = found_is a.set r c.minimal_with-found.result c.minimal_with-found.new.sets c.minimal_with-found.ensures in
-    let built = given (change_refusal (add_set a.set) (d r)) (changed (add_set a.set) (d r)).sets (replicate 12870 0) c.minimal_with-found.new.sets c.in-Length.left
-    (ap (λ (x : Written). outcome x c.minimal_with-found.new.sets) (sym c.in-Length.is) ∙ found) in
+    let built = given (change_refusal (add_set a.set) (d r)) (changed (add_set a.set) (d r)).sets (replicate 12870 0) c.minimal_with-found.new.sets c.in-Ok.left
+    (ap (λ (x : Numbered). outcome x c.minimal_with-found.new.sets) (sym c.in-Ok.is) ∙ found) in
     record {
       design_rules = change_rules r (add_set a.set) built.accepted _ _ r.list built.front;
       count_le_most_retired = retired_few r;
       count_in_bounds = retired_inside r;
     }
 
-pub returns-in-Refused : goal.returns-in-Refused
-returns-in-Refused c =
+pub returns-in-Err : goal.returns-in-Err
+returns-in-Err c =
     let a = c.args in
-    opened_refused a.bytes.now c.open_record-opened.result c.open_record-opened.ensures _ c.in-Refused.is (add_set a.set) a.buffer.now
+    opened_refused a.bytes.now c.open_record-opened.result c.open_record-opened.ensures _ c.in-Err.is (add_set a.set) a.buffer.now
 
-pub returns-in-Refused-found : goal.returns-in-Refused-found
-returns-in-Refused-found c =
+pub returns-in-Err-found : goal.returns-in-Err-found
+returns-in-Err-found c =
     let a = c.args in
     let r = opened_record a.bytes.now _ c.open_record-opened.ensures (λ i. omega (arith, c.shared_slice_known-1.given i)) c.in_default.is in
     let found = found_is a.set r c.minimal_with-found.result c.minimal_with-found.new.sets c.minimal_with-found.ensures in
     change_refused r (add_set a.set) _
     (refused_by (change_refusal (add_set a.set) (d r)) (changed (add_set a.set) (d r)).sets (replicate 12870 0) c.minimal_with-found.new.sets _
     (λ accepted. subst (λ (k : ℕ). length (changed (add_set a.set) (d r)).sets ≤ k) (sym (length-replicate {A = ℕ} 12870 0)) (most a.set r accepted))
-    (ap (λ (x : Written). outcome x c.minimal_with-found.new.sets) (sym c.in-Refused-found.is) ∙ found))
+    (ap (λ (x : Numbered). outcome x c.minimal_with-found.new.sets) (sym c.in-Err-found.is) ∙ found))
     a.buffer.now
 
-pub returns-in-Length : goal.returns-in-Length
-returns-in-Length c =
+pub returns-in-Ok : goal.returns-in-Ok
+returns-in-Ok c =
     let a = c.args in
     let r = opened_record a.bytes.now _ c.open_record-opened.ensures (λ i. omega (arith, c.shared_slice_known-1.given i)) c.in_default.is in
     let found = found_is a.set r c.minimal_with-found.result c.minimal_with-found.new.sets c.minimal_with-found.ensures in
-    let built = given (change_refusal (add_set a.set) (d r)) (changed (add_set a.set) (d r)).sets (replicate 12870 0) c.minimal_with-found.new.sets c.in-Length.left
-    (ap (λ (x : Written). outcome x c.minimal_with-found.new.sets) (sym c.in-Length.is) ∙ found) in
+    let built = given (change_refusal (add_set a.set) (d r)) (changed (add_set a.set) (d r)).sets (replicate 12870 0) c.minimal_with-found.new.sets c.in-Ok.left
+    (ap (λ (x : Numbered). outcome x c.minimal_with-found.new.sets) (sym c.in-Ok.is) ∙ found) in
     c.write_stored.ensures
     ∙ change_made r (add_set a.set) (unconverted_refusal (add_set a.set) r.s refl ∙ built.accepted) _ _ _ _ a.buffer.now r.edition r.list built.front (kept_retired r)

@@ -6,10 +6,8 @@ use mathlib.Core.List.{List}
 use Prim.Native.Nat.{ℕ, ◌≤◌}
 use native.Mathlib.Omega.{arith}
 use lib.ListN.{length, replicate, length-replicate}
-use Rattle.answer.specs.Outcome.{outcome, delivered}
-use Rattle.answer.specs.declared.Verdict.{Verdict}
-use Rattle.answer.specs.declared.Verdict.TheVariants.{Accepted}
-use Rattle.answer.specs.declared.Written.{Written}
+use Rattle.std.specs.Prelude.{Ok}
+use Rattle.answer.specs.Outcome.{outcome, delivered, Numbered, Verdict}
 use Rattle.answer.proofs.Outcomes.{then_passed, then_refused}
 use Rattle.answer.proofs.Deliveries.{refused_kept, Given, given, refused_by}
 use Rattle.theory_orders.proofs.Sperner.{minimal_sets_most}
@@ -33,12 +31,12 @@ slice_bounds-sets-end c =
     c.args.list.now in
     let minimal : List ℕ =
     minimal_sets (length numbers) (listed list) in
-    let built : Given (list_refusal (length numbers) list) minimal (replicate 12870 0) c.minimal_of_list-found.new.sets c.in-Length.count =
-    given _ _ (replicate 12870 0) c.minimal_of_list-found.new.sets c.in-Length.count
-    (ap (λ (x : Written). outcome x c.minimal_of_list-found.new.sets) (sym c.in-Length.is) ∙ c.minimal_of_list-found.ensures) in
+    let built : Given (list_refusal (length numbers) list) minimal (replicate 12870 0) c.minimal_of_list-found.new.sets c.in-Ok.count =
+    given _ _ (replicate 12870 0) c.minimal_of_list-found.new.sets c.in-Ok.count
+    (ap (λ (x : Numbered). outcome x c.minimal_of_list-found.new.sets) (sym c.in-Ok.is) ∙ c.minimal_of_list-found.ensures) in
     let few : length numbers ≤ 16 =
     (accepted_list (length numbers) list built.accepted).few in
-    let most : c.in-Length.count ≤ 12870 =
+    let most : c.in-Ok.count ≤ 12870 =
     omega (arith, built.counted, minimal_sets_most (length numbers) (listed list) few) in
     omega (arith, most)
 
@@ -50,9 +48,9 @@ slice_bounds-write_record-end c =
     c.args.list.now in
     let minimal : List ℕ =
     minimal_sets (length numbers) (listed list) in
-    let built : Given (list_refusal (length numbers) list) minimal (replicate 12870 0) c.minimal_of_list-found.new.sets c.in-Length.count =
-    given _ _ (replicate 12870 0) c.minimal_of_list-found.new.sets c.in-Length.count
-    (ap (λ (x : Written). outcome x c.minimal_of_list-found.new.sets) (sym c.in-Length.is) ∙ c.minimal_of_list-found.ensures) in
+    let built : Given (list_refusal (length numbers) list) minimal (replicate 12870 0) c.minimal_of_list-found.new.sets c.in-Ok.count =
+    given _ _ (replicate 12870 0) c.minimal_of_list-found.new.sets c.in-Ok.count
+    (ap (λ (x : Numbered). outcome x c.minimal_of_list-found.new.sets) (sym c.in-Ok.is) ∙ c.minimal_of_list-found.ensures) in
     built.counted ∙ ap length (sym built.front)
 
 pub write_record-requires : goal.write_record-requires
@@ -63,18 +61,18 @@ write_record-requires c =
     c.args.list.now in
     let minimal : List ℕ =
     minimal_sets (length numbers) (listed list) in
-    let built : Given (list_refusal (length numbers) list) minimal (replicate 12870 0) c.minimal_of_list-found.new.sets c.in-Length.count =
-    given _ _ (replicate 12870 0) c.minimal_of_list-found.new.sets c.in-Length.count
-    (ap (λ (x : Written). outcome x c.minimal_of_list-found.new.sets) (sym c.in-Length.is) ∙ c.minimal_of_list-found.ensures) in
+    let built : Given (list_refusal (length numbers) list) minimal (replicate 12870 0) c.minimal_of_list-found.new.sets c.in-Ok.count =
+    given _ _ (replicate 12870 0) c.minimal_of_list-found.new.sets c.in-Ok.count
+    (ap (λ (x : Numbered). outcome x c.minimal_of_list-found.new.sets) (sym c.in-Ok.is) ∙ c.minimal_of_list-found.ensures) in
     let few : length numbers ≤ 16 =
     (accepted_list (length numbers) list built.accepted).few in
-    let most : c.in-Length.count ≤ 12870 =
+    let most : c.in-Ok.count ≤ 12870 =
     omega (arith, built.counted, minimal_sets_most (length numbers) (listed list) few) in
     record { numbers_len_bound = few; sets_len_bound = omega (arith, built.counted, ap length built.front, most) }
 
-pub returns-in-Refused : goal.returns-in-Refused
+pub returns-in-Err : goal.returns-in-Err
 unfolding entered_record
-returns-in-Refused c =
+returns-in-Err c =
     let list : List ℕ =
     c.args.list.now in
     let a = c.args in
@@ -84,13 +82,13 @@ returns-in-Refused c =
     refused_by (list_refusal n list) (minimal_sets n (listed list)) (replicate 12870 0) c.minimal_of_list-found.new.sets _
     (λ accepted. subst (λ (k : ℕ). length (minimal_sets n (listed list)) ≤ k) (sym (length-replicate {A = ℕ} 12870 0))
     (minimal_sets_most n (listed list) (accepted_list n list accepted).few))
-    (ap (λ (x : Written). outcome x c.minimal_of_list-found.new.sets) (sym c.in-Refused.is) ∙ c.minimal_of_list-found.ensures) in
+    (ap (λ (x : Numbered). outcome x c.minimal_of_list-found.new.sets) (sym c.in-Err.is) ∙ c.minimal_of_list-found.ensures) in
     refused_kept (entered_refusal a.mark a.numbers.now list) (record_bytes (entered_design a.mark a.numbers.now list)) a.buffer.now _
     (then_refused (numbers_refusal 0 a.mark 0 a.numbers.now) refused)
 
-pub returns-in-Refused-verdict : goal.returns-in-Refused-verdict
+pub returns-in-Err-verdict : goal.returns-in-Err-verdict
 unfolding entered_record
-returns-in-Refused-verdict c =
+returns-in-Err-verdict c =
     let numbers : List ℕ =
     c.args.numbers.now in
     let list : List ℕ =
@@ -99,9 +97,9 @@ returns-in-Refused-verdict c =
     c.args.mark in
     let minimal : List ℕ =
     minimal_sets (length numbers) (listed list) in
-    let built : Given (list_refusal (length numbers) list) minimal (replicate 12870 0) c.minimal_of_list-found.new.sets c.in-Length.count =
-    given _ _ (replicate 12870 0) c.minimal_of_list-found.new.sets c.in-Length.count
-    (ap (λ (x : Written). outcome x c.minimal_of_list-found.new.sets) (sym c.in-Length.is) ∙ c.minimal_of_list-found.ensures) in
+    let built : Given (list_refusal (length numbers) list) minimal (replicate 12870 0) c.minimal_of_list-found.new.sets c.in-Ok.count =
+    given _ _ (replicate 12870 0) c.minimal_of_list-found.new.sets c.in-Ok.count
+    (ap (λ (x : Numbered). outcome x c.minimal_of_list-found.new.sets) (sym c.in-Ok.is) ∙ c.minimal_of_list-found.ensures) in
     let few : length numbers ≤ 16 =
     (accepted_list (length numbers) list built.accepted).few in
     -- so the numbers alone are left to be judged
@@ -110,11 +108,11 @@ returns-in-Refused-verdict c =
     ∙ sym (then_passed (numbers_refusal 0 mark 0 numbers) built.accepted) in
     let a = c.args in
     refused_kept (entered_refusal mark numbers list) (record_bytes (entered_design mark numbers list)) a.buffer.now _
-    (sym judged ∙ sym c.judge-verdict.ensures ∙ c.in-Refused-verdict.is)
+    (sym judged ∙ sym c.judge-verdict.ensures ∙ c.in-Err-verdict.is)
 
-pub returns-in-Accepted : goal.returns-in-Accepted
+pub returns-in-Ok : goal.returns-in-Ok
 unfolding entered_record
-returns-in-Accepted c =
+returns-in-Ok c =
     let numbers : List ℕ =
     c.args.numbers.now in
     let list : List ℕ =
@@ -123,9 +121,9 @@ returns-in-Accepted c =
     c.args.mark in
     let minimal : List ℕ =
     minimal_sets (length numbers) (listed list) in
-    let built : Given (list_refusal (length numbers) list) minimal (replicate 12870 0) c.minimal_of_list-found.new.sets c.in-Length.count =
-    given _ _ (replicate 12870 0) c.minimal_of_list-found.new.sets c.in-Length.count
-    (ap (λ (x : Written). outcome x c.minimal_of_list-found.new.sets) (sym c.in-Length.is) ∙ c.minimal_of_list-found.ensures) in
+    let built : Given (list_refusal (length numbers) list) minimal (replicate 12870 0) c.minimal_of_list-found.new.sets c.in-Ok.count =
+    given _ _ (replicate 12870 0) c.minimal_of_list-found.new.sets c.in-Ok.count
+    (ap (λ (x : Numbered). outcome x c.minimal_of_list-found.new.sets) (sym c.in-Ok.is) ∙ c.minimal_of_list-found.ensures) in
     let few : length numbers ≤ 16 =
     (accepted_list (length numbers) list built.accepted).few in
     -- so the numbers alone are left to be judged
@@ -133,7 +131,7 @@ returns-in-Accepted c =
     refusal_counted (length numbers) mark numbers (λ none. omega (arith, (accepted_list (length numbers) list built.accepted).some)) few
     ∙ sym (then_passed (numbers_refusal 0 mark 0 numbers) built.accepted) in
     let a = c.args in
-    let accepted = sym judged ∙ sym c.judge-verdict.ensures ∙ c.in-Accepted.is in
+    let accepted = sym judged ∙ sym c.judge-verdict.ensures ∙ c.in-Ok.is in
     c.write_record.ensures
-    ∙ ap (λ (sets : List ℕ). delivered Accepted (record_bytes (design (list_of mark numbers) sets)) a.buffer.now) built.front
+    ∙ ap (λ (sets : List ℕ). delivered (Ok tt) (record_bytes (design (list_of mark numbers) sets)) a.buffer.now) built.front
     ∙ ap (λ (v : Verdict). delivered v (record_bytes (entered_design mark numbers list)) a.buffer.now) (sym accepted)

@@ -5,8 +5,8 @@ use mathlib.Core.List.{List}
 use Prim.Native.Nat.{ℕ}
 use native.Mathlib.Omega.{arith}
 use lib.Seq.{length-take-le}
-use Rattle.answer.specs.Outcome.{outcome}
-use Rattle.answer.specs.declared.Written.{Written}
+use Rattle.std.specs.Prelude.{Err}
+use Rattle.answer.specs.Outcome.{outcome, Numbered}
 use Rattle.answer.proofs.Checks.{parts_over}
 use Rattle.answer.proofs.Deliveries.{refused_kept}
 use Rattle.structure.specs.Checks.{list_refusal}
@@ -21,7 +21,7 @@ pub returns-then-n-gt-MOST_PARTS : goal.returns-then-n-gt-MOST_PARTS
 unfolding first_record list_refusal
 returns-then-n-gt-MOST_PARTS c =
     let a = c.args in
-    ap (λ (x : Written). outcome x a.buffer.now) c.unwritten.ensures
+    ap (λ (x : Numbered). outcome x a.buffer.now) (ap Err c.at.ensures)
     ∙ refused_kept (list_refusal a.n a.list.now) (record_bytes (first_design a.n a.list.now)) a.buffer.now _
     (parts_over 0 a.n _ (omega (arith, c.if-n-gt-MOST_PARTS.true)) c.if-n-gt-MOST_PARTS.true)
 

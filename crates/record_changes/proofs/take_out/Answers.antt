@@ -7,9 +7,9 @@ use native.Mathlib.Omega.{arith}
 use native.Mathlib.Nat.{pos_of_ne-zero}
 use borrow.Author.Tests.{eq-eqb, ne_eqb, lt-ltb}
 use lib.ListN.{length}
-use Rattle.answer.specs.Refusals.{unknown_position}
-use Rattle.answer.specs.Outcome.{at, outcome}
-use Rattle.answer.specs.declared.Written.{Written}
+use Rattle.std.specs.Prelude.{Err}
+use Rattle.answer.specs.declared.Reason.TheVariants.{UnknownPosition}
+use Rattle.answer.specs.Outcome.{at, outcome, Numbered}
 use Rattle.numbers.proofs.Counts.{up_to_16_given}
 use Rattle.record_parts.specs.declared.PartList.{PartList}
 use Rattle.record_parts.specs.Changes.{single}
@@ -20,18 +20,18 @@ use Rattle.record_opening.proofs.Designs.{opened_record, sets_front, sets_counte
 use Rattle.record_changes.proofs.Answers.{d, design_kept, retired_few, retired_inside, opened_refused, change_refused, opened_rules, opened_without}
 use Rattle.record_changes.proofs.take_out.Goals as goal
 
-pub returns-in-Refused : goal.returns-in-Refused
-returns-in-Refused c =
+pub returns-in-Err : goal.returns-in-Err
+returns-in-Err c =
     let a = c.args in
-    opened_refused a.bytes.now c.open_record-opened.result c.open_record-opened.ensures _ c.in-Refused.is (take_out a.position) a.buffer.now
+    opened_refused a.bytes.now c.open_record-opened.result c.open_record-opened.ensures _ c.in-Err.is (take_out a.position) a.buffer.now
 
 pub returns-then-position-eq0 : goal.returns-then-position-eq0
 returns-then-position-eq0 c =
     -- what was opened, where the record is accepted
     let read = opened_record c.args.bytes.now _ c.open_record-opened.ensures (λ i. omega (arith, c.shared_slice_known-1.given i)) c.in_default.is in
     let a = c.args in
-    ap (λ (x : Written). outcome x a.buffer.now) c.unwritten.ensures
-    ∙ change_refused read (take_out a.position) (at unknown_position 0) (simp (eq-eqb a.position 0 c.if-position-eq0.true)) a.buffer.now
+    ap (λ (x : Numbered). outcome x a.buffer.now) (ap Err c.at.ensures)
+    ∙ change_refused read (take_out a.position) (at UnknownPosition 0) (simp (eq-eqb a.position 0 c.if-position-eq0.true)) a.buffer.now
 
 pub returns-then-n-position : goal.returns-then-n-position
 returns-then-n-position c =
@@ -42,8 +42,8 @@ returns-then-n-position c =
     let a = c.args in
     let n = (d read).parts.count in
     let beyond : n < a.position = omega (arith, c.if-n-position.true, counted) in
-    ap (λ (x : Written). outcome x a.buffer.now) c.unwritten-then-n-position.ensures
-    ∙ change_refused read (take_out a.position) (at unknown_position 0)
+    ap (λ (x : Numbered). outcome x a.buffer.now) (ap Err c.at-then-n-position.ensures)
+    ∙ change_refused read (take_out a.position) (at UnknownPosition 0)
     (simp (ne_eqb a.position 0 c.if-position-eq0.false, lt-ltb n a.position beyond)) a.buffer.now
 
 pub slice_bounds-sets-end : goal.slice_bounds-sets-end

@@ -8,10 +8,10 @@ use Rattle.record_opening.proofs.Designs.{opened_record, sets_front, sets_counte
 use Rattle.record_changes.proofs.Answers.{retired_few, retired_inside, opened_refused, opened_rules, opened_without}
 use Rattle.record_changes.proofs.take_out_group.Goals as goal
 
-pub returns-in-Refused : goal.returns-in-Refused
-returns-in-Refused c =
+pub returns-in-Err : goal.returns-in-Err
+returns-in-Err c =
     let a = c.args in
-    opened_refused a.bytes.now c.open_record-opened.result c.open_record-opened.ensures _ c.in-Refused.is (take_out_group a.group) a.buffer.now
+    opened_refused a.bytes.now c.open_record-opened.result c.open_record-opened.ensures _ c.in-Err.is (take_out_group a.group) a.buffer.now
 
 pub slice_bounds-sets-end : goal.slice_bounds-sets-end
 slice_bounds-sets-end c =

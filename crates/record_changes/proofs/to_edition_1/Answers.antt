@@ -5,8 +5,8 @@ use mathlib.Core.List.{List}
 use Prim.Native.Nat.{ℕ}
 use native.Mathlib.Omega.{arith}
 use lib.ListN.{length}
-use Rattle.answer.specs.Outcome.{outcome}
-use Rattle.answer.specs.declared.Written.{Written}
+use Rattle.std.specs.Prelude.{Err}
+use Rattle.answer.specs.Outcome.{outcome, Numbered}
 use Rattle.record_retired.specs.declared.Retired.{Retired}
 use Rattle.record_editions.specs.Editions.{retired_in}
 use Rattle.record_opening.specs.declared.Opened.{Opened}
@@ -20,10 +20,10 @@ use Rattle.record_changes.proofs.to_edition_1.Goals as goal
 counted : {bytes : List ℕ} {o : Opened} (r : RecordOpened bytes o) → o.retired.count ≡ length (retired_in r.s)
 counted r = ap (λ (x : Retired). x.count) r.retired
 
-pub returns-in-Refused : goal.returns-in-Refused
-returns-in-Refused c =
+pub returns-in-Err : goal.returns-in-Err
+returns-in-Err c =
     let a = c.args in
-    opened_refused a.bytes.now c.open_record-opened.result c.open_record-opened.ensures _ c.in-Refused.is (convert First) a.buffer.now
+    opened_refused a.bytes.now c.open_record-opened.result c.open_record-opened.ensures _ c.in-Err.is (convert First) a.buffer.now
 
 pub returns-then-retired-ne0 : goal.returns-then-retired-ne0
 returns-then-retired-ne0 c =
@@ -31,7 +31,7 @@ returns-then-retired-ne0 c =
     let read = opened_record c.args.bytes.now _ c.open_record-opened.ensures (λ i. omega (arith, c.shared_slice_known-1.given i)) c.in_default.is in
     let r = read in
     let a = c.args in
-    ap (λ (x : Written). outcome x a.buffer.now) c.unwritten.ensures
+    ap (λ (x : Numbered). outcome x a.buffer.now) (ap Err c.at.ensures)
     ∙ stored_refused r (convert First) _ (back_held (retired_in r.s) (λ none. c.if-retired-ne0.true (counted r ∙ none))) a.buffer.now
 
 pub slice_bounds-sets-end : goal.slice_bounds-sets-end

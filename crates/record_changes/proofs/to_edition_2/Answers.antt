@@ -9,10 +9,10 @@ use Rattle.record_lines.specs.Changes.{convert}
 use Rattle.record_changes.proofs.Answers.{opened_refused, change_made, opened_rules, retired_few, retired_inside, kept_retired}
 use Rattle.record_changes.proofs.to_edition_2.Goals as goal
 
-pub returns-in-Refused : goal.returns-in-Refused
-returns-in-Refused c =
+pub returns-in-Err : goal.returns-in-Err
+returns-in-Err c =
     let a = c.args in
-    opened_refused a.bytes.now c.open_record-opened.result c.open_record-opened.ensures _ c.in-Refused.is (convert Second) a.buffer.now
+    opened_refused a.bytes.now c.open_record-opened.result c.open_record-opened.ensures _ c.in-Err.is (convert Second) a.buffer.now
 
 pub slice_bounds-sets-end : goal.slice_bounds-sets-end
 slice_bounds-sets-end c =

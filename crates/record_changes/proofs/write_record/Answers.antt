@@ -2,9 +2,8 @@
 -- Assumes nothing.
 use mathlib.Core.Path.{refl, ap, ◌∙◌}
 use native.Mathlib.Omega.{arith}
-use Rattle.answer.specs.Outcome.{outcome}
-use Rattle.answer.specs.declared.Verdict.TheVariants.{Accepted}
-use Rattle.answer.specs.declared.Written.{Written}
+use Rattle.std.specs.Prelude.{Ok, Err}
+use Rattle.answer.specs.Outcome.{outcome, Numbered}
 use Rattle.answer.proofs.Deliveries.{delivered_short}
 use Rattle.record_parts.specs.PartLists.{list_of}
 use Rattle.record.specs.Records.{design}
@@ -15,8 +14,8 @@ use Rattle.record_changes.proofs.write_record.Goals as goal
 pub returns-then-buffer-needed : goal.returns-then-buffer-needed
 returns-then-buffer-needed c =
     let a = c.args in
-    ap (λ (w : Written). outcome w a.buffer.now) c.short.ensures
-    ∙ delivered_short Accepted (record_bytes (design (list_of a.mark a.numbers.now) a.sets.now)) a.buffer.now refl _
+    ap (λ (w : Numbered). outcome w a.buffer.now) (ap Err c.at.ensures)
+    ∙ delivered_short (Ok tt) (record_bytes (design (list_of a.mark a.numbers.now) a.sets.now)) a.buffer.now refl _
     c.record_length-needed.ensures.value c.if-buffer-needed.true
 
 pub write_pieces-end-requires : goal.write_pieces-end-requires

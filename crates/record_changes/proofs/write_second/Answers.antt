@@ -5,10 +5,9 @@ use mathlib.Core.List.{List, [], ◌∷◌, ◌++◌}
 use Prim.Native.Nat.{ℕ, ◌+◌, ◌≤◌}
 use native.Mathlib.Omega.{arith}
 use lib.ListN.{length, length-append}
-use Rattle.answer.specs.Outcome.{outcome}
+use Rattle.std.specs.Prelude.{Ok, Err}
+use Rattle.answer.specs.Outcome.{outcome, Numbered}
 use Rattle.answer.specs.Placed.{placed}
-use Rattle.answer.specs.declared.Verdict.TheVariants.{Accepted}
-use Rattle.answer.specs.declared.Written.{Written}
 use Rattle.answer.proofs.Deliveries.{delivered_short}
 use Rattle.answer.proofs.Forms.{placed_more, placed_next, placed_length}
 use Rattle.record_parts.specs.PartLists.{list_of}
@@ -61,8 +60,8 @@ returns-then-buffer-whole c =
     let a = c.args in
     let body = record_bytes (design (list_of a.mark a.numbers.now) a.sets.now) in
     let tail = tail_bytes a.retired.now a.counts.now in
-    ap (λ (w : Written). outcome w a.buffer.now) c.short.ensures
-    ∙ delivered_short Accepted (0 ∷ 2 ∷ (body ++ tail)) a.buffer.now refl _
+    ap (λ (w : Numbered). outcome w a.buffer.now) (ap Err c.at.ensures)
+    ∙ delivered_short (Ok tt) (0 ∷ 2 ∷ (body ++ tail)) a.buffer.now refl _
     (whole_length body tail _ _ c.record_length-body.ensures.value c.tail_length.ensures.value) c.if-buffer-whole.true
 
 pub write_pieces-middle-requires : goal.write_pieces-middle-requires

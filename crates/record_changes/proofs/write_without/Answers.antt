@@ -7,11 +7,9 @@ use Prim.Native.Nat.{ℕ, ◌-◌, ◌≤◌}
 use native.Mathlib.Omega.{arith}
 use lib.ListN.{length, replicate, length-append}
 use lib.Seq.{length-take-le}
-use Rattle.answer.specs.Refusals.{in_every_set}
-use Rattle.answer.specs.Outcome.{at, outcome, delivered}
-use Rattle.answer.specs.declared.Verdict.{Verdict}
-use Rattle.answer.specs.declared.Verdict.TheVariants.{Accepted}
-use Rattle.answer.specs.declared.Written.{Written}
+use Rattle.std.specs.Prelude.{Ok, Err}
+use Rattle.answer.specs.declared.Reason.TheVariants.{InEverySet}
+use Rattle.answer.specs.Outcome.{at, outcome, delivered, Numbered, Verdict}
 use Rattle.answer.proofs.Deliveries.{given, refused_kept}
 use Rattle.record_parts.specs.declared.Listed.{Listed}
 use Rattle.record_parts.specs.declared.PartList.{PartList}
@@ -39,7 +37,7 @@ verdict_same : (list : PartList) (group : ℕ) (listed : Listed) → listed ≡ 
 verdict_same list group listed e v is = sym (ap (λ (l : Listed). l.verdict) e) ∙ is
 
 -- the list that is left
-list_left : (d : Design) → DesignRules d → (group : ℕ) (listed : Listed) → listed ≡ group_taken_out d.parts group → (group_taken_out d.parts group).verdict ≡ Accepted → listed.list ≡ list_without group d.parts
+list_left : (d : Design) → DesignRules d → (group : ℕ) (listed : Listed) → listed ≡ group_taken_out d.parts group → (group_taken_out d.parts group).verdict ≡ Ok tt → listed.list ≡ list_without group d.parts
 list_left d rules group listed e let_go = ap (λ (l : Listed). l.list) e ∙ out_list d rules group let_go
 
 -- the retired numbers that are handed on
@@ -52,21 +50,21 @@ filed_few group list retired filed few inside e =
     subst (λ (r : Retired). (r.count ≤ most_retired) × (r.count ≤ length r.numbers)) (sym e)
     (most, omega (arith, length-append gone (replicate (most_retired - length gone) 0)))
 
-pub returns-in-Refused : goal.returns-in-Refused
-returns-in-Refused c =
+pub returns-in-Err : goal.returns-in-Err
+returns-in-Err c =
     let a = c.args in
     let d = design a.list a.sets.now in
     refused_kept (take_out_group_refusal a.group d) (stored_bytes (in_edition a.edition (design_without a.group d) (filed_all (named (numbers_of a.list) a.group) (retired_numbers a.retired)))) a.buffer.now _
-    (out_refused d c.requires.design_rules a.group _ (verdict_same a.list a.group _ c.take_out_group-listed.ensures _ c.in-Refused.is))
+    (out_refused d c.requires.design_rules a.group _ (verdict_same a.list a.group _ c.take_out_group-listed.ensures _ c.in-Err.is))
 
 pub returns-then-left-eq0 : goal.returns-then-left-eq0
 returns-then-left-eq0 c =
     let a = c.args in
     let old = design a.list a.sets.now in
-    let built = given Accepted (sets_without a.group a.sets.now) (replicate 12870 0) c.sets_left-left.new.kept c.sets_left-left.result c.sets_left-left.ensures in
+    let built = given (Ok tt) (sets_without a.group a.sets.now) (replicate 12870 0) c.sets_left-left.new.kept c.sets_left-left.result c.sets_left-left.ensures in
     let let_go = verdict_same a.list a.group _ c.take_out_group-listed.ensures _ c.in_default.is in
-    ap (λ (x : Written). outcome x a.buffer.now) c.unwritten.ensures
-    ∙ refused_kept (take_out_group_refusal a.group old) (stored_bytes (in_edition a.edition (design_without a.group old) (filed_all (named (numbers_of a.list) a.group) (retired_numbers a.retired)))) a.buffer.now (at in_every_set 0)
+    ap (λ (x : Numbered). outcome x a.buffer.now) (ap Err c.at.ensures)
+    ∙ refused_kept (take_out_group_refusal a.group old) (stored_bytes (in_edition a.edition (design_without a.group old) (filed_all (named (numbers_of a.list) a.group) (retired_numbers a.retired)))) a.buffer.now (at InEverySet 0)
     (out_none old c.requires.design_rules a.group let_go (omega (arith, c.if-left-eq0.true, built.counted)))
 
 pub file_group-filed-requires : goal.file_group-filed-requires
@@ -81,23 +79,23 @@ pub slice_bounds-kept-end : goal.slice_bounds-kept-end
 slice_bounds-kept-end c =
     let a = c.args in
     let old = design a.list a.sets.now in
-    let built = given Accepted (sets_without a.group a.sets.now) (replicate 12870 0) c.sets_left-left.new.kept c.sets_left-left.result c.sets_left-left.ensures in
+    let built = given (Ok tt) (sets_without a.group a.sets.now) (replicate 12870 0) c.sets_left-left.new.kept c.sets_left-left.result c.sets_left-left.ensures in
     omega (arith, built.counted, without_fewer a.group a.sets.now, c.requires.design_rules.sets.most)
 
 pub slice_bounds-write_stored-end : goal.slice_bounds-write_stored-end
 slice_bounds-write_stored-end c =
     let a = c.args in
     let old = design a.list a.sets.now in
-    let built = given Accepted (sets_without a.group a.sets.now) (replicate 12870 0) c.sets_left-left.new.kept c.sets_left-left.result c.sets_left-left.ensures in
+    let built = given (Ok tt) (sets_without a.group a.sets.now) (replicate 12870 0) c.sets_left-left.new.kept c.sets_left-left.result c.sets_left-left.ensures in
     built.counted ∙ ap length (sym built.front)
 
 pub write_stored-requires : goal.write_stored-requires
 write_stored-requires c =
     let a = c.args in
     let old = design a.list a.sets.now in
-    let built = given Accepted (sets_without a.group a.sets.now) (replicate 12870 0) c.sets_left-left.new.kept c.sets_left-left.result c.sets_left-left.ensures in
+    let built = given (Ok tt) (sets_without a.group a.sets.now) (replicate 12870 0) c.sets_left-left.new.kept c.sets_left-left.result c.sets_left-left.ensures in
     let let_go = verdict_same a.list a.group _ c.take_out_group-listed.ensures _ c.in_default.is in
-    let made : take_out_group_refusal a.group old ≡ Accepted =
+    let made : take_out_group_refusal a.group old ≡ Ok tt =
     out_some old c.requires.design_rules a.group let_go (λ none. omega (arith, c.if-left-eq0.false, built.counted)) in
     let kept = filed_few a.group a.list a.retired c.file_group-filed.result c.requires.count_le_most_retired c.requires.count_in_bounds c.file_group-filed.ensures in
     let left = list_left old c.requires.design_rules a.group _ c.take_out_group-listed.ensures let_go in
@@ -111,12 +109,12 @@ pub returns : goal.returns
 returns c =
     let a = c.args in
     let old = design a.list a.sets.now in
-    let built = given Accepted (sets_without a.group a.sets.now) (replicate 12870 0) c.sets_left-left.new.kept c.sets_left-left.result c.sets_left-left.ensures in
+    let built = given (Ok tt) (sets_without a.group a.sets.now) (replicate 12870 0) c.sets_left-left.new.kept c.sets_left-left.result c.sets_left-left.ensures in
     let let_go = verdict_same a.list a.group _ c.take_out_group-listed.ensures _ c.in_default.is in
-    let made : take_out_group_refusal a.group old ≡ Accepted =
+    let made : take_out_group_refusal a.group old ≡ Ok tt =
     out_some old c.requires.design_rules a.group let_go (λ none. omega (arith, c.if-left-eq0.false, built.counted)) in
     let gone : List ℕ = filed_all (named (numbers_of a.list) a.group) (retired_numbers a.retired) in
     let left = list_left old c.requires.design_rules a.group _ c.take_out_group-listed.ensures let_go in
     c.write_stored.ensures
-    ∙ ap₂ (λ (x : Design) (l : List ℕ). delivered Accepted (stored_bytes (in_edition a.edition x l)) a.buffer.now) (ap₂ design left built.front) (ap retired_numbers c.file_group-filed.ensures ∙ numbers_back gone)
+    ∙ ap₂ (λ (x : Design) (l : List ℕ). delivered (Ok tt) (stored_bytes (in_edition a.edition x l)) a.buffer.now) (ap₂ design left built.front) (ap retired_numbers c.file_group-filed.ensures ∙ numbers_back gone)
     ∙ ap (λ (v : Verdict). delivered v (stored_bytes (in_edition a.edition (design_without a.group old) gone)) a.buffer.now) (sym made)

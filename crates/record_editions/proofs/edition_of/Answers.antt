@@ -4,10 +4,10 @@ use Rattle.record_editions.specs.declared.Edition.TheVariants.{First, Second}
 use Rattle.record_editions.proofs.Whole.{stored_told, edition_refused, edition_given_lem}
 use Rattle.record_editions.proofs.edition_of.Goals as goal
 
-pub returns-in-Refused : goal.returns-in-Refused
-returns-in-Refused c =
+pub returns-in-Err : goal.returns-in-Err
+returns-in-Err c =
     let bytes = c.args.bytes.now in
-    edition_refused bytes c.whole_stored-read.result (stored_told bytes c.whole_stored-read.result c.whole_stored-read.ensures) _ c.in-Refused.is
+    edition_refused bytes c.whole_stored-read.result (stored_told bytes c.whole_stored-read.result c.whole_stored-read.ensures) _ c.in-Err.is
 
 pub returns-in-First : goal.returns-in-First
 returns-in-First c =

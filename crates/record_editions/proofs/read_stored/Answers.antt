@@ -27,17 +27,17 @@ there c = sym c.second_there.ensures ∙ c.if-not-second_there.false
 pub second_edition-requires : goal.second_edition-requires
 second_edition-requires c =
     let a = c.args in
-    let few = second_few a.bytes.now a.start c.read_with_words-body.result (there (goal.at.second_edition-requires c).After-read_with_words-body) c.read_with_words-body.ensures (λ i. omega (arith, c.shared_slice_known-1.given i)) c.in-Accepted.is in
+    let few = second_few a.bytes.now a.start c.read_with_words-body.result (there (goal.at.second_edition-requires c).After-read_with_words-body) c.read_with_words-body.ensures (λ i. omega (arith, c.shared_slice_known-1.given i)) c.in-Ok.is in
     record { count_le_most_parts = few.0; count_in_bounds = few.1 }
 
-pub returns-in-Refused : goal.returns-in-Refused
-returns-in-Refused c =
+pub returns-in-Err : goal.returns-in-Err
+returns-in-Err c =
     let a = c.args in
-    c.first_edition-in-Refused.ensures
-    ∙ second_refused a.bytes.now a.start c.read_with_words-body.result (there (goal.at.returns-in-Refused c).After-read_with_words-body) c.read_with_words-body.ensures _ c.in-Refused.is
+    c.first_edition-in-Err.ensures
+    ∙ second_refused a.bytes.now a.start c.read_with_words-body.result (there (goal.at.returns-in-Err c).After-read_with_words-body) c.read_with_words-body.ensures _ c.in-Err.is
 
-pub returns-in-Accepted : goal.returns-in-Accepted
-returns-in-Accepted c =
+pub returns-in-Ok : goal.returns-in-Ok
+returns-in-Ok c =
     let a = c.args in
     c.second_edition.ensures
-    ∙ second_given a.bytes.now a.start c.read_with_words-body.result (there (goal.at.returns-in-Accepted c).After-read_with_words-body) c.read_with_words-body.ensures (λ i. omega (arith, c.shared_slice_known-1.given i)) c.in-Accepted.is
+    ∙ second_given a.bytes.now a.start c.read_with_words-body.result (there (goal.at.returns-in-Ok c).After-read_with_words-body) c.read_with_words-body.ensures (λ i. omega (arith, c.shared_slice_known-1.given i)) c.in-Ok.is

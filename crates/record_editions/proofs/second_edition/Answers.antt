@@ -37,13 +37,13 @@ tail_read c =
     c.read_tail-tail.ensures
     ∙ ap (λ (l : List ℕ). tail_of (tail_at a.bytes.now contents.list.mark (numbers_of contents.list) (take (contents.list.count + 1) l) contents.next)) c.counts_by_size-counts.ensures
 
-pub returns-in-Refused : goal.returns-in-Refused
-returns-in-Refused c =
+pub returns-in-Err : goal.returns-in-Err
+returns-in-Err c =
     let a = c.args in
     c.first_edition.ensures ∙ ap first_read c.refused_with_words.ensures
-    ∙ behind_refused a.body c.read_tail-tail.result (behind_at a.bytes.now a.body) (tail_read (goal.at.returns-in-Refused c).After-read_tail-tail) _ c.in-Refused.is
+    ∙ behind_refused a.body c.read_tail-tail.result (behind_at a.bytes.now a.body) (tail_read (goal.at.returns-in-Err c).After-read_tail-tail) _ c.in-Err.is
 
-pub returns-in-Accepted : goal.returns-in-Accepted
-returns-in-Accepted c =
+pub returns-in-Ok : goal.returns-in-Ok
+returns-in-Ok c =
     let a = c.args in
-    behind_given a.body c.read_tail-tail.result (behind_at a.bytes.now a.body) (tail_read (goal.at.returns-in-Accepted c).After-read_tail-tail) c.in-Accepted.is
+    behind_given a.body c.read_tail-tail.result (behind_at a.bytes.now a.body) (tail_read (goal.at.returns-in-Ok c).After-read_tail-tail) c.in-Ok.is

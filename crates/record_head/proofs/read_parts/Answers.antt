@@ -9,33 +9,33 @@ use Rattle.record_head.specs.Headings.{parts_refusal, mark_refusal}
 use Rattle.record_head.specs.Inside.{parts_of}
 use Rattle.record_head.proofs.PartNumbers.{count_few, parts_no_count, parts_no_mark, parts_numbers}
 use Rattle.record_head.proofs.read_parts.Goals as goal
-use Rattle.record_head.proofs.read_parts.Goals.{In-Number}
+use Rattle.record_head.proofs.read_parts.Goals.{In-Ok}
 
 -- n, which was read
-counted : (c : In-Number) → field_at c.args.bytes.now c.args.start Count (parts_refusal c.args.start) ≡ found c.in-Number.value c.in-Number.next
-counted c = answer_number _ _ _ (sym c.in-Number.is ∙ c.read_part_count-count.ensures)
+counted : (c : In-Ok) → field_at c.args.bytes.now c.args.start Count (parts_refusal c.args.start) ≡ found c.in-Ok.value c.in-Ok.next
+counted c = answer_number _ _ _ (sym c.in-Ok.is ∙ c.read_part_count-count.ensures)
 
 pub read_part_numbers-requires : goal.read_part_numbers-requires
 read_part_numbers-requires c =
     let a = c.args in
-    count_few a.bytes.now a.start _ _ (counted (goal.at.read_part_numbers-requires c).In-Number)
+    count_few a.bytes.now a.start _ _ (counted (goal.at.read_part_numbers-requires c).In-Ok)
 
-pub returns-in-Refused : goal.returns-in-Refused
-returns-in-Refused c =
+pub returns-in-Err : goal.returns-in-Err
+returns-in-Err c =
     let a = c.args in
     c.refused_parts.ensures
-    ∙ sym (ap parts_of (parts_no_count a.bytes.now a.start _ (answer_refused _ _ (sym c.in-Refused.is ∙ c.read_part_count-count.ensures))))
+    ∙ sym (ap parts_of (parts_no_count a.bytes.now a.start _ (answer_refused _ _ (sym c.in-Err.is ∙ c.read_part_count-count.ensures))))
 
-pub returns-in-Refused-mark : goal.returns-in-Refused-mark
-returns-in-Refused-mark c =
+pub returns-in-Err-mark : goal.returns-in-Err-mark
+returns-in-Err-mark c =
     let a = c.args in
-    c.refused_parts-in-Refused-mark.ensures
-    ∙ sym (ap parts_of (parts_no_mark a.bytes.now a.start _ _ _ (counted (goal.at.returns-in-Refused-mark c).In-Number)
-    (sym (field_ended a.bytes.now _ PartNumber mark_refusal c.read_number-mark.ensures _ c.in-Refused-mark.is))))
+    c.refused_parts-in-Err-mark.ensures
+    ∙ sym (ap parts_of (parts_no_mark a.bytes.now a.start _ _ _ (counted (goal.at.returns-in-Err-mark c).In-Ok)
+    (sym (field_ended a.bytes.now _ PartNumber mark_refusal c.read_number-mark.ensures _ c.in-Err-mark.is))))
 
-pub returns-in-Number-mark : goal.returns-in-Number-mark
-returns-in-Number-mark c =
+pub returns-in-Ok-mark : goal.returns-in-Ok-mark
+returns-in-Ok-mark c =
     let a = c.args in
     c.read_part_numbers.ensures
-    ∙ sym (ap parts_of (parts_numbers a.bytes.now a.start _ _ _ _ (counted (goal.at.returns-in-Number-mark c).In-Number)
-    (sym (field_passed a.bytes.now _ PartNumber mark_refusal c.read_number-mark.ensures _ _ c.in-Number-mark.is refl))))
+    ∙ sym (ap parts_of (parts_numbers a.bytes.now a.start _ _ _ _ (counted (goal.at.returns-in-Ok-mark c).In-Ok)
+    (sym (field_passed a.bytes.now _ PartNumber mark_refusal c.read_number-mark.ensures _ _ c.in-Ok-mark.is refl))))

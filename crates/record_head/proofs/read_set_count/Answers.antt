@@ -2,7 +2,8 @@
 -- Assumes nothing.
 use mathlib.Core.Path.{ap, ◌∙◌}
 use borrow.Author.Tests.{eq-eqb, ne_eqb, lt-ltb, le-ltb}
-use Rattle.answer.specs.Refusals.{empty_list, long_list}
+use Rattle.std.specs.Prelude.{Err}
+use Rattle.answer.specs.declared.Reason.TheVariants.{EmptyList, LongList}
 use Rattle.answer.specs.Outcome.{at}
 use Rattle.answer.proofs.Outcomes.{refuse_held, refuse_passed}
 use Rattle.codec.specs.declared.Field.TheVariants.{Count}
@@ -14,24 +15,24 @@ use Rattle.record_head.proofs.read_set_count.Goals as goal
 pub returns-then-value-eq0 : goal.returns-then-value-eq0
 returns-then-value-eq0 c =
     let a = c.args in
-    c.refused.ensures
-    ∙ ap reading_of (field_held a.bytes.now a.start Count (set_count_refusal a.start) c.read_number-number.ensures _ _ (at empty_list a.start) c.in-Number.is
-    (refuse_held _ empty_list a.start _ (eq-eqb _ 0 c.if-value-eq0.true)))
+    (ap Err c.at.ensures)
+    ∙ ap reading_of (field_held a.bytes.now a.start Count (set_count_refusal a.start) c.read_number-number.ensures _ _ (at EmptyList a.start) c.in-Ok.is
+    (refuse_held _ EmptyList a.start _ (eq-eqb _ 0 c.if-value-eq0.true)))
 
 pub returns-then-value-gt12870 : goal.returns-then-value-gt12870
 returns-then-value-gt12870 c =
     let a = c.args in
-    c.refused-then-value-gt12870.ensures
-    ∙ ap reading_of (field_held a.bytes.now a.start Count (set_count_refusal a.start) c.read_number-number.ensures _ _ (at long_list a.start) c.in-Number.is
-    (refuse_passed _ empty_list a.start _ (ne_eqb _ 0 c.if-value-eq0.false) ∙ refuse_held _ long_list a.start _ (lt-ltb 12870 _ c.if-value-gt12870.true)))
+    (ap Err c.at-then-value-gt12870.ensures)
+    ∙ ap reading_of (field_held a.bytes.now a.start Count (set_count_refusal a.start) c.read_number-number.ensures _ _ (at LongList a.start) c.in-Ok.is
+    (refuse_passed _ EmptyList a.start _ (ne_eqb _ 0 c.if-value-eq0.false) ∙ refuse_held _ LongList a.start _ (lt-ltb 12870 _ c.if-value-gt12870.true)))
 
-pub returns-in-Refused : goal.returns-in-Refused
-returns-in-Refused c =
+pub returns-in-Err : goal.returns-in-Err
+returns-in-Err c =
     let a = c.args in
-    ap reading_of (field_ended a.bytes.now a.start Count (set_count_refusal a.start) c.read_number-number.ensures _ c.in-Refused.is)
+    ap reading_of (field_ended a.bytes.now a.start Count (set_count_refusal a.start) c.read_number-number.ensures _ c.in-Err.is)
 
 pub returns-else-value-gt12870 : goal.returns-else-value-gt12870
 returns-else-value-gt12870 c =
     let a = c.args in
-    ap reading_of (field_passed a.bytes.now a.start Count (set_count_refusal a.start) c.read_number-number.ensures _ _ c.in-Number.is
-    (refuse_passed _ empty_list a.start _ (ne_eqb _ 0 c.if-value-eq0.false) ∙ refuse_passed _ long_list a.start _ (le-ltb 12870 _ c.if-value-gt12870.false)))
+    ap reading_of (field_passed a.bytes.now a.start Count (set_count_refusal a.start) c.read_number-number.ensures _ _ c.in-Ok.is
+    (refuse_passed _ EmptyList a.start _ (ne_eqb _ 0 c.if-value-eq0.false) ∙ refuse_passed _ LongList a.start _ (le-ltb 12870 _ c.if-value-gt12870.false)))

@@ -8,14 +8,11 @@ use native.Mathlib.Omega.{arith}
 use borrow.Author.Tests.{le-leb, lt-leb}
 use lib.ListN.{length, take, replicate, length-append}
 use lib.Seq.{take_all, take-append_seam}
+use Rattle.std.specs.Prelude.{Ok, Err}
 use Rattle.numbers.proofs.Counts.{up_to_16_given}
-use Rattle.answer.specs.Refusals.{unknown_group_part}
-use Rattle.answer.specs.Outcome.{at, outcome, delivered}
+use Rattle.answer.specs.declared.Reason.TheVariants.{UnknownGroupPart}
+use Rattle.answer.specs.Outcome.{at, outcome, delivered, Numbered, Verdict}
 use Rattle.answer.specs.declared.Refusal.{Refusal}
-use Rattle.answer.specs.declared.Verdict.{Verdict}
-use Rattle.answer.specs.declared.Verdict.TheVariants.{Accepted, Refused}
-use Rattle.answer.specs.declared.Written.{Written}
-use Rattle.answer.specs.declared.Written.TheVariants as written
 use Rattle.answer.proofs.Checks.{parts_none, parts_over, parts_passed}
 use Rattle.answer.proofs.Deliveries.{refused_kept}
 use Rattle.theory_sets.specs.Masks.{size}
@@ -37,27 +34,27 @@ module _ (numbers : List ℕ) (mask : ℕ) (few : length numbers ≤ most_parts)
   room = omega (arith, named_counted numbers mask inside, length-append (named numbers mask) (replicate (most_parts - length (named numbers mask)) 0))
 
 -- a mask that has no bit beyond the last position is not refused
-mask_right : (numbers : List ℕ) (mask : ℕ) → 1 ≤ length numbers → length numbers ≤ 16 → mask < 2 ^ length numbers → named_refusal numbers mask ≡ Accepted
+mask_right : (numbers : List ℕ) (mask : ℕ) → 1 ≤ length numbers → length numbers ≤ 16 → mask < 2 ^ length numbers → named_refusal numbers mask ≡ Ok tt
 mask_right numbers mask some few inside = parts_passed 0 (length numbers) _ some few ∙ rw (lt-leb (2 ^ length numbers) mask inside) refl
 
-mask_over : (numbers : List ℕ) (mask : ℕ) → 1 ≤ length numbers → length numbers ≤ 16 → 2 ^ length numbers ≤ mask → named_refusal numbers mask ≡ Refused (at unknown_group_part 0)
+mask_over : (numbers : List ℕ) (mask : ℕ) → 1 ≤ length numbers → length numbers ≤ 16 → 2 ^ length numbers ≤ mask → named_refusal numbers mask ≡ Err (at UnknownGroupPart 0)
 mask_over numbers mask some few over = parts_passed 0 (length numbers) _ some few ∙ rw (le-leb (2 ^ length numbers) mask over) refl
 
 -- where the numbers are refused the buffer stays
-kept : (numbers : List ℕ) (mask : ℕ) (buffer : List ℕ) (r : Written) (why : Refusal) → r ≡ written.Refused why → named_refusal numbers mask ≡ Refused why
+kept : (numbers : List ℕ) (mask : ℕ) (buffer : List ℕ) (r : Numbered) (why : Refusal) → r ≡ Err why → named_refusal numbers mask ≡ Err why
     → outcome r buffer ≡ delivered (named_refusal numbers mask) (named numbers mask) buffer
 kept numbers mask buffer r why e refused =
-    ap (λ (x : Written). outcome x buffer) e ∙ refused_kept (named_refusal numbers mask) (named numbers mask) buffer why refused
+    ap (λ (x : Numbered). outcome x buffer) e ∙ refused_kept (named_refusal numbers mask) (named numbers mask) buffer why refused
 
 pub returns-then-count-eq0 : goal.returns-then-count-eq0
 returns-then-count-eq0 c =
     let a = c.args in
-    kept a.numbers.now a.mask a.buffer.now _ _ c.unwritten.ensures (parts_none 0 (length a.numbers.now) _ c.if-count-eq0.true)
+    kept a.numbers.now a.mask a.buffer.now _ _ (ap Err c.at.ensures) (parts_none 0 (length a.numbers.now) _ c.if-count-eq0.true)
 
 pub returns-then-count-gt-MOST_PARTS : goal.returns-then-count-gt-MOST_PARTS
 returns-then-count-gt-MOST_PARTS c =
     let a = c.args in
-    kept a.numbers.now a.mask a.buffer.now _ _ c.unwritten-then-count-gt-MOST_PARTS.ensures
+    kept a.numbers.now a.mask a.buffer.now _ _ (ap Err c.at-then-count-gt-MOST_PARTS.ensures)
     (parts_over 0 (length a.numbers.now) _ (pos_of_ne-zero c.if-count-eq0.false) c.if-count-gt-MOST_PARTS.true)
 
 pub returns-then-all-mask : goal.returns-then-all-mask
@@ -67,7 +64,7 @@ returns-then-all-mask c =
     let n : ℕ = length c.args.numbers.now in
     c.power_of_two-all.ensures ∙ up_to_16_given n (2 ^ n) c.if-count-gt-MOST_PARTS.false in
     let a = c.args in
-    kept a.numbers.now a.mask a.buffer.now _ _ c.unwritten-then-all-mask.ensures
+    kept a.numbers.now a.mask a.buffer.now _ _ (ap Err c.at-then-all-mask.ensures)
     (mask_over a.numbers.now a.mask (pos_of_ne-zero c.if-count-eq0.false) c.if-count-gt-MOST_PARTS.false (omega (arith, all, c.if-all-mask.true)))
 
 pub slice_bounds-cells-end : goal.slice_bounds-cells-end
@@ -87,8 +84,8 @@ slice_bounds-cells-end c =
     ∙ ap (λ (k : ℕ). cells_of (others (take most_parts numbers) (k - 1 - mask))) (all) ∙ filled numbers mask c.if-count-gt-MOST_PARTS.false inside in
     rw (c.size-named.ensures, laid_out) (room numbers mask c.if-count-gt-MOST_PARTS.false inside)
 
-pub slice_bounds-hand_out_counts-end : goal.slice_bounds-hand_out_counts-end
-slice_bounds-hand_out_counts-end c =
+pub slice_bounds-hand_out-end : goal.slice_bounds-hand_out-end
+slice_bounds-hand_out-end c =
     -- 2^n
     let all : c.power_of_two-all.result ≡ 2 ^ length c.args.numbers.now =
     let n : ℕ = length c.args.numbers.now in
@@ -124,6 +121,6 @@ returns c =
     let shown : take c.size-named.result c.cells-cells.result ≡ named numbers mask =
     ap₂ take c.size-named.ensures laid_out ∙ in_front_lem numbers mask c.if-count-gt-MOST_PARTS.false inside in
     let buffer = c.args.buffer.now in
-    c.hand_out_counts.ensures ∙ ap (λ (l : List ℕ). delivered Accepted l buffer) shown
+    c.hand_out.ensures ∙ ap (λ (l : List ℕ). delivered (Ok tt) l buffer) shown
     ∙ ap (λ (v : Verdict). delivered v (named numbers mask) buffer)
     (sym (mask_right numbers mask (pos_of_ne-zero c.if-count-eq0.false) c.if-count-gt-MOST_PARTS.false inside))

@@ -9,24 +9,23 @@ use native.Mathlib.Omega.{arith}
 use lib.ListN.{drop}
 use lib.Dec.{eqb}
 use borrow.Author.Tests.{eq-eqb, ne_eqb}
-use Rattle.answer.specs.Refusals.{unknown_position}
+use Rattle.std.specs.Prelude.{Ok, Err}
+use Rattle.answer.specs.declared.Reason.TheVariants.{UnknownPosition}
 use Rattle.answer.specs.Outcome.{at}
-use Rattle.answer.specs.declared.Verdict.TheVariants.{Accepted}
-use Rattle.answer.specs.declared.Value.TheVariants as Value
 use Rattle.answer.proofs.Outcomes.{refuse_passed, refuse_held, valued_refused, valued_given}
 use Rattle.record_naming.specs.Naming.{position_from, position_of, found_position}
 use Rattle.record_naming.proofs.Steps.{position_here, position_past, position_end}
 use Rattle.record_naming.proofs.position.Goals as goal
 
 -- a position that was found, and one that was not
-found_is : (numbers : List ℕ) (number position : ℕ) → position_of numbers number ≡ suc position → Value.Given (position + 1) ≡ found_position numbers number
+found_is : (numbers : List ℕ) (number position : ℕ) → position_of numbers number ≡ suc position → Ok (position + 1) ≡ found_position numbers number
 found_is numbers number position e =
-    ap Value.Given (add-one position ∙ sym e)
-    ∙ valued_given _ (position_of numbers number) (refuse_passed (eqb (position_of numbers number) 0) unknown_position 0 Accepted (ne_eqb (position_of numbers number) 0 (λ none. omega (arith, e))))
+    ap Ok (add-one position ∙ sym e)
+    ∙ valued_given _ (position_of numbers number) (refuse_passed (eqb (position_of numbers number) 0) UnknownPosition 0 (Ok tt) (ne_eqb (position_of numbers number) 0 (λ none. omega (arith, e))))
 
-found_none : (numbers : List ℕ) (number : ℕ) → position_of numbers number ≡ 0 → Value.Refused (at unknown_position 0) ≡ found_position numbers number
+found_none : (numbers : List ℕ) (number : ℕ) → position_of numbers number ≡ 0 → Err (at UnknownPosition 0) ≡ found_position numbers number
 found_none numbers number e =
-    valued_refused _ (position_of numbers number) (at unknown_position 0) (refuse_held (eqb (position_of numbers number) 0) unknown_position 0 Accepted (eq-eqb (position_of numbers number) 0 e))
+    valued_refused _ (position_of numbers number) (at UnknownPosition 0) (refuse_held (eqb (position_of numbers number) 0) UnknownPosition 0 (Ok tt) (eq-eqb (position_of numbers number) 0 e))
 
 pub loop-i-init : goal.loop-i-init
 loop-i-init c =

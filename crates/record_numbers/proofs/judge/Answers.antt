@@ -1,11 +1,12 @@
 -- `record_numbers::judge` meets its contract. The loop's invariant: the numbers passed are right, so what refuses those left, under the last one
 -- passed, is what refuses all. The measure is the numbers left.
 -- Assumes nothing.
-use mathlib.Core.Path.{sym, ◌∙◌}
+use mathlib.Core.Path.{sym, ◌∙◌, ap}
 use native.Mathlib.Nat.{pos_of_ne-zero}
 use native.Mathlib.Omega.{arith}
 use borrow.Author.Tests.{lt-ltb, le-ltb}
 use lib.ListN.{length}
+use Rattle.std.specs.Prelude.{Err}
 use Rattle.answer.proofs.Checks.{parts_none, parts_over}
 use Rattle.record_numbers.specs.Numbering.{part_list_refusal}
 use Rattle.record_numbers.proofs.Refusals.{refusal_counted, refusal_past, refusal_here, refusal_end}
@@ -13,12 +14,12 @@ use Rattle.record_numbers.proofs.judge.Goals as goal
 
 pub returns-then-count-eq0 : goal.returns-then-count-eq0
 unfolding part_list_refusal
-returns-then-count-eq0 c = c.refused.ensures ∙ sym (parts_none 0 (length c.args.numbers.now) _ c.if-count-eq0.true)
+returns-then-count-eq0 c = (ap Err c.at.ensures) ∙ sym (parts_none 0 (length c.args.numbers.now) _ c.if-count-eq0.true)
 
 pub returns-then-count-gt-MOST_PARTS : goal.returns-then-count-gt-MOST_PARTS
 unfolding part_list_refusal
 returns-then-count-gt-MOST_PARTS c =
-    c.refused-then-count-gt-MOST_PARTS.ensures
+    (ap Err c.at-then-count-gt-MOST_PARTS.ensures)
     ∙ sym (parts_over 0 (length c.args.numbers.now) _ (pos_of_ne-zero c.if-count-eq0.false) c.if-count-gt-MOST_PARTS.true)
 
 pub loop-index-init : goal.loop-index-init
@@ -30,7 +31,7 @@ returns-then-misnumbered c =
     let l = w.before.before.before in
     let a = l.args in
     let wrong = sym w.misnumbered.ensures ∙ c.if-misnumbered.true in
-    c.refused-then-misnumbered.ensures
+    (ap Err c.at-then-misnumbered.ensures)
     ∙ sym (refusal_here a.numbers.now a.mark l.loop-index.previous l.loop-index.index w.loop-index-test.true wrong)
     ∙ l.loop-index.invariant.1
 
@@ -49,7 +50,7 @@ pub returns-then-mark-gt-TOP_NUMBER : goal.returns-then-mark-gt-TOP_NUMBER
 returns-then-mark-gt-TOP_NUMBER c =
     let l = c.before.before.before in
     let a = l.args in
-    c.refused-then-mark-gt-TOP_NUMBER.ensures
+    (ap Err c.at-then-mark-gt-TOP_NUMBER.ensures)
     ∙ sym (refusal_end a.numbers.now a.mark l.loop-index.previous l.loop-index.index (omega arith) ∙ simp (lt-ltb _ _ c.if-mark-gt-TOP_NUMBER.true))
     ∙ l.loop-index.invariant.1
 

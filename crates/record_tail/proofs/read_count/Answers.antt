@@ -3,7 +3,8 @@
 use mathlib.Core.Path.{ap, ◌∙◌}
 use mathlib.Core.Bool.{not}
 use borrow.Author.Tests.{eq-eqb, ne_eqb}
-use Rattle.answer.specs.Refusals.{different_count}
+use Rattle.std.specs.Prelude.{Err}
+use Rattle.answer.specs.declared.Reason.TheVariants.{DifferentCount}
 use Rattle.answer.specs.Outcome.{at}
 use Rattle.answer.proofs.Outcomes.{refuse_held, refuse_passed}
 use Rattle.codec.specs.declared.Field.TheVariants.{Count}
@@ -15,17 +16,17 @@ use Rattle.record_tail.proofs.read_count.Goals as goal
 pub returns-then-value-right : goal.returns-then-value-right
 returns-then-value-right c =
     let a = c.args in
-    c.refused.ensures
-    ∙ ap reading_of (field_held a.bytes.now a.start Count (count_refusal a.right a.start) c.read_number-number.ensures _ _ (at different_count a.start) c.in-Number.is
-    (refuse_held _ different_count a.start _ (ap not (ne_eqb _ _ c.if-value-right.true))))
+    (ap Err c.at.ensures)
+    ∙ ap reading_of (field_held a.bytes.now a.start Count (count_refusal a.right a.start) c.read_number-number.ensures _ _ (at DifferentCount a.start) c.in-Ok.is
+    (refuse_held _ DifferentCount a.start _ (ap not (ne_eqb _ _ c.if-value-right.true))))
 
-pub returns-in-Refused : goal.returns-in-Refused
-returns-in-Refused c =
+pub returns-in-Err : goal.returns-in-Err
+returns-in-Err c =
     let a = c.args in
-    ap reading_of (field_ended a.bytes.now a.start Count (count_refusal a.right a.start) c.read_number-number.ensures _ c.in-Refused.is)
+    ap reading_of (field_ended a.bytes.now a.start Count (count_refusal a.right a.start) c.read_number-number.ensures _ c.in-Err.is)
 
 pub returns-else-value-right : goal.returns-else-value-right
 returns-else-value-right c =
     let a = c.args in
-    ap reading_of (field_passed a.bytes.now a.start Count (count_refusal a.right a.start) c.read_number-number.ensures _ _ c.in-Number.is
-    (refuse_passed _ different_count a.start _ (ap not (eq-eqb _ _ c.if-value-right.false))))
+    ap reading_of (field_passed a.bytes.now a.start Count (count_refusal a.right a.start) c.read_number-number.ensures _ _ c.in-Ok.is
+    (refuse_passed _ DifferentCount a.start _ (ap not (eq-eqb _ _ c.if-value-right.false))))

@@ -6,8 +6,8 @@ use mathlib.Core.List.{List, []}
 use Prim.Native.Nat.{ℕ}
 use native.Mathlib.Nat.{le_antisymm}
 use lib.ListN.{length, get_or}
+use Rattle.codec.specs.Reads.{answered}
 use Rattle.codec.specs.declared.Field.TheVariants.{Count}
-use Rattle.codec.specs.declared.Reading.TheVariants.{Number}
 use Rattle.codec.specs.FieldReads.{field_at}
 use Rattle.codec.proofs.Found.{answer_number, answer_refused}
 use Rattle.codec.proofs.FieldReads.{fields_walk_none, fields_walk_more, fields_walk_refused, fields_walk_end}
@@ -23,12 +23,12 @@ right_at : (bytes counts earlier : List ℕ) (next index : ℕ) → length earli
     → field_at bytes next Count (count_refusal (get_or counts index 0) next) ≡ field_at bytes next Count (count_judge counts earlier next)
 right_at bytes counts earlier next index counted = ap (λ (k : ℕ). field_at bytes next Count (count_refusal (get_or counts k 0) next)) (sym counted)
 
-pub returns-in-Refused : goal.returns-in-Refused
-returns-in-Refused c =
+pub returns-in-Err : goal.returns-in-Err
+returns-in-Err c =
     let a = c.args in
     let walk = c.loop-index.invariant.1 in
     sym (ap counted_of (fields_walk_refused walk c.loop-index-test.true _
-    (sym (answer_refused _ _ (sym c.in-Refused.is ∙ c.read_count-count.ensures))
+    (sym (answer_refused _ _ (sym c.in-Err.is ∙ c.read_count-count.ensures))
     ∙ right_at a.bytes.now a.counts.now c.loop-index.invariant.0 c.loop-index.next c.loop-index.index walk.counted)))
 
 pub loop-index-preserved : goal.loop-index-preserved
@@ -37,7 +37,7 @@ loop-index-preserved c =
     let walk = c.loop-index.invariant.1 in (
       _,
       fields_walk_more walk c.loop-index-test.true _ _
-          (sym (answer_number _ _ _ (sym c.in-Number.is ∙ c.read_count-count.ensures))
+          (sym (answer_number _ _ _ (sym c.in-Ok.is ∙ c.read_count-count.ensures))
           ∙ right_at a.bytes.now a.counts.now c.loop-index.invariant.0 c.loop-index.next c.loop-index.index walk.counted),
     )
 
@@ -45,4 +45,4 @@ pub returns : goal.returns
 returns c =
     let walk = c.loop-index.invariant.1 in
     let counted : length c.args.counts.now ≡ length c.loop-index.invariant.0 = sym (walk.counted ∙ le_antisymm walk.within c.loop-index-test.false) in
-    ap (λ (k : ℕ). Number k c.loop-index.next) counted ∙ sym (ap counted_of (fields_walk_end walk c.loop-index-test.false))
+    ap (λ (k : ℕ). answered k c.loop-index.next) counted ∙ sym (ap counted_of (fields_walk_end walk c.loop-index-test.false))

@@ -4,9 +4,8 @@ use mathlib.Core.Path.{ap, ◌∙◌, subst}
 use mathlib.Core.List.{List}
 use Prim.Native.Nat.{ℕ, ◌≤◌}
 use lib.ListN.{length}
-use Rattle.answer.specs.Outcome.{Outcome}
+use Rattle.answer.specs.Outcome.{Outcome, Verdict}
 use Rattle.answer.specs.Placed.{placed}
-use Rattle.answer.specs.declared.Verdict.{Verdict}
 use Rattle.theory_sets.specs.Tables.{in_table}
 use Rattle.structure.proofs.Acceptance.{accepted_table}
 use Rattle.figures.specs.All.{Buffers}

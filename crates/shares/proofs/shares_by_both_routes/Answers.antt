@@ -5,8 +5,8 @@ use mathlib.Core.Path.{◌≡◌, sym, ◌∙◌}
 use Prim.Native.Nat.{◌≤◌}
 use native.Mathlib.Omega.{arith}
 use lib.ListN.{length}
+use Rattle.std.specs.Prelude.{Ok}
 use Rattle.answer.specs.Outcome.{and_then, room}
-use Rattle.answer.specs.declared.Verdict.TheVariants.{Accepted}
 use Rattle.answer.proofs.Outcomes.{then_accepted, room_accepted}
 use Rattle.theory_sets.specs.Tables.{in_table}
 use Rattle.shares_claim.specs.SetBySet.{shares_by_sets}
@@ -17,8 +17,8 @@ use Rattle.shares_claim.proofs.Claim.{counts_length, given_counts, shares_are_co
 use Rattle.shares.proofs.TwoBuffers.{route_written, both_unwritten, both_written}
 use Rattle.shares.proofs.shares_by_both_routes.Goals as goal
 
-pub returns-in-Refused : goal.returns-in-Refused
-returns-in-Refused c =
+pub returns-in-Err : goal.returns-in-Err
+returns-in-Err c =
     -- the cells needed are the counts
     let long : c.size-m.result ≡ length (group_counts c.args.n (in_table c.args.table.now) c.args.group) =
     let a = c.args in
@@ -26,10 +26,10 @@ returns-in-Refused c =
     let a = c.args in
     both_unwritten (shares_refusal a.n a.table.now a.group) (group_counts a.n (in_table a.table.now) a.group) c.size-m.result long
     a.first.now a.second.now c.smaller-room.result c.smaller-room.ensures
-    (sym c.judge-judged.ensures ∙ c.in-Refused.is)
+    (sym c.judge-judged.ensures ∙ c.in-Err.is)
 
-pub returns-in-Accepted : goal.returns-in-Accepted
-returns-in-Accepted c =
+pub returns-in-Ok : goal.returns-in-Ok
+returns-in-Ok c =
     -- the cells needed are the counts
     let long : c.size-m.result ≡ length (group_counts c.args.n (in_table c.args.table.now) c.args.group) =
     let a = c.args in
@@ -40,7 +40,7 @@ returns-in-Accepted c =
     let result = group_counts a.n works a.group in
     let needed = c.size-m.result in
     let lent = c.smaller-room.result in
-    let passed : and_then refusal (room needed lent) ≡ Accepted = sym c.judge-judged.ensures ∙ c.in-Accepted.is in
+    let passed : and_then refusal (room needed lent) ≡ Ok tt = sym c.judge-judged.ensures ∙ c.in-Ok.is in
     let checked = then_accepted refusal (room needed lent) passed in
     let fits : needed ≤ lent = room_accepted needed lent checked.1 in
     let first_fits : needed ≤ length a.first.now = omega (arith, c.smaller-room.ensures) in

@@ -7,8 +7,7 @@ use native.Mathlib.Nat.{le_trans, le_of_eq}
 use lib.Count.{ones-le}
 use lib.IntN.{ℤ, pos}
 use lib.ListN.{replicate}
-use Rattle.answer.specs.Outcome.{delivered}
-use Rattle.answer.specs.declared.Verdict.{Verdict}
+use Rattle.answer.specs.Outcome.{delivered, Verdict}
 use Rattle.theory_sets.specs.Tables.{in_table}
 use Rattle.shares_claim.specs.Reliability.{shares_by_reliability}
 use Rattle.shares_claim.proofs.Claim.{accepted_group}
@@ -19,7 +18,7 @@ pub write_shares-requires : goal.write_shares-requires
 write_shares-requires c =
     let a = c.args in
     let works = in_table a.table.now in
-    let found = found_given a.n a.table.now a.group (replicate 289 (pos 0)) _ c.reliability-found.result refl c.reliability-found.ensures _ c.in-Length.is in
+    let found = found_given a.n a.table.now a.group (replicate 289 (pos 0)) _ c.reliability-found.result refl c.reliability-found.ensures _ c.in-Ok.is in
     let group = accepted_group a.n a.table.now a.group found.accepted in
     record {
       n_bound = group.few;
@@ -28,17 +27,17 @@ write_shares-requires c =
       by_index = shares_in_range a.n works a.group group.within _ _ found.stands c.size-m.result c.size-m.ensures group.coherent;
     }
 
-pub returns-in-Refused : goal.returns-in-Refused
-returns-in-Refused c =
+pub returns-in-Err : goal.returns-in-Err
+returns-in-Err c =
     let a = c.args in
-    found_refused a.n a.table.now a.group (replicate 289 (pos 0)) _ c.reliability-found.result refl c.reliability-found.ensures _ c.in-Refused.is
+    found_refused a.n a.table.now a.group (replicate 289 (pos 0)) _ c.reliability-found.result refl c.reliability-found.ensures _ c.in-Err.is
     (shares_by_reliability a.n (in_table a.table.now) a.group) a.shares.now
 
-pub returns-in-Length : goal.returns-in-Length
-returns-in-Length c =
+pub returns-in-Ok : goal.returns-in-Ok
+returns-in-Ok c =
     let a = c.args in
     let works = in_table a.table.now in
-    let found = found_given a.n a.table.now a.group (replicate 289 (pos 0)) _ c.reliability-found.result refl c.reliability-found.ensures _ c.in-Length.is in
+    let found = found_given a.n a.table.now a.group (replicate 289 (pos 0)) _ c.reliability-found.result refl c.reliability-found.ensures _ c.in-Ok.is in
     let group = accepted_group a.n a.table.now a.group found.accepted in
     c.write_shares.ensures
     ∙ ap₂ (λ (v : Verdict) (xs : List ℤ). delivered v xs a.shares.now) (sym found.accepted)

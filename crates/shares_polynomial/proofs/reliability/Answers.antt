@@ -5,8 +5,8 @@ use mathlib.Core.List.{◌++◌}
 use Prim.Native.Nat.{ℕ, ◌+◌, ◌*◌, ◌≤◌}
 use lib.Count.{ones-le}
 use lib.ListN.{length, drop}
+use Rattle.std.specs.Prelude.{Ok}
 use Rattle.answer.specs.Outcome.{and_then, room}
-use Rattle.answer.specs.declared.Verdict.TheVariants.{Accepted}
 use Rattle.answer.proofs.Outcomes.{then_accepted, room_accepted}
 use Rattle.answer.proofs.Deliveries.{checked_refused, checked_whole}
 use Rattle.theory_sets.specs.Masks.{size}
@@ -20,13 +20,13 @@ use Rattle.shares_polynomial.proofs.reliability.Goals as goal
 
 pub write_reliability-requires : goal.write_reliability-requires
 write_reliability-requires c =
-    let count : (accepted : shares_refusal c.args.n c.args.table.now c.args.group ≡ Accepted) → c.cells_needed-count.result ≡ (size c.args.group + 1) * row_length c.args.n (size c.args.group) =
+    let count : (accepted : shares_refusal c.args.n c.args.table.now c.args.group ≡ Ok tt) → c.cells_needed-count.result ≡ (size c.args.group + 1) * row_length c.args.n (size c.args.group) =
     λ accepted. let a = c.args in
     let group = accepted_group a.n a.table.now a.group accepted in
     c.cells_needed-count.ensures group.few (ones-le a.n a.group group.within) in
     -- nothing is refused, and there is room
-    let passed : and_then (shares_refusal c.args.n c.args.table.now c.args.group) (room c.cells_needed-count.result (length c.args.cells.now)) ≡ Accepted =
-    sym c.judge-judged.ensures ∙ c.in-Accepted.is in
+    let passed : and_then (shares_refusal c.args.n c.args.table.now c.args.group) (room c.cells_needed-count.result (length c.args.cells.now)) ≡ Ok tt =
+    sym c.judge-judged.ensures ∙ c.in-Ok.is in
     let a = c.args in
     let both = then_accepted (shares_refusal a.n a.table.now a.group) _ passed in
     let group = accepted_group a.n a.table.now a.group both.0 in
@@ -36,31 +36,31 @@ write_reliability-requires c =
       group_in_bounds = subst (λ (x : ℕ). x ≤ length a.cells.now) (count both.0) (room_accepted c.cells_needed-count.result (length a.cells.now) both.1);
     }
 
-pub returns-in-Refused : goal.returns-in-Refused
-returns-in-Refused c =
-    let count : (accepted : shares_refusal c.args.n c.args.table.now c.args.group ≡ Accepted) → c.cells_needed-count.result ≡ (size c.args.group + 1) * row_length c.args.n (size c.args.group) =
+pub returns-in-Err : goal.returns-in-Err
+returns-in-Err c =
+    let count : (accepted : shares_refusal c.args.n c.args.table.now c.args.group ≡ Ok tt) → c.cells_needed-count.result ≡ (size c.args.group + 1) * row_length c.args.n (size c.args.group) =
     λ accepted. let a = c.args in
     let group = accepted_group a.n a.table.now a.group accepted in
     c.cells_needed-count.ensures group.few (ones-le a.n a.group group.within) in
-    let long : (accepted : shares_refusal c.args.n c.args.table.now c.args.group ≡ Accepted) → c.cells_needed-count.result ≡ length (reliability_cells c.args.n (in_table c.args.table.now) c.args.group) =
+    let long : (accepted : shares_refusal c.args.n c.args.table.now c.args.group ≡ Ok tt) → c.cells_needed-count.result ≡ length (reliability_cells c.args.n (in_table c.args.table.now) c.args.group) =
     λ accepted. let a = c.args in
     count accepted ∙ sym (cells_length a.n (in_table a.table.now) a.group) in
     let a = c.args in
     checked_refused (shares_refusal a.n a.table.now a.group) (reliability_cells a.n (in_table a.table.now) a.group) a.cells.now
-    c.cells_needed-count.result long (sym c.judge-judged.ensures ∙ c.in-Refused.is)
+    c.cells_needed-count.result long (sym c.judge-judged.ensures ∙ c.in-Err.is)
 
-pub returns-in-Accepted : goal.returns-in-Accepted
-returns-in-Accepted c =
-    let count : (accepted : shares_refusal c.args.n c.args.table.now c.args.group ≡ Accepted) → c.cells_needed-count.result ≡ (size c.args.group + 1) * row_length c.args.n (size c.args.group) =
+pub returns-in-Ok : goal.returns-in-Ok
+returns-in-Ok c =
+    let count : (accepted : shares_refusal c.args.n c.args.table.now c.args.group ≡ Ok tt) → c.cells_needed-count.result ≡ (size c.args.group + 1) * row_length c.args.n (size c.args.group) =
     λ accepted. let a = c.args in
     let group = accepted_group a.n a.table.now a.group accepted in
     c.cells_needed-count.ensures group.few (ones-le a.n a.group group.within) in
-    let long : (accepted : shares_refusal c.args.n c.args.table.now c.args.group ≡ Accepted) → c.cells_needed-count.result ≡ length (reliability_cells c.args.n (in_table c.args.table.now) c.args.group) =
+    let long : (accepted : shares_refusal c.args.n c.args.table.now c.args.group ≡ Ok tt) → c.cells_needed-count.result ≡ length (reliability_cells c.args.n (in_table c.args.table.now) c.args.group) =
     λ accepted. let a = c.args in
     count accepted ∙ sym (cells_length a.n (in_table a.table.now) a.group) in
     -- nothing is refused, and there is room
-    let passed : and_then (shares_refusal c.args.n c.args.table.now c.args.group) (room c.cells_needed-count.result (length c.args.cells.now)) ≡ Accepted =
-    sym c.judge-judged.ensures ∙ c.in-Accepted.is in
+    let passed : and_then (shares_refusal c.args.n c.args.table.now c.args.group) (room c.cells_needed-count.result (length c.args.cells.now)) ≡ Ok tt =
+    sym c.judge-judged.ensures ∙ c.in-Ok.is in
     let a = c.args in
     let refusal = shares_refusal a.n a.table.now a.group in
     let result = reliability_cells a.n (in_table a.table.now) a.group in

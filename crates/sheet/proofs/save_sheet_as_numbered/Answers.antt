@@ -1,9 +1,8 @@
 -- `sheet::save_sheet_as_numbered` meets its contract: 34 comes first, then 26 for the vector's kind and for the target's, and else the vector decides.
 -- Assumes nothing.
 use mathlib.Core.Path.{sym, ap, ap₂, ◌∙◌}
-use Rattle.answer.specs.Outcome.{outcome, delivered}
-use Rattle.answer.specs.declared.Verdict.{Verdict}
-use Rattle.answer.specs.declared.Written.{Written}
+use Rattle.std.specs.Prelude.{Err}
+use Rattle.answer.specs.Outcome.{outcome, delivered, Numbered, Verdict}
 use Rattle.vector_kind.specs.Kinds.{kind_of, kind_refusal}
 use Rattle.vector_conversion.specs.Vectors.{vector_refusal}
 use Rattle.vector_kind.specs.declared.Kind.{Kind}
@@ -17,7 +16,7 @@ returns-then-target-eq2 c =
     let told = c.before in
     let a = told.args in
     let entries = a.entries.now in
-    ap (λ (w : Written). outcome w a.buffer.now) c.unwritten.ensures
+    ap (λ (w : Numbered). outcome w a.buffer.now) (ap Err c.at.ensures)
     ∙ ap (λ (v : Verdict). delivered v (sheet_as (kind_of a.target) (kind_of a.kind) a.n entries) a.buffer.now)
     (sym (tail_held a.target (kind_refusal a.kind (kind_refusal a.target (vector_refusal (kind_of a.kind) a.n entries))) told.if-target-eq2.true))
 
@@ -47,7 +46,7 @@ returns-then-is_kind c =
     let a = named.args in
     let entries = a.entries.now in
     let later = vector_refusal (kind_of a.kind) a.n entries in
-    ap (λ (answer : Written). outcome answer a.buffer.now) c.unwritten-then-is_kind.ensures
+    ap (λ (answer : Numbered). outcome answer a.buffer.now) (ap Err c.at-then-is_kind.ensures)
     ∙ ap (λ (v : Verdict). delivered v (sheet_as (kind_of a.target) (kind_of a.kind) a.n entries) a.buffer.now)
     (sym (tail_passed a.target _ named.if-target-eq2.false
     ∙ kind_passed a.kind (kind_refusal a.target later) (sym first.is_kind.ensures ∙ first.if-is_kind.true)
@@ -60,7 +59,7 @@ returns c =
     let a = named.args in
     let entries = a.entries.now in
     let later = vector_refusal (kind_of a.kind) a.n entries in
-    ap (λ (answer : Written). outcome answer a.buffer.now) c.unwritten-2.ensures
+    ap (λ (answer : Numbered). outcome answer a.buffer.now) (ap Err c.at-2.ensures)
     ∙ ap (λ (v : Verdict). delivered v (sheet_as (kind_of a.target) (kind_of a.kind) a.n entries) a.buffer.now)
     (sym (tail_passed a.target _ named.if-target-eq2.false
     ∙ kind_refused a.kind (kind_refusal a.target later) (sym first.is_kind.ensures ∙ c.if-is_kind.false)))

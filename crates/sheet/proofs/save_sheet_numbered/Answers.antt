@@ -1,9 +1,8 @@
 -- `sheet::save_sheet_numbered` meets its contract: 26 comes first, and else the vector decides.
 -- Assumes nothing.
 use mathlib.Core.Path.{sym, ap, ◌∙◌}
-use Rattle.answer.specs.Outcome.{outcome, delivered}
-use Rattle.answer.specs.declared.Verdict.{Verdict}
-use Rattle.answer.specs.declared.Written.{Written}
+use Rattle.std.specs.Prelude.{Err}
+use Rattle.answer.specs.Outcome.{outcome, delivered, Numbered, Verdict}
 use Rattle.vector_kind.specs.Kinds.{kind_of}
 use Rattle.vector_conversion.specs.Vectors.{vector_refusal}
 use Rattle.vector_kind.specs.declared.Kind.{Kind}
@@ -29,6 +28,6 @@ returns c =
     let told = tested.before in
     let a = told.args in
     let entries = a.entries.now in
-    ap (λ (w : Written). outcome w a.buffer.now) c.unwritten.ensures
+    ap (λ (w : Numbered). outcome w a.buffer.now) (ap Err c.at.ensures)
     ∙ ap (λ (v : Verdict). delivered v (saved_sheet (kind_of a.kind) a.n entries) a.buffer.now)
     (sym (kind_refused a.kind (vector_refusal (kind_of a.kind) a.n entries) (sym told.is_kind.ensures ∙ tested.if-is_kind.false)))

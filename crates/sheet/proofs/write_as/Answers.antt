@@ -6,11 +6,8 @@ use mathlib.Core.List.{List}
 use Prim.Native.Nat.{ℕ, ◌≤◌}
 use lib.IntN.{ℤ, pos}
 use lib.ListN.{length, take, replicate}
-use Rattle.answer.specs.Outcome.{outcome, delivered}
-use Rattle.answer.specs.declared.Verdict.{Verdict}
-use Rattle.answer.specs.declared.Verdict.TheVariants.{Accepted}
-use Rattle.answer.specs.declared.Written.{Written}
-use Rattle.answer.specs.declared.Written.TheVariants as written
+use Rattle.std.specs.Prelude.{Ok}
+use Rattle.answer.specs.Outcome.{outcome, delivered, Numbered, Verdict}
 use Rattle.answer.proofs.Deliveries.{Given, given, refused_kept, refused_by}
 use Rattle.vector.specs.InStruct.{most_entries}
 use Rattle.vector.proofs.InStruct.{converted_fits}
@@ -24,7 +21,7 @@ use Rattle.sheet.proofs.write_as.Goals as goal
 
 -- a vector that was converted is accepted, and what it converts to stands in front of the cells
 module _ (kind : Kind) (n : ℕ) (entries : List ℤ) (target : Kind) (count : ℕ) (cells : List ℤ)
-    (done : outcome (written.Length count) cells ≡ delivered (vector_refusal kind n entries) (converted target kind n entries) (replicate most_entries (pos 0))) where
+    (done : outcome (Ok count) cells ≡ delivered (vector_refusal kind n entries) (converted target kind n entries) (replicate most_entries (pos 0))) where
   whole : Given (vector_refusal kind n entries) (converted target kind n entries) (replicate most_entries (pos 0)) cells count
   whole = given _ _ _ _ _ done
 
@@ -34,33 +31,33 @@ module _ (kind : Kind) (n : ℕ) (entries : List ℤ) (target : Kind) (count : �
       (written_longest target n (converted target kind n entries) (conversion_accepted kind n entries whole.accepted target))
 
   -- the sheet stands in front of the array
-  handed : (length : ℕ) (bytes buffer : List ℕ) → outcome (written.Length length) bytes ≡ delivered Accepted (sheet_bytes target n (take count cells)) (replicate 155 0)
-      → delivered Accepted (take length bytes) buffer ≡ delivered (vector_refusal kind n entries) (sheet_as target kind n entries) buffer
+  handed : (length : ℕ) (bytes buffer : List ℕ) → outcome (Ok length) bytes ≡ delivered (Ok tt) (sheet_bytes target n (take count cells)) (replicate 155 0)
+      → delivered (Ok tt) (take length bytes) buffer ≡ delivered (vector_refusal kind n entries) (sheet_as target kind n entries) buffer
   handed length bytes buffer made =
-      let sheet = given Accepted (sheet_bytes target n (take count cells)) (replicate 155 0) bytes length made in
-      ap (λ (sheet : List ℕ). delivered Accepted sheet buffer) (sheet.front ∙ ap (sheet_bytes target n) whole.front)
+      let sheet = given (Ok tt) (sheet_bytes target n (take count cells)) (replicate 155 0) bytes length made in
+      ap (λ (sheet : List ℕ). delivered (Ok tt) sheet buffer) (sheet.front ∙ ap (sheet_bytes target n) whole.front)
       ∙ ap (λ (v : Verdict). delivered v (sheet_as target kind n entries) buffer) (sym whole.accepted)
 
 pub write_numbers-length-requires : goal.write_numbers-length-requires
 write_numbers-length-requires c =
     let a = c.args in
-    short a.kind a.n a.entries.now a.target c.in-Length.count c.convert-converted.new.cells
-    (ap (λ (answer : Written). outcome answer c.convert-converted.new.cells) (sym c.in-Length.is) ∙ c.convert-converted.ensures)
+    short a.kind a.n a.entries.now a.target c.in-Ok.count c.convert-converted.new.cells
+    (ap (λ (answer : Numbered). outcome answer c.convert-converted.new.cells) (sym c.in-Ok.is) ∙ c.convert-converted.ensures)
 
-pub returns-in-Refused : goal.returns-in-Refused
-returns-in-Refused c =
+pub returns-in-Err : goal.returns-in-Err
+returns-in-Err c =
     let a = c.args in
     let judged = vector_refusal a.kind a.n a.entries.now in
     refused_kept judged (sheet_as a.target a.kind a.n a.entries.now) a.buffer.now _
     (refused_by judged (converted a.target a.kind a.n a.entries.now) (replicate most_entries (pos 0)) c.convert-converted.new.cells _
     (converted_fits a.target a.kind a.n a.entries.now)
-    (ap (λ (answer : Written). outcome answer c.convert-converted.new.cells) (sym c.in-Refused.is) ∙ c.convert-converted.ensures))
+    (ap (λ (answer : Numbered). outcome answer c.convert-converted.new.cells) (sym c.in-Err.is) ∙ c.convert-converted.ensures))
 
-pub returns-in-Length : goal.returns-in-Length
-returns-in-Length c =
+pub returns-in-Ok : goal.returns-in-Ok
+returns-in-Ok c =
     let a = c.args in
     let cells = c.convert-converted.new.cells in
-    c.hand_out_bytes.ensures
-    ∙ handed a.kind a.n a.entries.now a.target c.in-Length.count cells
-    (ap (λ (answer : Written). outcome answer cells) (sym c.in-Length.is) ∙ c.convert-converted.ensures)
+    c.hand_out.ensures
+    ∙ handed a.kind a.n a.entries.now a.target c.in-Ok.count cells
+    (ap (λ (answer : Numbered). outcome answer cells) (sym c.in-Ok.is) ∙ c.convert-converted.ensures)
     c.write_numbers-length.result c.write_numbers-length.new.buffer a.buffer.now c.write_numbers-length.ensures

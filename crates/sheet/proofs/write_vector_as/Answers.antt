@@ -5,9 +5,8 @@ use Prim.Native.Nat.{◌≤◌}
 use native.Mathlib.Omega.{arith}
 use lib.ListN.{length}
 use lib.Seq.{length-take-le}
-use Rattle.answer.specs.Outcome.{delivered}
-use Rattle.answer.specs.declared.Verdict.{Verdict}
-use Rattle.answer.specs.declared.Verdict.TheVariants.{Accepted}
+use Rattle.std.specs.Prelude.{Ok}
+use Rattle.answer.specs.Outcome.{delivered, Verdict}
 use Rattle.vector.specs.InStruct.{most_entries, entries_of, struct_refusal}
 use Rattle.vector.specs.declared.Vector.{Vector}
 use Rattle.vector.proofs.InStruct.{accepted_few, held_same}
@@ -15,20 +14,20 @@ use Rattle.sheet.specs.Saving.{sheet_as}
 use Rattle.sheet.proofs.write_vector_as.Goals as goal
 
 -- an accepted vector has all its entries in its cells
-inside : (vector : Vector) → length vector.entries ≡ most_entries → struct_refusal vector ≡ Accepted → vector.length ≤ length vector.entries
+inside : (vector : Vector) → length vector.entries ≡ most_entries → struct_refusal vector ≡ Ok tt → vector.length ≤ length vector.entries
 inside vector all accepted = omega (arith, all, accepted_few vector accepted)
 
 pub slice_bounds-entries-end : goal.slice_bounds-entries-end
-slice_bounds-entries-end c = inside c.args.vector (omega arith) (sym c.judge-verdict.ensures ∙ c.in-Accepted.is)
+slice_bounds-entries-end c = inside c.args.vector (omega arith) (sym c.judge-verdict.ensures ∙ c.in-Ok.is)
 
 pub slice_bounds-write_as-end : goal.slice_bounds-write_as-end
 slice_bounds-write_as-end c =
     let vector = c.args.vector in
-    sym (length-take-le vector.length vector.entries (inside vector (omega arith) (sym c.judge-verdict.ensures ∙ c.in-Accepted.is)))
+    sym (length-take-le vector.length vector.entries (inside vector (omega arith) (sym c.judge-verdict.ensures ∙ c.in-Ok.is)))
 
-pub returns-in-Accepted : goal.returns-in-Accepted
-returns-in-Accepted c =
+pub returns-in-Ok : goal.returns-in-Ok
+returns-in-Ok c =
     let a = c.args in
     c.write_as.ensures
     ∙ ap (λ (v : Verdict). delivered v (sheet_as a.target a.vector.kind a.vector.n (entries_of a.vector)) a.buffer.now)
-    (held_same a.vector (omega arith) (sym c.judge-verdict.ensures ∙ c.in-Accepted.is))
+    (held_same a.vector (omega arith) (sym c.judge-verdict.ensures ∙ c.in-Ok.is))

@@ -10,25 +10,25 @@ use Rattle.sheet_entries.specs.Answers.{entries_read, entries_delivered}
 use Rattle.sheet_entries.proofs.read_sheet.Goals as goal
 
 pub slice_bounds-entries-end : goal.slice_bounds-entries-end
-slice_bounds-entries-end c = (sheet_given (sheet_of c.args.bytes.now) c.vector_of_sheet-read.result c.vector_of_sheet-read.ensures c.in-Accepted.is).inside
+slice_bounds-entries-end c = (sheet_given (sheet_of c.args.bytes.now) c.vector_of_sheet-read.result c.vector_of_sheet-read.ensures c.in-Ok.is).inside
 
-pub slice_bounds-hand_out_entries-end : goal.slice_bounds-hand_out_entries-end
-slice_bounds-hand_out_entries-end c =
-    sym (sheet_given (sheet_of c.args.bytes.now) c.vector_of_sheet-read.result c.vector_of_sheet-read.ensures c.in-Accepted.is).counted
+pub slice_bounds-hand_out-end : goal.slice_bounds-hand_out-end
+slice_bounds-hand_out-end c =
+    sym (sheet_given (sheet_of c.args.bytes.now) c.vector_of_sheet-read.result c.vector_of_sheet-read.ensures c.in-Ok.is).counted
 
-pub returns-in-Refused : goal.returns-in-Refused
-returns-in-Refused c =
+pub returns-in-Err : goal.returns-in-Err
+returns-in-Err c =
     let a = c.args in
     let cells = a.cells.now in
     ap (λ (r : EntriesRead). outcome r cells) c.entries_read.ensures
     ∙ sym (ap (λ (s : Read Sheet). entries_delivered s cells)
-    (sheet_refused (sheet_of a.bytes.now) c.vector_of_sheet-read.result _ c.vector_of_sheet-read.ensures c.in-Refused.is))
+    (sheet_refused (sheet_of a.bytes.now) c.vector_of_sheet-read.result _ c.vector_of_sheet-read.ensures c.in-Err.is))
 
-pub returns-in-Accepted : goal.returns-in-Accepted
-returns-in-Accepted c =
+pub returns-in-Ok : goal.returns-in-Ok
+returns-in-Ok c =
     let a = c.args in
     let read = c.vector_of_sheet-read.result in
-    let accepted : GivenAs (sheet_of a.bytes.now) read = sheet_given (sheet_of a.bytes.now) read c.vector_of_sheet-read.ensures c.in-Accepted.is in
-    ap (λ (r : EntriesRead). outcome r c.hand_out_entries-handed.new.buffer) c.entries_read-in-Accepted.ensures
-    ∙ ap (retold (entries_read read.vector.kind read.vector.n)) c.hand_out_entries-handed.ensures
+    let accepted : GivenAs (sheet_of a.bytes.now) read = sheet_given (sheet_of a.bytes.now) read c.vector_of_sheet-read.ensures c.in-Ok.is in
+    ap (λ (r : EntriesRead). outcome r c.hand_out-handed.new.buffer) c.entries_read-in-Ok.ensures
+    ∙ ap (retold (entries_read read.vector.kind read.vector.n)) c.hand_out-handed.ensures
     ∙ sym (ap (λ (s : Read Sheet). entries_delivered s a.cells.now) accepted.given)

@@ -3,15 +3,15 @@
 use mathlib.Core.Path.{sym, ap, ◌∙◌}
 use mathlib.Core.Bool.{Bool}
 use borrow.Author.Tests.{lt-ltb, le-ltb}
+use Rattle.std.specs.Prelude.{Ok, Err}
 use Rattle.answer.specs.Outcome.{refuse}
-use Rattle.answer.specs.Refusals.{bytes_left}
-use Rattle.answer.specs.declared.Verdict.TheVariants.{Accepted}
+use Rattle.answer.specs.declared.Reason.TheVariants.{BytesLeft}
 use Rattle.sheet_reading.proofs.bytes_left.Goals as goal
 
 pub returns-then-end-bytes : goal.returns-then-end-bytes
 returns-then-end-bytes c =
-    c.refused.ensures
-    ∙ sym (ap (λ (t : Bool). refuse t bytes_left c.args.end Accepted) (lt-ltb _ _ c.if-end-bytes.true))
+    (ap Err c.at.ensures)
+    ∙ sym (ap (λ (t : Bool). refuse t BytesLeft c.args.end (Ok tt)) (lt-ltb _ _ c.if-end-bytes.true))
 
 pub returns : goal.returns
-returns c = sym (ap (λ (t : Bool). refuse t bytes_left c.args.end Accepted) (le-ltb _ _ c.if-end-bytes.false))
+returns c = sym (ap (λ (t : Bool). refuse t BytesLeft c.args.end (Ok tt)) (le-ltb _ _ c.if-end-bytes.false))

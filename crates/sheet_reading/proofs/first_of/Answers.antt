@@ -1,9 +1,8 @@
 -- `sheet_reading::first_of` meets its contract, case by case.
 -- Assumes nothing.
 use mathlib.Core.Path.{sym, ap}
-use Rattle.answer.specs.Outcome.{and_then}
-use Rattle.answer.specs.declared.Verdict.{Verdict}
+use Rattle.answer.specs.Outcome.{and_then, Verdict}
 use Rattle.sheet_reading.proofs.first_of.Goals as goal
 
-pub returns-in-Refused : goal.returns-in-Refused
-returns-in-Refused c = ap (λ (v : Verdict). and_then v c.args.later) (sym c.in-Refused.is)
+pub returns-in-Err : goal.returns-in-Err
+returns-in-Err c = ap (λ (v : Verdict). and_then v c.args.later) (sym c.in-Err.is)

@@ -21,31 +21,31 @@ use Rattle.sheet.proofs.Codes.{length_few}
 use Rattle.sheet_reading.proofs.Walk.{EntriesWalk, walk_more, walk_refused, walk_end, entries_held, vector_counts}
 use Rattle.sheet_reading.proofs.read_entries.Goals as goal
 
-pub returns-in-Refused : goal.returns-in-Refused
-returns-in-Refused c =
+pub returns-in-Err : goal.returns-in-Err
+returns-in-Err c =
     let a = c.args in
     c.refused_sheet.ensures
     ∙ sym (ap (λ (r : Read (List ℤ)). sheet_read (then r (ended a.bytes.now a.kind a.n))) (walk_refused c.loop-index.invariant.1 (omega (arith, c.loop-index.invariant.0, c.loop-index-test.true)) _
-    (answer_refused _ _ (sym c.in-Refused.is ∙ c.read_number-number.ensures))))
+    (answer_refused _ _ (sym c.in-Err.is ∙ c.read_number-number.ensures))))
 
 pub decode-requires : goal.decode-requires
 decode-requires c =
     let a = c.args in
     (read_form a.bytes.now c.loop-index.next field.Sheet _ _ (λ i. omega (arith, c.type_inv.bytes i))
-    (answer_number _ _ _ (sym c.in-Number.is ∙ c.read_number-number.ensures))).allowed
+    (answer_number _ _ _ (sym c.in-Ok.is ∙ c.read_number-number.ensures))).allowed
 
 pub loop-index-preserved : goal.loop-index-preserved
 loop-index-preserved c =
     let a = c.args in
     let l = c.loop-index in
     let count = length_of a.kind a.n in
-    let value : ℕ = c.in-Number.value in
-    let after : ℕ = c.in-Number.after in (
+    let value : ℕ = c.in-Ok.value in
+    let after : ℕ = c.in-Ok.after in (
       l.invariant.0,
       subst (λ (z : ℤ). EntriesWalk a.bytes.now a.kind count a.start (set l.entries l.index z) after (l.index + 1))
           (sym (to_z-of_z {w = w64} (record { sfits = c.decode.type_inv }) ∙ c.decode.ensures))
           (walk_more l.invariant.1 (omega (arith, l.invariant.0, c.loop-index-test.true)) (length_few a.kind a.n c.requires.n_bound) value after
-          (answer_number _ _ _ (sym c.in-Number.is ∙ c.read_number-number.ensures))),
+          (answer_number _ _ _ (sym c.in-Ok.is ∙ c.read_number-number.ensures))),
     )
 
 -- behind the last entry: what the cells in front hold

@@ -6,15 +6,13 @@ use mathlib.Core.List.{List}
 use Prim.Native.Nat.{ℕ}
 use lib.Dec.{leb}
 use borrow.Author.Tests.{le-leb, lt-leb}
+use Rattle.std.specs.Prelude.{Ok}
 use Rattle.answer.specs.Outcome.{at}
-use Rattle.answer.specs.Refusals.{wrong_kind}
-use Rattle.answer.specs.declared.Verdict.TheVariants.{Accepted}
+use Rattle.answer.specs.declared.Reason.TheVariants.{WrongKind}
 use Rattle.answer.proofs.Outcomes.{refuse_held, refuse_passed}
 use Rattle.codec.specs.declared.Field.TheVariants as field
-use Rattle.codec.specs.declared.Reading.{Reading}
-use Rattle.codec.specs.declared.Reading.TheVariants as reading
 use Rattle.codec.specs.Reading.{number_at}
-use Rattle.codec.specs.Reads.{Read, reading_of, refused, then}
+use Rattle.codec.specs.Reads.{Read, reading_of, refused, then, answered, Reading}
 use Rattle.codec.proofs.Found.{field_ended, field_passed, field_held}
 use Rattle.vector_kind.specs.Kinds.{is_kind, kind_of}
 use Rattle.vector_kind.specs.declared.Kind.{Kind}
@@ -25,44 +23,44 @@ use Rattle.sheet_reading.proofs.ReadSheet.{sheet_steps}
 use Rattle.sheet_reading.proofs.vector_of_sheet.Goals as goal
 
 -- the kind's number is read
-module _ (bytes : List ℕ) (r : Reading) (read : r ≡ reading_of (number_at bytes 0 field.Sheet)) (value next : ℕ) (is : r ≡ reading.Number value next) where
+module _ (bytes : List ℕ) (r : Reading ℕ) (read : r ≡ reading_of (number_at bytes 0 field.Sheet)) (value next : ℕ) (is : r ≡ answered value next) where
   abbrev on : Read ℕ → Read Sheet
   on r = then r (λ number after. kinded bytes (kind_of number) after)
 
-  outside : not (is_kind value) ≡ true → sheet_of bytes ≡ refused (at wrong_kind 0)
+  outside : not (is_kind value) ≡ true → sheet_of bytes ≡ refused (at WrongKind 0)
   outside h =
-      sheet_steps bytes ∙ ap on (sym (field_held bytes 0 field.Sheet kind_judged read value next (at wrong_kind 0) is (refuse_held _ wrong_kind 0 Accepted h)))
+      sheet_steps bytes ∙ ap on (sym (field_held bytes 0 field.Sheet kind_judged read value next (at WrongKind 0) is (refuse_held _ WrongKind 0 (Ok tt) h)))
 
   inside : not (is_kind value) ≡ false → sheet_of bytes ≡ kinded bytes (kind_of value) next
-  inside h = sheet_steps bytes ∙ ap on (sym (field_passed bytes 0 field.Sheet kind_judged read value next is (refuse_passed _ wrong_kind 0 Accepted h)))
+  inside h = sheet_steps bytes ∙ ap on (sym (field_passed bytes 0 field.Sheet kind_judged read value next is (refuse_passed _ WrongKind 0 (Ok tt) h)))
 
 pub returns-then-value-lt1 : goal.returns-then-value-lt1
 returns-then-value-lt1 c =
-    let v : ℕ = c.in-Number.value in
+    let v : ℕ = c.in-Ok.value in
     c.refused_sheet-then-value-lt1.ensures
-    ∙ sym (ap sheet_read (outside c.args.bytes.now _ c.read_number-number.ensures v c.in-Number.next c.in-Number.is
+    ∙ sym (ap sheet_read (outside c.args.bytes.now _ c.read_number-number.ensures v c.in-Ok.next c.in-Ok.is
     (ap (λ (t : Bool). not (t && leb v 4)) (lt-leb 1 v c.if-value-lt1.true))))
 
 pub returns-then-value-gt4 : goal.returns-then-value-gt4
 returns-then-value-gt4 c =
-    let v : ℕ = c.in-Number.value in
+    let v : ℕ = c.in-Ok.value in
     c.refused_sheet-then-value-gt4.ensures
-    ∙ sym (ap sheet_read (outside c.args.bytes.now _ c.read_number-number.ensures v c.in-Number.next c.in-Number.is
+    ∙ sym (ap sheet_read (outside c.args.bytes.now _ c.read_number-number.ensures v c.in-Ok.next c.in-Ok.is
     (ap₂ (λ (s t : Bool). not (s && t)) (le-leb 1 v c.if-value-lt1.false) (lt-leb v 4 c.if-value-gt4.true))))
 
-pub returns-in-Refused : goal.returns-in-Refused
-returns-in-Refused c =
+pub returns-in-Err : goal.returns-in-Err
+returns-in-Err c =
     let a = c.args in
     c.refused_sheet.ensures
     ∙ sym (ap sheet_read (sheet_steps a.bytes.now
     ∙ ap (λ (r : Read ℕ). then r (λ number after. kinded a.bytes.now (kind_of number) after))
-    (sym (field_ended a.bytes.now 0 field.Sheet kind_judged c.read_number-number.ensures _ c.in-Refused.is))))
+    (sym (field_ended a.bytes.now 0 field.Sheet kind_judged c.read_number-number.ensures _ c.in-Err.is))))
 
 pub returns-else-value-gt4 : goal.returns-else-value-gt4
 returns-else-value-gt4 c =
     let a = c.args in
-    let v : ℕ = c.in-Number.value in
+    let v : ℕ = c.in-Ok.value in
     c.read_parts.ensures
-    ∙ ap (λ (k : Kind). sheet_read (kinded a.bytes.now k c.in-Number.next)) c.kind_of.ensures
-    ∙ sym (ap sheet_read (inside a.bytes.now _ c.read_number-number.ensures v c.in-Number.next c.in-Number.is
+    ∙ ap (λ (k : Kind). sheet_read (kinded a.bytes.now k c.in-Ok.next)) c.kind_of.ensures
+    ∙ sym (ap sheet_read (inside a.bytes.now _ c.read_number-number.ensures v c.in-Ok.next c.in-Ok.is
     (ap₂ (λ (s t : Bool). not (s && t)) (le-leb 1 v c.if-value-lt1.false) (le-leb v 4 c.if-value-gt4.false))))

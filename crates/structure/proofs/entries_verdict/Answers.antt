@@ -5,7 +5,8 @@ use Prim.Native.Nat.{ℕ, ◌^◌, ◌≤◌, ◌<◌}
 use native.Mathlib.Omega.{arith}
 use lib.ListN.{get_or, drop_of_length-le}
 use borrow.Author.Tests.{le-leb, lt-leb, eq-eqb, ne_eqb}
-use Rattle.answer.specs.Refusals.{unknown_part, empty_set}
+use Rattle.std.specs.Prelude.{Err}
+use Rattle.answer.specs.declared.Reason.TheVariants.{UnknownPart, EmptySet}
 use Rattle.answer.proofs.Outcomes.{refuse_held, refuse_passed}
 use Rattle.numbers.proofs.Counts.{up_to_16_given}
 use Rattle.structure.specs.Checks.{entries_refusal}
@@ -30,8 +31,8 @@ returns-then-power_of_two-mask c =
     let i = c.loop-i.i in
     let mask : ℕ = get_or a.list.now i 0 in
     let unknown : 2 ^ a.n ≤ mask = subst (λ (x : ℕ). x ≤ mask) (power-is (goal.at.returns-then-power_of_two-mask c).After-power_of_two) c.if-power_of_two-mask.true in
-    c.refused.ensures
-    ∙ sym (c.loop-i.invariant.1 ∙ entries_from a.n i a.list.now c.loop-i-test.true ∙ refuse_held _ unknown_part i _ (le-leb (2 ^ a.n) mask unknown))
+    (ap Err c.at.ensures)
+    ∙ sym (c.loop-i.invariant.1 ∙ entries_from a.n i a.list.now c.loop-i-test.true ∙ refuse_held _ UnknownPart i _ (le-leb (2 ^ a.n) mask unknown))
 
 pub returns-then-mask-eq0 : goal.returns-then-mask-eq0
 returns-then-mask-eq0 c =
@@ -39,9 +40,9 @@ returns-then-mask-eq0 c =
     let i = c.loop-i.i in
     let mask : ℕ = get_or a.list.now i 0 in
     let known : mask < 2 ^ a.n = subst (λ (x : ℕ). mask < x) (power-is (goal.at.returns-then-mask-eq0 c).After-power_of_two) c.if-power_of_two-mask.false in
-    c.refused-then-mask-eq0.ensures
+    (ap Err c.at-then-mask-eq0.ensures)
     ∙ sym (c.loop-i.invariant.1 ∙ entries_from a.n i a.list.now c.loop-i-test.true
-    ∙ refuse_passed _ unknown_part i _ (lt-leb (2 ^ a.n) mask known) ∙ refuse_held _ empty_set i _ (eq-eqb mask 0 c.if-mask-eq0.true))
+    ∙ refuse_passed _ UnknownPart i _ (lt-leb (2 ^ a.n) mask known) ∙ refuse_held _ EmptySet i _ (eq-eqb mask 0 c.if-mask-eq0.true))
 
 pub loop-i-preserved : goal.loop-i-preserved
 loop-i-preserved c =
@@ -51,7 +52,7 @@ loop-i-preserved c =
     let known : mask < 2 ^ a.n = subst (λ (x : ℕ). mask < x) (power-is (goal.at.loop-i-preserved c).After-power_of_two) c.if-power_of_two-mask.false in (
       omega arith,
       c.loop-i.invariant.1 ∙ entries_from a.n i a.list.now c.loop-i-test.true
-          ∙ refuse_passed _ unknown_part i _ (lt-leb (2 ^ a.n) mask known) ∙ refuse_passed _ empty_set i _ (ne_eqb mask 0 c.if-mask-eq0.false),
+          ∙ refuse_passed _ UnknownPart i _ (lt-leb (2 ^ a.n) mask known) ∙ refuse_passed _ EmptySet i _ (ne_eqb mask 0 c.if-mask-eq0.false),
     )
 
 pub returns : goal.returns

@@ -5,9 +5,8 @@ use mathlib.Core.List.{List, ◌++◌}
 use Prim.Native.Nat.{ℕ}
 use lib.ListN.{length, drop}
 use lib.Seq.{length-take-le}
-use Rattle.answer.specs.Outcome.{outcome}
-use Rattle.answer.specs.declared.Verdict.TheVariants.{Accepted}
-use Rattle.answer.specs.declared.Written.{Written}
+use Rattle.std.specs.Prelude.{Ok, Err}
+use Rattle.answer.specs.Outcome.{outcome, Numbered}
 use Rattle.answer.proofs.Deliveries.{delivered_short, delivered_whole}
 use Rattle.numbers.specs.Counts.{up_to_16}
 use Rattle.numbers.proofs.Tables.{tabulate_length}
@@ -26,8 +25,8 @@ pub returns-then-table-needed : goal.returns-then-table-needed
 returns-then-table-needed c =
     let sized = c in
     let a = sized.args in
-    ap (λ (w : Written). outcome w a.table.now) c.short.ensures
-    ∙ delivered_short Accepted (result-of a.n a.words.now) a.table.now refl sized.table_length-needed.result
+    ap (λ (w : Numbered). outcome w a.table.now) (ap Err c.at.ensures)
+    ∙ delivered_short (Ok tt) (result-of a.n a.words.now) a.table.now refl sized.table_length-needed.result
     (long a.n _ a.words.now sized.table_length-needed.ensures) c.if-table-needed.true
 
 pub slice_bounds-store-end-2 : goal.slice_bounds-store-end-2
@@ -41,7 +40,7 @@ returns c =
     let a = sized.args in
     let needed = sized.table_length-needed.result in
     let words = a.words.now in
-    delivered_whole Accepted (result-of a.n words) a.table.now refl needed (long a.n needed words sized.table_length-needed.ensures) _
+    delivered_whole (Ok tt) (result-of a.n words) a.table.now refl needed (long a.n needed words sized.table_length-needed.ensures) _
     (ap (λ (xs : List ℕ). xs ++ drop needed a.table.now)
     (stored.store.ensures ∙ ap (λ (k : ℕ). bytes_in k words) (length-take-le needed a.table.now fits.if-table-needed.false ∙ sized.table_length-needed.ensures)))
     fits.if-table-needed.false

@@ -7,9 +7,9 @@ use Prim.Native.Nat.{ℕ, ◌-◌, ◌^◌, ◌≤◌, ◌<◌, min}
 use native.Mathlib.Nat.{lt_of_lt_of_le}
 use native.Mathlib.Omega.{arith}
 use lib.Pow.{pow_mono, pow_pos, ones_lt}
+use Rattle.std.specs.Prelude.{Ok, Err}
 use Rattle.answer.specs.Outcome.{at}
-use Rattle.answer.specs.Refusals.{empty_set_works, full_set_fails, broken_set}
-use Rattle.answer.specs.declared.Verdict.TheVariants.{Accepted, Refused}
+use Rattle.answer.specs.declared.Reason.TheVariants.{EmptySetWorks, FullSetFails, BrokenSet}
 use Rattle.answer.proofs.Outcomes.{refuse_held, refuse_passed}
 use Rattle.numbers.proofs.Counts.{up_to_16_given}
 use Rattle.theory_sets.specs.Masks.{least}
@@ -48,16 +48,16 @@ place_is c =
     ∙ ap (λ (ws : List ℕ). least (broken (min c.args.n 16) (in_words ws)) 65536) c.load-loaded.ensures
 
 pub returns-then-works : goal.returns-then-works
-returns-then-works c = c.refused.ensures ∙ sym (refuse_held _ empty_set_works 0 _ (empty-is (goal.at.returns-then-works c).After-works ∙ c.if-works.true))
+returns-then-works c = (ap Err c.at.ensures) ∙ sym (refuse_held _ EmptySetWorks 0 _ (empty-is (goal.at.returns-then-works c).After-works ∙ c.if-works.true))
 
 pub overflow_sub-power_of_two : goal.overflow_sub-power_of_two
 overflow_sub-power_of_two c = subst (λ (x : ℕ). 1 ≤ x) (sym (power-is (goal.at.overflow_sub-power_of_two c).After-power_of_two)) (pow_pos c.args.n)
 
 pub returns-then-not-works : goal.returns-then-not-works
 returns-then-not-works c =
-    c.refused-then-not-works.ensures
-    ∙ sym (refuse_passed _ empty_set_works 0 _ (empty-is (goal.at.returns-then-not-works c).After-works ∙ c.if-works.false)
-    ∙ refuse_held _ full_set_fails 0 _ (ap not (full_is (goal.at.returns-then-not-works c).After-works-2 ∙ c.if-not-works.true)))
+    (ap Err c.at-then-not-works.ensures)
+    ∙ sym (refuse_passed _ EmptySetWorks 0 _ (empty-is (goal.at.returns-then-not-works c).After-works ∙ c.if-works.false)
+    ∙ refuse_held _ FullSetFails 0 _ (ap not (full_is (goal.at.returns-then-not-works c).After-works-2 ∙ c.if-not-works.true)))
 
 pub returns-then-place-lt65536 : goal.returns-then-place-lt65536
 returns-then-place-lt65536 c =
@@ -66,16 +66,16 @@ returns-then-place-lt65536 c =
     let n = start.args.n in
     let place = c.first_broken-place.result in
     let found = first_found n table start.requires.n_bound start.requires.by_index place (place_is (goal.at.returns-then-place-lt65536 c).After-first_broken-place) c.if-place-lt65536.true in
-    c.refused-then-place-lt65536.ensures ∙ ap (λ (p : ℕ). Refused (at broken_set p)) found.1
-    ∙ sym (refuse_passed _ empty_set_works 0 _ (empty-is (goal.at.returns-then-place-lt65536 c).After-works ∙ c.if-works.false)
-    ∙ refuse_passed _ full_set_fails 0 _ (ap not (full_is (goal.at.returns-then-place-lt65536 c).After-works-2 ∙ c.if-not-works.false)) ∙ refuse_held _ broken_set _ _ found.0)
+    (ap Err c.at-then-place-lt65536.ensures) ∙ ap (λ (p : ℕ). Err (at BrokenSet p)) found.1
+    ∙ sym (refuse_passed _ EmptySetWorks 0 _ (empty-is (goal.at.returns-then-place-lt65536 c).After-works ∙ c.if-works.false)
+    ∙ refuse_passed _ FullSetFails 0 _ (ap not (full_is (goal.at.returns-then-place-lt65536 c).After-works-2 ∙ c.if-not-works.false)) ∙ refuse_held _ BrokenSet _ _ found.0)
 
 pub returns : goal.returns
 returns c =
     let start = c in
     let table = start.args.table.now in
     let n = start.args.n in
-    sym (refuse_passed _ empty_set_works 0 _ (empty-is (goal.at.returns c).After-works ∙ c.if-works.false)
-    ∙ refuse_passed _ full_set_fails 0 _ (ap not (full_is (goal.at.returns c).After-works-2 ∙ c.if-not-works.false))
-    ∙ refuse_passed _ broken_set _ Accepted
+    sym (refuse_passed _ EmptySetWorks 0 _ (empty-is (goal.at.returns c).After-works ∙ c.if-works.false)
+    ∙ refuse_passed _ FullSetFails 0 _ (ap not (full_is (goal.at.returns c).After-works-2 ∙ c.if-not-works.false))
+    ∙ refuse_passed _ BrokenSet _ (Ok tt)
     (first_none n table start.requires.n_bound start.requires.by_index c.first_broken-place.result (place_is (goal.at.returns c).After-first_broken-place) c.if-place-lt65536.false))

@@ -8,7 +8,8 @@ use native.Mathlib.Omega.{arith}
 use lib.Dec.{leb, eqb}
 use lib.ListN.{length}
 use borrow.Author.Tests.{eq-eqb, ne_eqb, leb-true, not-false}
-use Rattle.answer.specs.Refusals.{wrong_part_count, wrong_table_length, unused_bit}
+use Rattle.std.specs.Prelude.{Err}
+use Rattle.answer.specs.declared.Reason.TheVariants.{WrongPartCount, WrongTableLength, UnusedBit}
 use Rattle.answer.proofs.Outcomes.{refuse_held, refuse_passed}
 use Rattle.numbers.proofs.Counts.{up_to_16_given}
 use Rattle.theory_sets.specs.Tables.{table_length}
@@ -44,15 +45,15 @@ unused-is c = unused_first c.args.n c.args.table.now ∙ sym c.has_unused.ensure
 pub returns-then-not-in_range : goal.returns-then-not-in_range
 unfolding table_refusal
 returns-then-not-in_range c =
-    c.refused.ensures ∙ sym (refuse_held _ wrong_part_count 0 _ (ap not (sym c.in_range.ensures ∙ c.if-not-in_range.true)))
+    (ap Err c.at.ensures) ∙ sym (refuse_held _ WrongPartCount 0 _ (ap not (sym c.in_range.ensures ∙ c.if-not-in_range.true)))
 
 pub returns-then-table-table_length : goal.returns-then-table-table_length
 unfolding table_refusal
 returns-then-table-table_length c =
     let a = c.args in
-    c.refused-then-table-table_length.ensures
-    ∙ sym (refuse_passed _ wrong_part_count 0 _ (in_parts (goal.at.returns-then-table-table_length c).Else-not-in_range)
-    ∙ refuse_held _ wrong_table_length 0 _
+    (ap Err c.at-then-table-table_length.ensures)
+    ∙ sym (refuse_passed _ WrongPartCount 0 _ (in_parts (goal.at.returns-then-table-table_length c).Else-not-in_range)
+    ∙ refuse_held _ WrongTableLength 0 _
     (ap not (ne_eqb (length a.table.now) (table_length a.n) (λ e. c.if-table-table_length.true (e ∙ sym (length-is (goal.at.returns-then-table-table_length c).After-table_length))))))
 
 pub bounds-table-0 : goal.bounds-table-0
@@ -64,9 +65,9 @@ has_unused-requires c = leb-true 1 c.args.n (and_left _ (leb c.args.n 16) (both 
 pub returns-then-has_unused : goal.returns-then-has_unused
 unfolding table_refusal
 returns-then-has_unused c =
-    c.refused-then-has_unused.ensures
-    ∙ sym (refuse_passed _ wrong_part_count 0 _ (in_parts (goal.at.returns-then-has_unused c).Else-not-in_range) ∙ refuse_passed _ wrong_table_length 0 _ (long-enough (goal.at.returns-then-has_unused c).Else-table-table_length)
-    ∙ refuse_held _ unused_bit 0 _ (unused-is (goal.at.returns-then-has_unused c).After-has_unused ∙ c.if-has_unused.true))
+    (ap Err c.at-then-has_unused.ensures)
+    ∙ sym (refuse_passed _ WrongPartCount 0 _ (in_parts (goal.at.returns-then-has_unused c).Else-not-in_range) ∙ refuse_passed _ WrongTableLength 0 _ (long-enough (goal.at.returns-then-has_unused c).Else-table-table_length)
+    ∙ refuse_held _ UnusedBit 0 _ (unused-is (goal.at.returns-then-has_unused c).After-has_unused ∙ c.if-has_unused.true))
 
 pub structure_verdict-requires : goal.structure_verdict-requires
 structure_verdict-requires c =
@@ -77,5 +78,5 @@ pub returns : goal.returns
 unfolding table_refusal
 returns c =
     c.structure_verdict.ensures
-    ∙ sym (refuse_passed _ wrong_part_count 0 _ (in_parts (goal.at.returns c).Else-not-in_range) ∙ refuse_passed _ wrong_table_length 0 _ (long-enough (goal.at.returns c).Else-table-table_length)
-    ∙ refuse_passed _ unused_bit 0 _ (unused-is (goal.at.returns c).After-has_unused ∙ c.if-has_unused.false))
+    ∙ sym (refuse_passed _ WrongPartCount 0 _ (in_parts (goal.at.returns c).Else-not-in_range) ∙ refuse_passed _ WrongTableLength 0 _ (long-enough (goal.at.returns c).Else-table-table_length)
+    ∙ refuse_passed _ UnusedBit 0 _ (unused-is (goal.at.returns c).After-has_unused ∙ c.if-has_unused.false))

@@ -3,9 +3,8 @@
 use mathlib.Core.Path.{◌≡◌, sym, ap, ap₂, ◌∙◌}
 use mathlib.Core.List.{List}
 use Prim.Native.Nat.{ℕ}
-use Rattle.answer.specs.Outcome.{delivered}
-use Rattle.answer.specs.declared.Verdict.{Verdict}
-use Rattle.answer.specs.declared.Verdict.TheVariants.{Accepted}
+use Rattle.std.specs.Prelude.{Ok}
+use Rattle.answer.specs.Outcome.{delivered, Verdict}
 use Rattle.answer.proofs.Deliveries.{refused_kept}
 use Rattle.numbers.proofs.Counts.{up_to_16_given}
 use Rattle.theory_sets.specs.Tables.{in_table, table_length}
@@ -17,31 +16,31 @@ use Rattle.structure.proofs.Acceptance.{accepted_table}
 use Rattle.structure_cuts.specs.Inside.{cuts_within}
 use Rattle.structure_cuts.proofs.Walks.{dual_words}
 use Rattle.structure_cuts.proofs.dual.Goals as goal
-use Rattle.structure_cuts.proofs.dual.Goals.{In-Accepted}
+use Rattle.structure_cuts.proofs.dual.Goals.{In-Ok}
 
-verdict : (c : In-Accepted) → table_refusal c.args.n c.args.table.now ≡ Accepted
-verdict c = sym c.table_verdict-checked.ensures ∙ c.in-Accepted.is
+verdict : (c : In-Ok) → table_refusal c.args.n c.args.table.now ≡ Ok tt
+verdict c = sym c.table_verdict-checked.ensures ∙ c.in-Ok.is
 
-accepted : (c : In-Accepted) → AcceptedTable c.args.n c.args.table.now
+accepted : (c : In-Ok) → AcceptedTable c.args.n c.args.table.now
 accepted c = accepted_table c.args.n c.args.table.now (verdict c)
 
 pub cut_sets-stopping-requires : goal.cut_sets-stopping-requires
-cut_sets-stopping-requires c = (accepted (goal.at.cut_sets-stopping-requires c).In-Accepted).few
+cut_sets-stopping-requires c = (accepted (goal.at.cut_sets-stopping-requires c).In-Ok).few
 
-pub returns-in-Refused : goal.returns-in-Refused
-returns-in-Refused c =
+pub returns-in-Err : goal.returns-in-Err
+returns-in-Err c =
     let a = c.args in
     refused_kept (table_refusal a.n a.table.now) (dual_table a.n a.table.now) a.buffer.now _
-    (sym c.table_verdict-checked.ensures ∙ c.in-Refused.is)
+    (sym c.table_verdict-checked.ensures ∙ c.in-Err.is)
 
-pub returns-in-Accepted : goal.returns-in-Accepted
-returns-in-Accepted c =
+pub returns-in-Ok : goal.returns-in-Ok
+returns-in-Ok c =
     let a = c.args in
     let n = a.n in
     let works = in_table a.table.now in
     let words : c.cut_sets-stopping.result ≡ words_of (cuts_within n (in_words (words_of works))) =
     c.cut_sets-stopping.ensures ∙ ap (λ (ws : List ℕ). words_of (cuts_within n (in_words ws))) c.load-loaded.ensures in
     c.hand_out_table.ensures
-    ∙ ap (λ (xs : List ℕ). delivered Accepted xs a.buffer.now)
-    (ap₂ bytes_in (up_to_16_given n (table_length n) (accepted (goal.at.returns-in-Accepted c).In-Accepted).few) words ∙ dual_words n works (accepted (goal.at.returns-in-Accepted c).In-Accepted).few)
-    ∙ ap (λ (v : Verdict). delivered v (dual_table n a.table.now) a.buffer.now) (sym (verdict (goal.at.returns-in-Accepted c).In-Accepted))
+    ∙ ap (λ (xs : List ℕ). delivered (Ok tt) xs a.buffer.now)
+    (ap₂ bytes_in (up_to_16_given n (table_length n) (accepted (goal.at.returns-in-Ok c).In-Ok).few) words ∙ dual_words n works (accepted (goal.at.returns-in-Ok c).In-Ok).few)
+    ∙ ap (λ (v : Verdict). delivered v (dual_table n a.table.now) a.buffer.now) (sym (verdict (goal.at.returns-in-Ok c).In-Ok))

@@ -4,9 +4,8 @@
 use mathlib.Core.Path.{◌≡◌, sym, ap, ◌∙◌}
 use mathlib.Core.List.{List}
 use Prim.Native.Nat.{ℕ, min}
-use Rattle.answer.specs.Outcome.{delivered}
-use Rattle.answer.specs.declared.Verdict.{Verdict}
-use Rattle.answer.specs.declared.Verdict.TheVariants.{Accepted}
+use Rattle.std.specs.Prelude.{Ok}
+use Rattle.answer.specs.Outcome.{delivered, Verdict}
 use Rattle.answer.proofs.Deliveries.{refused_kept}
 use Rattle.theory_sets.specs.Masks.{those}
 use Rattle.theory_sets.specs.Tables.{in_table}
@@ -19,32 +18,32 @@ use Rattle.structure.proofs.Acceptance.{accepted_table}
 use Rattle.structure_cuts.specs.Inside.{cuts_within}
 use Rattle.structure_cuts.proofs.Walks.{minimal_cut_words}
 use Rattle.structure_cuts.proofs.minimal_cuts.Goals as goal
-use Rattle.structure_cuts.proofs.minimal_cuts.Goals.{In-Accepted}
+use Rattle.structure_cuts.proofs.minimal_cuts.Goals.{In-Ok}
 
-verdict : (c : In-Accepted) → table_refusal c.args.n c.args.table.now ≡ Accepted
-verdict c = sym c.table_verdict-checked.ensures ∙ c.in-Accepted.is
+verdict : (c : In-Ok) → table_refusal c.args.n c.args.table.now ≡ Ok tt
+verdict c = sym c.table_verdict-checked.ensures ∙ c.in-Ok.is
 
-accepted : (c : In-Accepted) → AcceptedTable c.args.n c.args.table.now
+accepted : (c : In-Ok) → AcceptedTable c.args.n c.args.table.now
 accepted c = accepted_table c.args.n c.args.table.now (verdict c)
 
 pub cut_sets-stopping-requires : goal.cut_sets-stopping-requires
-cut_sets-stopping-requires c = (accepted (goal.at.cut_sets-stopping-requires c).In-Accepted).few
+cut_sets-stopping-requires c = (accepted (goal.at.cut_sets-stopping-requires c).In-Ok).few
 
-pub returns-in-Refused : goal.returns-in-Refused
-returns-in-Refused c =
+pub returns-in-Err : goal.returns-in-Err
+returns-in-Err c =
     let a = c.args in
     refused_kept (table_refusal a.n a.table.now) (minimal_cuts a.n (in_table a.table.now)) a.cuts.now _
-    (sym c.table_verdict-checked.ensures ∙ c.in-Refused.is)
+    (sym c.table_verdict-checked.ensures ∙ c.in-Err.is)
 
-pub returns-in-Accepted : goal.returns-in-Accepted
-returns-in-Accepted c =
+pub returns-in-Ok : goal.returns-in-Ok
+returns-in-Ok c =
     let a = c.args in
     let n = a.n in
     let works = in_table a.table.now in
     let words : c.cut_sets-stopping.result ≡ words_of (cuts_within n (in_words (words_of works))) =
     c.cut_sets-stopping.ensures ∙ ap (λ (ws : List ℕ). words_of (cuts_within n (in_words ws))) c.load-loaded.ensures in
     c.list.ensures
-    ∙ ap (λ (ws : List ℕ). delivered Accepted (those (in_words ws) 65536) a.cuts.now)
+    ∙ ap (λ (ws : List ℕ). delivered (Ok tt) (those (in_words ws) 65536) a.cuts.now)
     (c.irredundant-minimal.ensures ∙ ap (λ (ws : List ℕ). words_of (irredundant (min n 16) (in_words ws))) words)
-    ∙ ap (λ (xs : List ℕ). delivered Accepted xs a.cuts.now) (minimal_cut_words n works (accepted (goal.at.returns-in-Accepted c).In-Accepted).few (accepted (goal.at.returns-in-Accepted c).In-Accepted).semicoherent)
-    ∙ ap (λ (v : Verdict). delivered v (minimal_cuts n works) a.cuts.now) (sym (verdict (goal.at.returns-in-Accepted c).In-Accepted))
+    ∙ ap (λ (xs : List ℕ). delivered (Ok tt) xs a.cuts.now) (minimal_cut_words n works (accepted (goal.at.returns-in-Ok c).In-Ok).few (accepted (goal.at.returns-in-Ok c).In-Ok).semicoherent)
+    ∙ ap (λ (v : Verdict). delivered v (minimal_cuts n works) a.cuts.now) (sym (verdict (goal.at.returns-in-Ok c).In-Ok))

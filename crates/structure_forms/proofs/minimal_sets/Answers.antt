@@ -4,9 +4,8 @@
 use mathlib.Core.Path.{◌≡◌, sym, ap, ◌∙◌}
 use mathlib.Core.List.{List}
 use Prim.Native.Nat.{ℕ, min}
-use Rattle.answer.specs.Outcome.{delivered}
-use Rattle.answer.specs.declared.Verdict.{Verdict}
-use Rattle.answer.specs.declared.Verdict.TheVariants.{Accepted}
+use Rattle.std.specs.Prelude.{Ok}
+use Rattle.answer.specs.Outcome.{delivered, Verdict}
 use Rattle.theory_sets.specs.Masks.{those}
 use Rattle.theory_sets.specs.Structures.{minimal_sets}
 use Rattle.theory_sets.specs.Tables.{in_table}
@@ -17,22 +16,22 @@ use Rattle.structure.proofs.Acceptance.{accepted_table}
 use Rattle.structure.proofs.Walks.{minimal_walk}
 use Rattle.structure_forms.proofs.minimal_sets.Goals as goal
 
-pub returns-in-Refused : goal.returns-in-Refused
-returns-in-Refused c =
+pub returns-in-Err : goal.returns-in-Err
+returns-in-Err c =
     let a = c.args in
     let table = a.table.now in
-    ap (λ (v : Verdict). delivered v (minimal_sets a.n (in_table table)) a.sets.now) (sym c.in-Refused.is ∙ c.table_verdict-checked.ensures)
+    ap (λ (v : Verdict). delivered v (minimal_sets a.n (in_table table)) a.sets.now) (sym c.in-Err.is ∙ c.table_verdict-checked.ensures)
 
-pub returns-in-Accepted : goal.returns-in-Accepted
-returns-in-Accepted c =
+pub returns-in-Ok : goal.returns-in-Ok
+returns-in-Ok c =
     let start = c in
     let n = start.args.n in
     let table = start.args.table.now in
     let sets = start.args.sets.now in
-    let verdict : table_refusal n table ≡ Accepted = sym c.table_verdict-checked.ensures ∙ c.in-Accepted.is in
+    let verdict : table_refusal n table ≡ Ok tt = sym c.table_verdict-checked.ensures ∙ c.in-Ok.is in
     let works = in_table table in
     c.list.ensures
-    ∙ ap (λ (ws : List ℕ). delivered Accepted (those (in_words ws) 65536) sets)
+    ∙ ap (λ (ws : List ℕ). delivered (Ok tt) (those (in_words ws) 65536) sets)
     (c.irredundant-minimal.ensures ∙ ap (λ (ws : List ℕ). words_of (irredundant (min n 16) (in_words ws))) c.load-loaded.ensures)
-    ∙ ap (λ (xs : List ℕ). delivered Accepted xs sets) (minimal_walk n table (accepted_table n table verdict))
+    ∙ ap (λ (xs : List ℕ). delivered (Ok tt) xs sets) (minimal_walk n table (accepted_table n table verdict))
     ∙ ap (λ (v : Verdict). delivered v (minimal_sets n works) sets) (sym verdict)

@@ -3,9 +3,8 @@
 use mathlib.Core.Path.{◌≡◌, sym, ap, ap₂, ◌∙◌}
 use mathlib.Core.List.{List}
 use Prim.Native.Nat.{ℕ, min}
-use Rattle.answer.specs.Outcome.{delivered}
-use Rattle.answer.specs.declared.Verdict.{Verdict}
-use Rattle.answer.specs.declared.Verdict.TheVariants.{Accepted}
+use Rattle.std.specs.Prelude.{Ok}
+use Rattle.answer.specs.Outcome.{delivered, Verdict}
 use Rattle.answer.proofs.Deliveries.{refused_kept}
 use Rattle.theory_sets.specs.Structures.{listed}
 use Rattle.numbers.proofs.Counts.{up_to_16_given}
@@ -17,23 +16,23 @@ use Rattle.structure.proofs.Acceptance.{AcceptedList, accepted_list}
 use Rattle.structure.proofs.Walks.{listed_walk}
 use Rattle.structure_forms.proofs.table_of_list.Goals as goal
 
-pub returns-in-Refused : goal.returns-in-Refused
-returns-in-Refused c =
+pub returns-in-Err : goal.returns-in-Err
+returns-in-Err c =
     let a = c.args in
     refused_kept (list_refusal a.n a.list.now) (table_of a.n (listed a.list.now)) a.table.now _
-    (sym c.list_verdict-checked.ensures ∙ c.in-Refused.is)
+    (sym c.list_verdict-checked.ensures ∙ c.in-Err.is)
 
-pub returns-in-Accepted : goal.returns-in-Accepted
-returns-in-Accepted c =
+pub returns-in-Ok : goal.returns-in-Ok
+returns-in-Ok c =
     let a = c.args in
     let n = a.n in
     let table = a.table.now in
-    let verdict : list_refusal n a.list.now ≡ Accepted = sym c.list_verdict-checked.ensures ∙ c.in-Accepted.is in
+    let verdict : list_refusal n a.list.now ≡ Ok tt = sym c.list_verdict-checked.ensures ∙ c.in-Ok.is in
     let accepted : AcceptedList n a.list.now = accepted_list n a.list.now verdict in
     let result = table_of n (listed a.list.now) in
     let words : c.spread-reached.result ≡ words_of (spread (min n 16) (in_words (words_of (among a.list.now)))) =
     c.spread-reached.ensures ∙ ap (λ (ws : List ℕ). words_of (spread (min n 16) (in_words ws))) c.marked-listed.ensures in
     c.hand_out_table.ensures
-    ∙ ap (λ (xs : List ℕ). delivered Accepted xs table)
+    ∙ ap (λ (xs : List ℕ). delivered (Ok tt) xs table)
     (ap₂ bytes_in (up_to_16_given n (table_length n) accepted.few) words ∙ listed_walk n a.list.now accepted)
     ∙ ap (λ (v : Verdict). delivered v result table) (sym verdict)

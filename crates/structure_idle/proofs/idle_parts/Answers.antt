@@ -3,8 +3,7 @@
 use mathlib.Core.Path.{◌≡◌, sym, ap, ◌∙◌}
 use mathlib.Core.List.{List}
 use Prim.Native.Nat.{ℕ, min}
-use Rattle.answer.specs.declared.Verdict.TheVariants.{Accepted}
-use Rattle.answer.specs.declared.Value.TheVariants as value
+use Rattle.std.specs.Prelude.{Ok}
 use Rattle.answer.proofs.Outcomes.{valued_refused, valued_given}
 use Rattle.theory_sets.specs.Tables.{packed, in_table}
 use Rattle.theory_sets.specs.Idle.{idle, idle_parts}
@@ -13,21 +12,21 @@ use Rattle.structure.specs.Checks.{table_refusal}
 use Rattle.structure.proofs.Acceptance.{accepted_table}
 use Rattle.structure_idle.proofs.Claims.{words_idle}
 use Rattle.structure_idle.proofs.idle_parts.Goals as goal
-use Rattle.structure_idle.proofs.idle_parts.Goals.{In-Accepted}
+use Rattle.structure_idle.proofs.idle_parts.Goals.{In-Ok}
 
 -- nothing refuses
-accepted : (c : In-Accepted) → table_refusal c.args.n c.args.table.now ≡ Accepted
-accepted c = sym c.table_verdict-checked.ensures ∙ c.in-Accepted.is
+accepted : (c : In-Ok) → table_refusal c.args.n c.args.table.now ≡ Ok tt
+accepted c = sym c.table_verdict-checked.ensures ∙ c.in-Ok.is
 
-pub returns-in-Refused : goal.returns-in-Refused
-returns-in-Refused c =
+pub returns-in-Err : goal.returns-in-Err
+returns-in-Err c =
     let a = c.args in
-    valued_refused (table_refusal a.n a.table.now) (idle_parts a.n (in_table a.table.now)) _ (sym c.table_verdict-checked.ensures ∙ c.in-Refused.is)
+    valued_refused (table_refusal a.n a.table.now) (idle_parts a.n (in_table a.table.now)) _ (sym c.table_verdict-checked.ensures ∙ c.in-Err.is)
 
-pub returns-in-Accepted : goal.returns-in-Accepted
-returns-in-Accepted c =
+pub returns-in-Ok : goal.returns-in-Ok
+returns-in-Ok c =
     let a = c.args in
-    ap value.Given (
+    ap Ok (
     c.idle_parts.ensures ∙ ap (λ (words : List ℕ). packed (min a.n 16) (idle 16 (in_words words))) c.load-loaded.ensures
-    ∙ words_idle a.n a.table.now (accepted_table a.n a.table.now (accepted (goal.at.returns-in-Accepted c).In-Accepted)))
-    ∙ valued_given (table_refusal a.n a.table.now) (idle_parts a.n (in_table a.table.now)) (accepted (goal.at.returns-in-Accepted c).In-Accepted)
+    ∙ words_idle a.n a.table.now (accepted_table a.n a.table.now (accepted (goal.at.returns-in-Ok c).In-Ok)))
+    ∙ valued_given (table_refusal a.n a.table.now) (idle_parts a.n (in_table a.table.now)) (accepted (goal.at.returns-in-Ok c).In-Ok)

@@ -5,8 +5,7 @@ use mathlib.Core.List.{List}
 use Prim.Native.Nat.{ℕ, ◌≤◌}
 use native.Mathlib.Omega.{arith}
 use lib.ListN.{length, take}
-use Rattle.answer.specs.Outcome.{delivered}
-use Rattle.answer.specs.declared.Verdict.{Verdict}
+use Rattle.answer.specs.Outcome.{delivered, Verdict}
 use Rattle.numbers.proofs.Tables.{take_tabulate, tabulate_length}
 use Rattle.theory_sets.specs.Tables.{table_of}
 use Rattle.theory_cuts.specs.Cuts.{by_cuts}

@@ -7,9 +7,8 @@ use Prim.Native.Nat.{ℕ, ◌+◌, ◌-◌, ◌*◌, ◌/◌, ◌^◌, ◌≤◌
 use native.Mathlib.Omega.{arith}
 use lib.ListN.{length, get_or, set}
 use lib.Pow.{shr_le}
-use Rattle.answer.specs.Outcome.{outcome}
-use Rattle.answer.specs.declared.Verdict.TheVariants.{Accepted}
-use Rattle.answer.specs.declared.Written.{Written}
+use Rattle.std.specs.Prelude.{Ok, Err}
+use Rattle.answer.specs.Outcome.{outcome, Numbered}
 use Rattle.answer.proofs.Outcomes.{InFront, in_front_delivered, in_front_length}
 use Rattle.answer.proofs.Deliveries.{delivered_short}
 use Rattle.theory_sets.specs.Masks.{has, those, least}
@@ -22,8 +21,8 @@ pub returns-then-sets-needed : goal.returns-then-sets-needed
 returns-then-sets-needed c =
     let a = c.args in
     let found = c.count-needed in
-    ap (λ (w : Written). outcome w a.sets.now) c.short.ensures
-    ∙ delivered_short Accepted (those (in_words a.words.now) 65536) a.sets.now refl found.result found.ensures c.if-sets-needed.true
+    ap (λ (w : Numbered). outcome w a.sets.now) (ap Err c.at.ensures)
+    ∙ delivered_short (Ok tt) (those (in_words a.words.now) 65536) a.sets.now refl found.result found.ensures c.if-sets-needed.true
 
 -- the stores keep the buffer's length
 kept : (words old sets : List ℕ) (at mask rest next : ℕ) → Walk words old at mask rest next sets → length (those (in_words words) 65536) ≤ length old

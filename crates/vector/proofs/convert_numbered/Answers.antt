@@ -1,9 +1,8 @@
 -- `vector::convert_numbered` meets its contract: 26 comes first, for the vector's kind and then for the target's, and else the vector decides.
 -- Assumes nothing.
 use mathlib.Core.Path.{sym, ap, ap₂, ◌∙◌}
-use Rattle.answer.specs.Outcome.{outcome, delivered}
-use Rattle.answer.specs.declared.Verdict.{Verdict}
-use Rattle.answer.specs.declared.Written.{Written}
+use Rattle.std.specs.Prelude.{Err}
+use Rattle.answer.specs.Outcome.{outcome, delivered, Numbered, Verdict}
 use Rattle.vector_kind.specs.Kinds.{kind_of, kind_refusal}
 use Rattle.vector_conversion.specs.Vectors.{vector_refusal, converted}
 use Rattle.vector_kind.specs.declared.Kind.{Kind}
@@ -32,7 +31,7 @@ returns-then-is_kind c =
     let a = first.args in
     let entries = a.entries.now in
     let later = vector_refusal (kind_of a.kind) a.n entries in
-    ap (λ (answer : Written). outcome answer a.cells.now) c.unwritten.ensures
+    ap (λ (answer : Numbered). outcome answer a.cells.now) (ap Err c.at.ensures)
     ∙ ap (λ (v : Verdict). delivered v (converted (kind_of a.target) (kind_of a.kind) a.n entries) a.cells.now)
     (sym (kind_passed a.kind (kind_refusal a.target later) (sym first.is_kind.ensures ∙ first.if-is_kind.true)
     ∙ kind_refused a.target later (sym second.is_kind-then-is_kind.ensures ∙ c.if-is_kind-2.false)))
@@ -43,6 +42,6 @@ returns c =
     let a = first.args in
     let entries = a.entries.now in
     let later = vector_refusal (kind_of a.kind) a.n entries in
-    ap (λ (answer : Written). outcome answer a.cells.now) c.unwritten-2.ensures
+    ap (λ (answer : Numbered). outcome answer a.cells.now) (ap Err c.at-2.ensures)
     ∙ ap (λ (v : Verdict). delivered v (converted (kind_of a.target) (kind_of a.kind) a.n entries) a.cells.now)
     (sym (kind_refused a.kind (kind_refusal a.target later) (sym first.is_kind.ensures ∙ c.if-is_kind.false)))

@@ -1,6 +1,7 @@
 -- `vector::judge_numbered` meets its contract: 26 comes first, and else the vector decides.
 -- Assumes nothing.
 use mathlib.Core.Path.{sym, ap, ◌∙◌}
+use Rattle.std.specs.Prelude.{Err}
 use Rattle.vector_kind.specs.Kinds.{kind_of}
 use Rattle.vector_conversion.specs.Vectors.{vector_refusal}
 use Rattle.vector_kind.specs.declared.Kind.{Kind}
@@ -18,5 +19,5 @@ pub returns : goal.returns
 returns c =
     let told = c.before in
     let a = told.args in
-    c.refused.ensures
+    (ap Err c.at.ensures)
     ∙ sym (kind_refused a.kind (vector_refusal (kind_of a.kind) a.n a.entries.now) (sym told.is_kind.ensures ∙ told.if-is_kind.false))

@@ -1,8 +1,9 @@
 -- `vector_conversion::examine` meets its contract: each check that refuses is the first that holds, and where none does all counts are found.
 -- Assumes nothing.
-use mathlib.Core.Path.{◌≡◌, sym, ◌∙◌}
+use mathlib.Core.Path.{◌≡◌, sym, ◌∙◌, ap}
 use native.Mathlib.Omega.{arith}
 use lib.ListN.{length}
+use Rattle.std.specs.Prelude.{Err}
 use Rattle.vector_kind.specs.Kinds.{length_of}
 use Rattle.vector_kind.proofs.KindNumbers.{entries_few}
 use Rattle.vector_conversion.proofs.Refusals.{refused_parts, refused_length, refused_count, all_found, refused_fall, passed_all, refused-other}
@@ -49,9 +50,9 @@ returns-then-wrong-n c =
     let all = c.path_counts-found.ensures in
     record {
       few = all.found.few;
-      judged = c.refused.ensures
+      judged = (ap Err c.at.ensures)
           ∙ refused_count a.kind a.n a.entries.now c.if-n-lt1.false c.if-n-gt16.false long found.cells found.wrong all c.if-wrong-n.true;
-      cells = λ accepted. refused-other c.refused.result _ _ c.refused.ensures accepted;
+      cells = λ accepted. refused-other (Err c.at.result) _ _ (ap Err c.at.ensures) accepted;
     }
 
 pub returns-then-fall-n : goal.returns-then-fall-n
@@ -62,10 +63,10 @@ returns-then-fall-n c =
     let all = c.path_counts-found.ensures in
     record {
       few = all.found.few;
-      judged = c.refused-then-fall-n.ensures
+      judged = (ap Err c.at-then-fall-n.ensures)
           ∙ refused_fall a.kind a.n a.entries.now c.if-n-lt1.false c.if-n-gt16.false long found.cells found.wrong all c.if-wrong-n.false
           c.first_fall-fall.result c.first_fall-fall.ensures c.if-fall-n.true;
-      cells = λ accepted. refused-other c.refused-then-fall-n.result _ _ c.refused-then-fall-n.ensures accepted;
+      cells = λ accepted. refused-other (Err c.at-then-fall-n.result) _ _ (ap Err c.at-then-fall-n.ensures) accepted;
     }
 
 pub returns : goal.returns

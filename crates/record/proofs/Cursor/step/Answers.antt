@@ -10,12 +10,12 @@ returns-then-left-eq0 c =
     let a = c.args in
     step_none a.bytes.now a.self.next a.self.left c.if-left-eq0.true
 
-pub returns-in-Refused : goal.returns-in-Refused
-returns-in-Refused c =
+pub returns-in-Err : goal.returns-in-Err
+returns-in-Err c =
     let a = c.args in
-    step_ended a.bytes.now a.self.next a.self.left c.if-left-eq0.false c.read_number-number.ensures _ c.in-Refused.is
+    step_ended a.bytes.now a.self.next a.self.left c.if-left-eq0.false c.read_number-number.ensures _ c.in-Err.is
 
-pub returns-in-Number : goal.returns-in-Number
-returns-in-Number c =
+pub returns-in-Ok : goal.returns-in-Ok
+returns-in-Ok c =
     let a = c.args in
-    step_set a.bytes.now a.self.next a.self.left c.if-left-eq0.false c.read_number-number.ensures _ _ c.in-Number.is
+    step_set a.bytes.now a.self.next a.self.left c.if-left-eq0.false c.read_number-number.ensures _ _ c.in-Ok.is

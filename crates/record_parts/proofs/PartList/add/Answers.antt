@@ -7,8 +7,8 @@ use Prim.Native.Nat.{ℕ, ◌+◌, ◌<◌}
 use native.Mathlib.Omega.{arith}
 use borrow.Author.Tests.{eq-eqb, ne_eqb}
 use lib.ListN.{length, set, length-append}
+use Rattle.std.specs.Prelude.{Ok}
 use Rattle.record_parts.specs.declared.PartList.{PartList}
-use Rattle.record_parts.specs.declared.Numbered.TheVariants.{Number}
 use Rattle.answer.proofs.FixedCells.{cells_more}
 use Rattle.record_numbers.specs.Numbering.{most_parts, cells_of}
 use Rattle.record_parts.specs.PartLists.{numbers_of}
@@ -19,12 +19,12 @@ use Rattle.record_parts.proofs.Changing.{change_broken, change_refused, change_m
 use Rattle.record_parts.proofs.PartList.add.Goals as goal
 use Rattle.record_parts.proofs.PartList.add.Goals.{Else-mark-eq-TOP_NUMBER}
 
-pub returns-in-Refused : goal.returns-in-Refused
+pub returns-in-Err : goal.returns-in-Err
 unfolding part_added
-returns-in-Refused c =
+returns-in-Err c =
     let list = c.args.self in
     c.unchanged.ensures
-    ∙ sym (change_broken list (add_refusal list) (with_part list) _ (sym c.judged-verdict.ensures ∙ c.in-Refused.is))
+    ∙ sym (change_broken list (add_refusal list) (with_part list) _ (sym c.judged-verdict.ensures ∙ c.in-Err.is))
 
 pub returns-then-count-eq-MOST_PARTS : goal.returns-then-count-eq-MOST_PARTS
 unfolding part_added
@@ -87,8 +87,8 @@ returns c =
     c.cells-cells.ensures ∙ cells_few (numbers_of list) 0 (omega (arith, spare here)) ∙ ap cells_of (others_all (numbers_of list)) in
     let stored : set c.cells-cells.result list.count issued ≡ cells_of (numbers_of list ++ (issued ∷ [])) =
     ap (λ (cells : List ℕ). set cells list.count issued) first ∙ cells_more most_parts 0 (numbers_of list) list.count issued counted (spare here) in
-    ap (λ (number : ℕ). changed (record { count = list.count + 1; mark = number; numbers = set c.cells-cells.result list.count number }) (Number number))
+    ap (λ (number : ℕ). changed (record { count = list.count + 1; mark = number; numbers = set c.cells-cells.result list.count number }) (Ok number))
     c.next_number-issued.ensures
-    ∙ ap₂ (λ (count : ℕ) (cells : List ℕ). changed (record { count = count; mark = issued; numbers = cells }) (Number issued)) counts stored
+    ∙ ap₂ (λ (count : ℕ) (cells : List ℕ). changed (record { count = count; mark = issued; numbers = cells }) (Ok issued)) counts stored
     ∙ sym (change_made list (add_refusal list) (with_part list) (sym c.judged-verdict.ensures ∙ c.in_default.is)
     (simp (ne_eqb _ _ c.if-count-eq-MOST_PARTS.false, ne_eqb _ _ c.if-mark-eq-TOP_NUMBER.false)))

@@ -4,6 +4,7 @@ use mathlib.Core.Path.{◌≡◌, sym, ap, ◌∙◌}
 use Prim.Native.Nat.{ℕ}
 use native.Mathlib.Omega.{arith}
 use lib.ListN.{length}
+use Rattle.std.specs.Prelude.{Err}
 use Rattle.answer.proofs.Checks.{parts_over}
 use Rattle.record_numbers.specs.Numbering.{part_list_refusal}
 use Rattle.record_parts.specs.PartLists.{numbers_of}
@@ -15,7 +16,7 @@ pub returns-then-count-gt-MOST_PARTS : goal.returns-then-count-gt-MOST_PARTS
 unfolding part_list_refusal
 returns-then-count-gt-MOST_PARTS c =
     let list = c.args.self in
-    c.refused.ensures ∙ sym (parts_over 0 list.count _ (omega arith) c.if-count-gt-MOST_PARTS.true)
+    (ap Err c.at.ensures) ∙ sym (parts_over 0 list.count _ (omega arith) c.if-count-gt-MOST_PARTS.true)
 
 counted : (c : Else-count-gt-MOST_PARTS) → length (numbers_of c.args.self) ≡ c.args.self.count
 counted c =

@@ -8,8 +8,8 @@ use borrow.Author.Tests.{eq-eqb, ne_eqb, lt-ltb, le-ltb}
 use lib.ListN.{get_or}
 use lib.Pow.{pow-lt}
 use lib.Seq.{get_or-take}
+use Rattle.std.specs.Prelude.{Ok}
 use Rattle.record_parts.specs.declared.PartList.{PartList}
-use Rattle.record_parts.specs.declared.Numbered.TheVariants.{Number}
 use Rattle.record_parts.specs.PartLists.{numbers_of}
 use Rattle.numbers.proofs.Counts.{up_to_16_given}
 use Rattle.record_parts.specs.Changes.{changed, single, take_out_refusal, list_without, without_part, taken_out}
@@ -17,13 +17,13 @@ use Rattle.record_parts.proofs.Changing.{change_broken, change_refused, change_m
 use Rattle.record_parts.proofs.PartList.take_out.Goals as goal
 use Rattle.record_parts.proofs.PartList.take_out.Goals.{After-power_of_two-group, Else-count-eq1}
 
-pub returns-in-Refused : goal.returns-in-Refused
+pub returns-in-Err : goal.returns-in-Err
 unfolding taken_out
-returns-in-Refused c =
+returns-in-Err c =
     let a = c.args in
     c.unchanged.ensures
     ∙ sym (change_broken a.self (take_out_refusal a.self a.position) (without_part a.self a.position) _
-    (sym c.judged-verdict.ensures ∙ c.in-Refused.is))
+    (sym c.judged-verdict.ensures ∙ c.in-Err.is))
 
 pub returns-then-position-eq0 : goal.returns-then-position-eq0
 unfolding taken_out
@@ -99,6 +99,6 @@ returns c =
     let list = self here in
     let number : get_or list.numbers (position here - 1) 0 ≡ get_or (numbers_of list) (position here - 1) 0 =
     sym (get_or-take list.count list.numbers (position here - 1) 0 (within here)) in
-    ap₂ (λ (new : PartList) (taken : ℕ). changed new (Number taken)) (c.without.ensures ∙ ap (λ (g : ℕ). list_without g list) (group_given (goal.at.returns c).After-power_of_two-group)) number
+    ap₂ (λ (new : PartList) (taken : ℕ). changed new (Ok taken)) (c.without.ensures ∙ ap (λ (g : ℕ). list_without g list) (group_given (goal.at.returns c).After-power_of_two-group)) number
     ∙ sym (change_made list (take_out_refusal list (position here)) (without_part list (position here)) (sym c.judged-verdict.ensures ∙ c.in_default.is)
     (simp (ne_eqb _ _ c.if-position-eq0.false, le-ltb _ _ c.if-count-position.false, ne_eqb _ _ c.if-count-eq1.false)))

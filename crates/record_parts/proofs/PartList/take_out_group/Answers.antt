@@ -2,9 +2,8 @@
 -- Assumes nothing.
 use mathlib.Core.Path.{◌≡◌, sym, ap, ◌∙◌}
 use Prim.Native.Nat.{ℕ, ◌^◌, ◌<◌}
-use Rattle.answer.specs.Outcome.{and_then}
-use Rattle.answer.specs.declared.Verdict.{Verdict}
-use Rattle.answer.specs.declared.Verdict.TheVariants.{Accepted}
+use Rattle.std.specs.Prelude.{Ok}
+use Rattle.answer.specs.Outcome.{and_then, Verdict}
 use Rattle.answer.proofs.Outcomes.{then_accepted}
 use Rattle.record_parts.specs.declared.PartList.{PartList}
 use Rattle.record_parts.specs.PartLists.{listed_or, listing}
@@ -25,7 +24,7 @@ module _ (told : In_default) where
   abbrev group : ℕ
   group = told.args.group
 
-  made : and_then (broken_refusal list) (take_out_group_refusal list group) ≡ Accepted
+  made : and_then (broken_refusal list) (take_out_group_refusal list group) ≡ Ok tt
   made = sym told.group_verdict-verdict.ensures ∙ told.in_default.is
 
   -- the list keeps the rules
@@ -36,11 +35,11 @@ module _ (told : In_default) where
   within : group < 2 ^ list.count
   within = (take_out_group_accepted list group (then_accepted (broken_refusal list) (take_out_group_refusal list group) made).1).1
 
-pub returns-in-Refused : goal.returns-in-Refused
+pub returns-in-Err : goal.returns-in-Err
 unfolding group_taken_out
-returns-in-Refused c =
+returns-in-Err c =
     let a = c.args in
-    ap (λ (x : Verdict). listed_or a.self x (list_without a.group a.self)) (sym c.in-Refused.is ∙ c.group_verdict-verdict.ensures)
+    ap (λ (x : Verdict). listed_or a.self x (list_without a.group a.self)) (sym c.in-Err.is ∙ c.group_verdict-verdict.ensures)
 
 pub without-requires : goal.without-requires
 without-requires c =
@@ -54,4 +53,4 @@ pub returns : goal.returns
 unfolding group_taken_out
 returns c =
     let here = (goal.at.returns c).In_default in
-    ap (listing Accepted) c.without.ensures ∙ ap (λ (v : Verdict). listed_or (list here) v (list_without (group here) (list here))) (sym (made here))
+    ap (listing (Ok tt)) c.without.ensures ∙ ap (λ (v : Verdict). listed_or (list here) v (list_without (group here) (list here))) (sym (made here))

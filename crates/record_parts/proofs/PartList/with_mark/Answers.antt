@@ -5,8 +5,8 @@ use mathlib.Core.Path.{sym, ap, ◌∙◌}
 use mathlib.Core.List.{List}
 use Prim.Native.Nat.{ℕ}
 use lib.ListN.{length}
-use Rattle.answer.specs.declared.Verdict.{Verdict}
-use Rattle.answer.specs.declared.Verdict.TheVariants.{Accepted}
+use Rattle.std.specs.Prelude.{Ok}
+use Rattle.answer.specs.Outcome.{Verdict}
 use Rattle.record_numbers.specs.Numbering.{cells_of}
 use Rattle.record_parts.specs.PartLists.{list_of, listing, made}
 use Rattle.record_parts.proofs.LeftOut.{others_all}
@@ -14,18 +14,18 @@ use Rattle.record_parts.proofs.InCells.{cells_few}
 use Rattle.record_numbers.proofs.Rules.{accepted_rules}
 use Rattle.record_parts.proofs.PartList.with_mark.Goals as goal
 
-pub returns-in-Refused : goal.returns-in-Refused
+pub returns-in-Err : goal.returns-in-Err
 unfolding made
-returns-in-Refused c =
+returns-in-Err c =
     let a = c.args in
-    sym (ap (λ (v : Verdict). listing v (list_of a.mark a.numbers.now)) (sym c.judge-verdict.ensures ∙ c.in-Refused.is))
+    sym (ap (λ (v : Verdict). listing v (list_of a.mark a.numbers.now)) (sym c.judge-verdict.ensures ∙ c.in-Err.is))
 
-pub returns-in-Accepted : goal.returns-in-Accepted
+pub returns-in-Ok : goal.returns-in-Ok
 unfolding made
-returns-in-Accepted c =
+returns-in-Ok c =
     let a = c.args in
     let n = a.numbers.now in
-    let accepted = sym c.judge-verdict.ensures ∙ c.in-Accepted.is in
-    ap (λ (cells : List ℕ). record { list = record { count = length n; mark = a.mark; numbers = cells }; verdict = Accepted })
+    let accepted = sym c.judge-verdict.ensures ∙ c.in-Ok.is in
+    ap (λ (cells : List ℕ). record { list = record { count = length n; mark = a.mark; numbers = cells }; verdict = (Ok tt) })
     (c.cells-cells.ensures ∙ cells_few n 0 (accepted_rules (length n) a.mark n accepted).few ∙ ap cells_of (others_all n))
     ∙ sym (ap (λ (v : Verdict). listing v (list_of a.mark n)) accepted)

@@ -19,7 +19,7 @@ returns-in-Err c =
     (mark_walk_refused c.loop-read.invariant c.loop-read-test.true _ (sym (answer_refused _ _ (sym c.in-Err.is ∙ c.read_set-set.ensures))))
 
 -- the set is a mask of 16 bits
-small : (c : In-Ok) → c.in-Ok.value < 65536
+small : (c : In-Ok) → c.in-Ok.field-0.value < 65536
 small c =
     mark_walk_below c.loop-read.invariant c.requires _ _ (sym (answer_number _ _ _ (sym c.in-Ok.is ∙ c.read_set-set.ensures)))
 

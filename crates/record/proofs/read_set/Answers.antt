@@ -22,7 +22,7 @@ whole c = c.power_of_two.ensures ∙ up_to_16_given c.args.n (2 ^ c.args.n) c.re
 pub returns-then-power_of_two-value : goal.returns-then-power_of_two-value
 returns-then-power_of_two-value c =
     let a = c.args in
-    let v : ℕ = c.in-Ok.value in
+    let v : ℕ = c.in-Ok.field-0.value in
     let unknown : 2 ^ a.n ≤ v = subst (λ (x : ℕ). x ≤ v) (whole (goal.at.returns-then-power_of_two-value c).After-power_of_two) c.if-power_of_two-value.true in
     (ap Err c.at.ensures)
     ∙ ap reading_of (field_held a.bytes.now a.start Set (rising_refusal a.n a.previous a.start) c.read_number-number.ensures _ _ (at UnknownPart a.start) c.in-Ok.is
@@ -31,7 +31,7 @@ returns-then-power_of_two-value c =
 pub returns-then-value-eq0 : goal.returns-then-value-eq0
 returns-then-value-eq0 c =
     let a = c.args in
-    let v : ℕ = c.in-Ok.value in
+    let v : ℕ = c.in-Ok.field-0.value in
     let known : v < 2 ^ a.n = subst (λ (x : ℕ). v < x) (whole (goal.at.returns-then-value-eq0 c).After-power_of_two) c.if-power_of_two-value.false in
     (ap Err c.at-then-value-eq0.ensures)
     ∙ ap reading_of (field_held a.bytes.now a.start Set (rising_refusal a.n a.previous a.start) c.read_number-number.ensures _ _ (at EmptySet a.start) c.in-Ok.is
@@ -40,7 +40,7 @@ returns-then-value-eq0 c =
 pub returns-then-value-previous : goal.returns-then-value-previous
 returns-then-value-previous c =
     let a = c.args in
-    let v : ℕ = c.in-Ok.value in
+    let v : ℕ = c.in-Ok.field-0.value in
     let known : v < 2 ^ a.n = subst (λ (x : ℕ). v < x) (whole (goal.at.returns-then-value-previous c).After-power_of_two) c.if-power_of_two-value.false in
     (ap Err c.at-then-value-previous.ensures)
     ∙ ap reading_of (field_held a.bytes.now a.start Set (rising_refusal a.n a.previous a.start) c.read_number-number.ensures _ _ (at WrongSet a.start) c.in-Ok.is
@@ -55,7 +55,7 @@ returns-in-Err c =
 pub returns-else-value-previous : goal.returns-else-value-previous
 returns-else-value-previous c =
     let a = c.args in
-    let v : ℕ = c.in-Ok.value in
+    let v : ℕ = c.in-Ok.field-0.value in
     let known : v < 2 ^ a.n = subst (λ (x : ℕ). v < x) (whole (goal.at.returns-else-value-previous c).After-power_of_two) c.if-power_of_two-value.false in
     ap reading_of (field_passed a.bytes.now a.start Set (rising_refusal a.n a.previous a.start) c.read_number-number.ensures _ _ c.in-Ok.is
     (refuse_passed _ UnknownPart a.start _ (lt-leb (2 ^ a.n) v known) ∙ refuse_passed _ EmptySet a.start _ (ne_eqb v 0 c.if-value-eq0.false)

@@ -12,7 +12,7 @@ use Rattle.record_head.proofs.read_parts.Goals as goal
 use Rattle.record_head.proofs.read_parts.Goals.{In-Ok}
 
 -- n, which was read
-counted : (c : In-Ok) → field_at c.args.bytes.now c.args.start Count (parts_refusal c.args.start) ≡ found c.in-Ok.value c.in-Ok.next
+counted : (c : In-Ok) → field_at c.args.bytes.now c.args.start Count (parts_refusal c.args.start) ≡ found c.in-Ok.field-0.value c.in-Ok.field-0.next
 counted c = answer_number _ _ _ (sym c.in-Ok.is ∙ c.read_part_count-count.ensures)
 
 pub read_part_numbers-requires : goal.read_part_numbers-requires

@@ -11,7 +11,7 @@ use Rattle.record_tail.proofs.read_retired.Goals as goal
 use Rattle.record_tail.proofs.read_retired.Goals.{In-Ok}
 
 -- how many numbers there are, which was read
-counted : (c : In-Ok) → field_at c.args.bytes.now c.args.start Count (retired_count_refusal c.args.start) ≡ found c.in-Ok.value c.in-Ok.next
+counted : (c : In-Ok) → field_at c.args.bytes.now c.args.start Count (retired_count_refusal c.args.start) ≡ found c.in-Ok.field-0.value c.in-Ok.field-0.next
 counted c = answer_number _ _ _ (sym c.in-Ok.is ∙ c.read_retired_count-count.ensures)
 
 pub read_retired_numbers-requires : goal.read_retired_numbers-requires

@@ -39,8 +39,8 @@ loop-index-preserved c =
     let a = c.args in
     let l = c.loop-index in
     let count = length_of a.kind a.n in
-    let value : ℕ = c.in-Ok.value in
-    let after : ℕ = c.in-Ok.after in (
+    let value : ℕ = c.in-Ok.field-0.value in
+    let after : ℕ = c.in-Ok.field-0.next in (
       l.invariant.0,
       subst (λ (z : ℤ). EntriesWalk a.bytes.now a.kind count a.start (set l.entries l.index z) after (l.index + 1))
           (sym (to_z-of_z {w = w64} (record { sfits = c.decode.type_inv }) ∙ c.decode.ensures))

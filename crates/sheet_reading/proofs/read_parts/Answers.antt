@@ -33,16 +33,16 @@ module _ (bytes : List ℕ) (kind : Kind) (start : ℕ) (r : Reading ℕ) (read 
 pub returns-then-value-lt1 : goal.returns-then-value-lt1
 returns-then-value-lt1 c =
     let a = c.args in
-    let v : ℕ = c.in-Ok.value in
+    let v : ℕ = c.in-Ok.field-0.value in
     c.refused_sheet-then-value-lt1.ensures
-    ∙ sym (ap sheet_read (outside a.bytes.now a.kind a.start _ c.read_number-number.ensures v c.in-Ok.next c.in-Ok.is
+    ∙ sym (ap sheet_read (outside a.bytes.now a.kind a.start _ c.read_number-number.ensures v c.in-Ok.field-0.next c.in-Ok.is
     (parts_none 0 v (Ok tt) (omega (arith, c.if-value-lt1.true)))))
 
 pub returns-then-value-le16 : goal.returns-then-value-le16
 returns-then-value-le16 c =
     let a = c.args in
     c.read_entries.ensures
-    ∙ sym (ap sheet_read (inside a.bytes.now a.kind a.start _ c.read_number-number.ensures c.in-Ok.value c.in-Ok.next c.in-Ok.is
+    ∙ sym (ap sheet_read (inside a.bytes.now a.kind a.start _ c.read_number-number.ensures c.in-Ok.field-0.value c.in-Ok.field-0.next c.in-Ok.is
     c.if-value-lt1.false c.if-value-le16.true))
 
 pub returns-in-Err : goal.returns-in-Err
@@ -55,7 +55,7 @@ returns-in-Err c =
 pub returns-else-value-le16 : goal.returns-else-value-le16
 returns-else-value-le16 c =
     let a = c.args in
-    let v : ℕ = c.in-Ok.value in
+    let v : ℕ = c.in-Ok.field-0.value in
     c.refused_sheet-in-Ok.ensures
-    ∙ sym (ap sheet_read (outside a.bytes.now a.kind a.start _ c.read_number-number.ensures v c.in-Ok.next c.in-Ok.is
+    ∙ sym (ap sheet_read (outside a.bytes.now a.kind a.start _ c.read_number-number.ensures v c.in-Ok.field-0.next c.in-Ok.is
     (parts_over 0 v (Ok tt) c.if-value-lt1.false c.if-value-le16.false)))

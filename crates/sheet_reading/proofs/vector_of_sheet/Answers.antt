@@ -36,16 +36,16 @@ module _ (bytes : List ℕ) (r : Reading ℕ) (read : r ≡ reading_of (number_a
 
 pub returns-then-value-lt1 : goal.returns-then-value-lt1
 returns-then-value-lt1 c =
-    let v : ℕ = c.in-Ok.value in
+    let v : ℕ = c.in-Ok.field-0.value in
     c.refused_sheet-then-value-lt1.ensures
-    ∙ sym (ap sheet_read (outside c.args.bytes.now _ c.read_number-number.ensures v c.in-Ok.next c.in-Ok.is
+    ∙ sym (ap sheet_read (outside c.args.bytes.now _ c.read_number-number.ensures v c.in-Ok.field-0.next c.in-Ok.is
     (ap (λ (t : Bool). not (t && leb v 4)) (lt-leb 1 v c.if-value-lt1.true))))
 
 pub returns-then-value-gt4 : goal.returns-then-value-gt4
 returns-then-value-gt4 c =
-    let v : ℕ = c.in-Ok.value in
+    let v : ℕ = c.in-Ok.field-0.value in
     c.refused_sheet-then-value-gt4.ensures
-    ∙ sym (ap sheet_read (outside c.args.bytes.now _ c.read_number-number.ensures v c.in-Ok.next c.in-Ok.is
+    ∙ sym (ap sheet_read (outside c.args.bytes.now _ c.read_number-number.ensures v c.in-Ok.field-0.next c.in-Ok.is
     (ap₂ (λ (s t : Bool). not (s && t)) (le-leb 1 v c.if-value-lt1.false) (lt-leb v 4 c.if-value-gt4.true))))
 
 pub returns-in-Err : goal.returns-in-Err
@@ -59,8 +59,8 @@ returns-in-Err c =
 pub returns-else-value-gt4 : goal.returns-else-value-gt4
 returns-else-value-gt4 c =
     let a = c.args in
-    let v : ℕ = c.in-Ok.value in
+    let v : ℕ = c.in-Ok.field-0.value in
     c.read_parts.ensures
-    ∙ ap (λ (k : Kind). sheet_read (kinded a.bytes.now k c.in-Ok.next)) c.kind_of.ensures
-    ∙ sym (ap sheet_read (inside a.bytes.now _ c.read_number-number.ensures v c.in-Ok.next c.in-Ok.is
+    ∙ ap (λ (k : Kind). sheet_read (kinded a.bytes.now k c.in-Ok.field-0.next)) c.kind_of.ensures
+    ∙ sym (ap sheet_read (inside a.bytes.now _ c.read_number-number.ensures v c.in-Ok.field-0.next c.in-Ok.is
     (ap₂ (λ (s t : Bool). not (s && t)) (le-leb 1 v c.if-value-lt1.false) (le-leb v 4 c.if-value-gt4.false))))

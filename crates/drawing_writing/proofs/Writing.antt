@@ -1,19 +1,21 @@
 -- The pieces of a text placed one after the other, where there is room for all of them: the positions of a set, a line, the lines of all sets.
 -- Assumes nothing.
-use mathlib.Core.Path.{◌≡◌, sym, ap, ◌∙◌, subst}
+use mathlib.Core.Path.{◌≡◌, refl, sym, ap, ◌∙◌, subst}
 use mathlib.Core.Bool.{Bool, true, false, cond}
 use mathlib.Core.List.{List, [], ◌∷◌, ◌++◌, append-nil, append_assoc}
 use Prim.Native.Nat.{ℕ, ◌+◌, ◌-◌, ◌≤◌, ◌<◌}
 use native.Mathlib.Nat.{add-sub_of_le}
 use native.Mathlib.Omega.{arith}
 use lib.ListN.{length, get_or, take, length-append}
-use lib.Seq.{take_all}
+use Rattle.std.specs.List.{sum_by}
+use Rattle.std.proofs.lemmas.List.Sums.{sum_by-cons}
 use Rattle.answer.specs.Outcome.{outcome}
 use Rattle.answer.specs.Placed.{placed}
 use Rattle.answer.proofs.Forms.{first_fits, placed_next, placed_length, placed_more, wrote_none}
 use Rattle.theory_sets.specs.Masks.{has}
 use Rattle.drawing_text.specs.Lines.{line_feed}
-use Rattle.drawing_text.specs.Forms.{set_word, spaced, line_of, set_lines}
+use Rattle.drawing_text.specs.Forms.{space, set_word, spaced, line_of, set_lines}
+use Rattle.text.specs.Texts.{decimal}
 use Rattle.drawing_text.specs.Sets.{positions_of}
 use Rattle.drawing_text.specs.Writing.{lines_of_sets}
 use Rattle.drawing_text.proofs.Lengths.{spaced_append, positions_below, positions_none, positions_all, positions_next, positions_part, set_lines_next, set_lines_part}
@@ -29,6 +31,16 @@ room_behind buffer start form more both entry position wrote =
       placed_next buffer start form fits entry position wrote,
       placed_length buffer start form fits entry position wrote,
     )
+
+-- ---- a number
+
+pub number_put : (number : ℕ) (text : List ℕ) (start : ℕ) → start + length (spaced (number ∷ [])) ≤ length text
+    → (entry : List ℕ) (here : ℕ) → outcome here entry ≡ placed text start (space ∷ [])
+    → (exit : List ℕ) (next : ℕ) → outcome next exit ≡ placed entry here (decimal number) → outcome next exit ≡ placed text start (spaced (number ∷ []))
+unfolding spaced
+number_put number text start room entry here first exit next second =
+    let one : space ∷ (decimal number ++ []) ≡ space ∷ decimal number = ap (λ (l : List ℕ). space ∷ l) (append-nil (decimal number)) in
+    placed_more text start (space ∷ []) entry here (decimal number) exit next (omega (arith, ap length one)) first second ∙ ap (placed text start) (sym one)
 
 -- ---- the positions of a set
 
@@ -87,14 +99,19 @@ module _ (word numbers text : List ℕ) (start : ℕ) (room : start + length (li
       both : outcome second numbered ≡ placed text start (word ++ spaced numbers)
       both = placed_more text start word worded first (spaced numbers) numbered second two_fit word-put numbers-put
 
-      pub feed_room : second < length numbered
-      feed_room = let one = room_behind text start (word ++ spaced numbers) (line_feed ∷ []) three_fit numbered second both in omega arith
-
       pub line_put : (exit : List ℕ) (next : ℕ) → outcome next exit ≡ placed numbered second (line_feed ∷ []) → outcome next exit ≡ placed text start (line_of word numbers)
       line_put exit next feed =
           placed_more text start (word ++ spaced numbers) numbered second (line_feed ∷ []) exit next three_fit both feed ∙ ap (placed text start) (sym three)
 
 -- ---- the lines of all sets
+
+-- the bytes of each, added up
+pub lines_summed : (sets : List ℕ) → sum_by (λ set. length (line_of set_word (positions_of set))) sets ≡ length (lines_of_sets sets)
+unfolding set_lines
+lines_summed [] = refl
+lines_summed (x ∷ xs) =
+    sum_by-cons (λ set. length (line_of set_word (positions_of set))) x xs ∙ ap (λ (k : ℕ). length (line_of set_word (positions_of x)) + k) (lines_summed xs)
+    ∙ sym (length-append (line_of set_word (positions_of x)) (lines_of_sets xs))
 
 module _ (sets text : List ℕ) (start : ℕ) (room : start + length (lines_of_sets sets) ≤ length text) where
   -- before the first
@@ -115,8 +132,3 @@ module _ (sets text : List ℕ) (start : ℕ) (room : start + length (lines_of_s
       line_more exit next wrote =
           placed_more text start (lines_of_sets (take i sets)) entry here (line_of set_word (positions_of (get_or sets i 0))) exit next lines_fit before wrote
           ∙ ap (placed text start) (sym (set_lines_next i sets inside))
-
-  -- after the last
-  pub lines_after : (i : ℕ) → length sets ≤ i → (exit : List ℕ) (next : ℕ) → outcome next exit ≡ placed text start (lines_of_sets (take i sets))
-      → outcome next exit ≡ placed text start (lines_of_sets sets)
-  lines_after i h exit next before = before ∙ ap (λ (l : List ℕ). placed text start (lines_of_sets l)) (take_all i sets h)

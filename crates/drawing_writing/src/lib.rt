@@ -2,7 +2,7 @@
 // is room for all of it.
 #![tactic(auto)]
 
-ghost use Rattle.std.specs.Prelude.{◌≡◌, [], ◌∷◌, ◌+◌, ◌≤◌, ◌<◌, length};
+ghost use Rattle.std.specs.Prelude.{◌≡◌, [], ◌∷◌, ◌+◌, ◌≤◌, length};
 ghost use Rattle.answer.specs.Outcome.{outcome, delivered};
 ghost use Rattle.answer.specs.Placed.{placed};
 ghost use Rattle.theory_orders.specs.Antichains.{most_sets};
@@ -45,14 +45,12 @@ fn write_text(n: usize, sets: &[u16], buffer: &mut [u8]) -> Result<usize, Refusa
 }
 
 // How many bytes the first line takes.
+#[tactic(auto, using(drawing_text::proofs::Lengths::parts_line_digit, drawing_text::proofs::Lengths::parts_line_ten))]
 fn parts_line_length(n: usize) -> usize
     requires { n ≤ most_parts }
     ensures { result ≡ length (line_of parts_word (n ∷ [])) }
 {
-    if n < 10 {
-        return 8;
-    }
-    9
+    if n < 10 { 8 } else { 9 }
 }
 
 // How many bytes the lines of these sets take.
@@ -60,18 +58,15 @@ fn set_lines_length(sets: &[u16]) -> usize
     requires { length sets.now ≤ most_sets }
     ensures { result ≡ length (lines_of_sets sets.now) }
 {
-    let mut total = 0;
-    for i in 0..sets.len() {
-        total += set_line_length(sets[i]);
-    }
-    total
+    sets.iter().map(|&set| set_line_length(set)).sum()
 }
 
 // How many bytes the line of a set takes: four for the keyword and the line feed, two for each position, and one more for each from 10 on.
+#[tactic(auto, using(drawing_text::proofs::Lengths::set_line_length))]
 fn set_line_length(set: u16) -> usize
     ensures { result ≡ length (line_of set_word (positions_of set)) }
 {
-    let all = set as usize;
+    let all = usize::from(set);
     4 + 2 * masks::size(all) + masks::size(all / 512)
 }
 
@@ -92,8 +87,8 @@ fn put_set_lines(text: &mut [u8], at: usize, sets: &[u16]) -> usize
     ensures { outcome result text.new ≡ placed text.old at (lines_of_sets sets.now) }
 {
     let mut next = at;
-    for i in 0..sets.len() {
-        next = put_set_line(text, next, sets[i]);
+    for &set in sets {
+        next = put_set_line(text, next, set);
     }
     next
 }
@@ -114,8 +109,7 @@ fn put_positions(text: &mut [u8], at: usize, set: u16) -> usize
     ensures { outcome result text.new ≡ placed text.old at (spaced (positions_of set)) }
 {
     let mut next = at;
-    for i in 0..16 {
-        let position = i + 1;
+    for position in 1..=16 {
         if (set >> (position - 1)) % 2 == 1 {
             next = put_number(text, next, position);
         }
@@ -123,27 +117,18 @@ fn put_positions(text: &mut [u8], at: usize, set: u16) -> usize
     next
 }
 
-// Puts a number of one digit, or of two of which the first is 1, behind a space.
+// Puts a number in decimal behind a space.
 fn put_number(text: &mut [u8], at: usize, number: usize) -> usize
-    requires number_bound { number < 20 }
-    requires number_in_bounds { at + length (spaced (number ∷ [])) ≤ length text.old }
+    requires { at + length (spaced (number ∷ [])) ≤ length text.old }
     ensures { outcome result text.new ≡ placed text.old at (spaced (number ∷ [])) }
 {
-    text[at] = b' ';
-    if number < 10 {
-        text[at + 1] = b'0' + number as u8;
-        return at + 2;
-    }
-    text[at + 1] = b'1';
-    text[at + 2] = b'0' + (number - 10) as u8;
-    at + 3
+    let digits = text::put(text, at, b" ");
+    text::put_decimal(text, digits, number as u64)
 }
 
 // Puts the line feed that ends a line.
 fn end_line(text: &mut [u8], at: usize) -> usize
-    requires { at < length text.old }
     ensures { outcome result text.new ≡ placed text.old at (line_feed ∷ []) }
 {
-    text[at] = b'\n';
-    at + 1
+    text::put(text, at, b"\n")
 }

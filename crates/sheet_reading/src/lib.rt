@@ -154,9 +154,7 @@ fn decode(kind: Kind, number: u64) -> i64
     ensures { result ≡ decoded kind number }
 {
     match kind {
-        Kind::PathCounts => number as i64,
-        Kind::Tail => number as i64,
-        Kind::Signature => number as i64,
+        Kind::PathCounts | Kind::Tail | Kind::Signature => number as i64,
         Kind::Domination => from_zigzag(number),
     }
 }
@@ -167,8 +165,5 @@ fn from_zigzag(number: u64) -> i64
     ensures { result ≡ decoded Kind.Domination number }
 {
     let half = (number / 2) as i64;
-    if number % 2 == 0 {
-        return half;
-    }
-    -1 - half
+    if number % 2 == 0 { half } else { -1 - half }
 }

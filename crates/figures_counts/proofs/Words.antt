@@ -1,21 +1,24 @@
 -- Words of the sets that have a part, and words counted by size: what one word adds to the counts. Assumes nothing.
-use mathlib.Core.Path.{◌≡◌, refl, sym, ap, ap₂, ◌∙◌}
+use mathlib.Core.Path.{◌≡◌, refl, sym, ap, ap₂, ◌∙◌, subst}
 use mathlib.Core.Bool.{Bool, true, false, cond, ◌&&◌, ◌||◌, and-false, not}
 use mathlib.Core.List.{List, ◌++◌}
-use Prim.Native.Nat.{ℕ, zero-le, ◌+◌, ◌-◌, ◌*◌, ◌%◌, ◌^◌, ◌≤◌, ◌<◌, ◌/◌}
-use native.Mathlib.Nat.{zero-lt-suc, le_refl, le_trans, le_of_eq, lt_of_le_of_lt, add-zero, add-sub_cancel_left}
+use Prim.Native.Nat.{ℕ, zero-le, ◌+◌, ◌-◌, ◌*◌, ◌%◌, ◌^◌, ◌≤◌, ◌<◌, ◌/◌, min}
+use native.Mathlib.Nat.{zero-lt-suc, le_refl, le_trans, le_of_eq, lt_of_le_of_lt, add-zero, add-sub_cancel_left, zero-add}
 use native.Mathlib.Omega.{arith}
 use lib.Bits.{and_le_l}
 use lib.Count.{ones, ones-le, ones_cat}
 use lib.Dec.{eqb}
-use lib.ListN.{length, get_or, set, take, drop, length-take}
+use lib.ListN.{length, get_or, set, take, drop, length-take, get_or-eq_default}
 use lib.Seq.{get_or-take}
 use borrow.Author.Tests.{eqb-true, eq-eqb, ne_eqb, le-leb, lt-leb}
 use Rattle.std.proofs.lemmas.List.{take-append-drop}
+use Rattle.std.proofs.lemmas.List.FromFn.{length-enumerate_from, get_or-enumerate_from}
+use Rattle.std.proofs.lemmas.Grind.{get_or_default_zero}
+use Rattle.std.specs.List.{enumerate_from}
 use borrow.Rule.Slice.PartMut.{mid_of, put_mid, mid_len}
 use Rattle.numbers.proofs.Parts.{mid_at, part_back}
 use Rattle.numbers.specs.Tables.{tabulate, NoneOver}
-use Rattle.numbers.proofs.Tables.{tabulate_unique, tabulate_same, filled, filled_from, filled_again, filled_end, filled_rest}
+use Rattle.numbers.proofs.Tables.{tabulate_unique, tabulate_same, filled, filled_from, filled_again, filled_end, filled_rest, tabulate_at, tabulate_few}
 use Rattle.theory_sums.specs.Sums.{indicator, sum_below}
 use Rattle.theory_sums.proofs.Sums.{sum_below_same, sum_below_le, sum_below_zero, sum_below_ones, sum_below_append}
 use Rattle.theory_sets.specs.Masks.{has, size, meet}
@@ -25,8 +28,8 @@ use Rattle.theory_sets.proofs.Masks.{has_full, has_above, has_low, has_block, ha
 use Rattle.theory_sets.proofs.Tables.{has_packed, packed_below, packed_unique}
 use Rattle.theory_orders.specs.Formulas.{path_count}
 use Rattle.theory_orders.proofs.Sizes.{size_bits}
-use Rattle.structure_words.specs.Words.{word_of, lacks}
-use Rattle.structure_words.proofs.Words.{word_of_unique}
+use Rattle.structure_words.specs.Words.{word_of, lacks, in_words}
+use Rattle.structure_words.proofs.Words.{word_of_unique, in_words_at}
 use Rattle.figures_counts.specs.Rows.{has_part}
 use Rattle.figures_counts.specs.Inside.{in_word}
 
@@ -194,6 +197,56 @@ module _ (test : ℕ → Bool) where
       shown true = refl
       shown false = refl
 
-  pub sizes_all : (s : ℕ) → sizes test 1024 s ≡ path_count 16 test s
+-- ---- the first 1,024 words of a slice, one after the other
+
+module _ (words : List ℕ) where
+  -- the index and the word of a turn
+  pub word_turn : (n at w : ℕ) → (n < length (enumerate_from 0 (take 1024 words))) × ((at, w) ≡ get_or (enumerate_from 0 (take 1024 words)) n (at, w))
+      → (n < 1024) × ((at ≡ n) × (w ≡ get_or words n 0))
+  word_turn n at w turn =
+      let inside : n < length (take 1024 words) = omega (arith, turn.0, length-enumerate_from 0 (take 1024 words)) in
+      let few : n < 1024 = omega (arith, length-take 1024 words) in
+      let here : n < length words = omega (arith, length-take 1024 words) in
+      let pair : ◌≡◌ {A = ℕ × ℕ} (at, w) (0 + n, get_or (take 1024 words) n w) = turn.1 ∙ get_or-enumerate_from 0 (take 1024 words) n (at, w) inside in (
+        few,
+        (
+          ap (λ (p : ℕ × ℕ). p.0) pair ∙ zero-add n,
+          ap (λ (p : ℕ × ℕ). p.1) pair ∙ get_or-take 1024 words n w few ∙ get_or_default_zero words n w here,
+        ),
+      )
+
+  -- the counts before a turn, and behind it
+  pub sizes_few : (counts : List ℕ) (n : ℕ) → counts ≡ tabulate 17 (sizes (in_words words) n) → n ≤ 1024 → NoneOver 65536 counts
+  sizes_few counts n e few =
+      subst (λ (xs : List ℕ). NoneOver 65536 xs) (sym e) (tabulate_few 17 (sizes (in_words words) n) 65536 (λ s. sizes_most (in_words words) n s few))
+
+  pub sizes_turn : (counts next : List ℕ) (n at w m : ℕ) → counts ≡ tabulate 17 (sizes (in_words words) n) → at ≡ n → w ≡ get_or words n 0
+      → next ≡ tabulate 17 (λ s. get_or counts s 0 + in_word w (size at) s) → m ≡ n + 1 → next ≡ tabulate 17 (sizes (in_words words) m)
+  sizes_turn counts next n at w m e here word turned more =
+      turned
+      ∙ tabulate_same 17 _ (sizes (in_words words) m) (λ s h.
+      ap₂ (λ (xs : List ℕ) (x : ℕ). get_or xs s 0 + in_word w (size x) s) e here
+      ∙ ap (λ (x : ℕ). x + in_word w (size n) s) (tabulate_at 17 (sizes (in_words words) n) s 0 h)
+      ∙ sizes_next (in_words words) n w s (λ k l. ap (λ (x : ℕ). has x k) word ∙ sym (in_words_at words n k l))
+      ∙ ap (λ (x : ℕ). sizes (in_words words) x s) (sym more))
+
+  -- a word that is lacking has no set
+  pub words_beyond : (a : ℕ) → length words ≤ a / 64 → in_words words a ≡ false
+  unfolding in_words
+  words_beyond a h = ap (λ (w : ℕ). has w (a % 64)) (get_or-eq_default words 0 h) ∙ has_empty (a % 64)
+
+  pub sizes_end : (test : ℕ → Bool) → ((a : ℕ) → length words ≤ a / 64 → test a ≡ false) → (n : ℕ) → n ≡ length (enumerate_from 0 (take 1024 words))
+      → (s : ℕ) → sizes test n s ≡ path_count 16 test s
   unfolding sizes path_count
-  sizes_all s = refl
+  sizes_end test beyond n e s =
+      let all : n ≡ min 1024 (length words) = e ∙ length-enumerate_from 0 (take 1024 words) ∙ length-take 1024 words in
+      let whole : 64 * n + (65536 - 64 * n) ≡ 65536 = omega arith in
+      sym (ap (sum_below term) (sym whole) ∙ sum_below_append term (64 * n) (65536 - 64 * n)
+      ∙ ap (λ (u : ℕ). sum_below term (64 * n) + u)
+      (sum_below_same _ (λ a. 0) (65536 - 64 * n) (λ a l.
+      ap (λ (b : Bool). cond (b && eqb (size (64 * n + a)) s) 1 0) (beyond (64 * n + a) (omega arith)))
+      ∙ sum_below_zero (65536 - 64 * n))
+      ∙ add-zero (sum_below term (64 * n)))
+    where
+      term : ℕ → ℕ
+      term a = cond (test a && eqb (size a) s) 1 0

@@ -15,9 +15,8 @@ pub fn counts_by_size(words: &[u64]) -> [u64; 17]
     ensures { result ≡ tabulate 17 (path_count 16 (in_words words.now)) }
 {
     let mut counts = [0u64; 17];
-    for at in 0..1024 {
-        let word = numbers::cell(words, at);
-        add_word(&mut counts, word, at.count_ones() as usize);
+    for (at, word) in words.iter().take(1024).enumerate() {
+        add_word(&mut counts, *word, at.count_ones() as usize);
     }
     counts
 }
@@ -27,9 +26,8 @@ pub fn counts_by_part(words: &[u64]) -> [u64; 289]
     ensures { result ≡ rows_of (in_words words.now) }
 {
     let mut rows = [0u64; 289];
-    for at in 0..1024 {
-        let sets = numbers::cell(words, at);
-        add_rows(&mut rows, sets, at);
+    for (at, word) in words.iter().take(1024).enumerate() {
+        add_rows(&mut rows, *word, at);
     }
     rows
 }

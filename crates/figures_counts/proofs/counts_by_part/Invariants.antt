@@ -4,6 +4,7 @@ use mathlib.Core.Path.{◌≡◌}
 use mathlib.Core.Bool.{Bool, ◌&&◌}
 use mathlib.Core.List.{List}
 use Prim.Native.Nat.{ℕ, ◌/◌, ◌%◌}
+use lib.ListN.{length}
 use Rattle.numbers.specs.Tables.{tabulate}
 use Rattle.structure_words.specs.Words.{in_words}
 use Rattle.figures_counts.specs.Rows.{has_part}
@@ -19,4 +20,4 @@ unfoldable pub count_at : List ℕ → ℕ → ℕ → ℕ
 count_at words at i = sizes (chosen words (i / 17)) at (i % 17)
 
 abbrev pub invariant-loop-at : goal.invariant-loop-at
-invariant-loop-at l = l.rows ≡ tabulate 289 (count_at l.words l.at)
+invariant-loop-at l = l.rows ≡ tabulate 289 (count_at l.words (length l.yielded))

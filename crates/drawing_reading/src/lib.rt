@@ -272,48 +272,31 @@ fn with_digit(value: usize, digit: usize) -> usize
     requires digit_bound { digit < 10 }
     ensures { result ≡ held (10 * value + digit) }
 {
-    if 10 <= value {
-        return 100;
-    }
-    10 * value + digit
+    (10 * value + digit).min(100)
 }
 
 // What the digit at a position stands for, and 10 where there is none.
 fn digit_at(text: &[u8], at: usize) -> usize
     ensures { result ≡ digit_at text.now at }
 {
-    let byte = byte_at(text, at);
-    if byte < 48 {
-        return 10;
+    match byte_at(text, at) {
+        byte @ b'0'..=b'9' => usize::from(byte - b'0'),
+        _ => 10,
     }
-    if 57 < byte {
-        return 10;
-    }
-    byte as usize - 48
 }
 
 // The byte at a position, and 0, which stands in no form, behind the last.
 fn byte_at(text: &[u8], at: usize) -> u8
     ensures { result ≡ get_or text.now at 0 }
 {
-    if text.len() <= at {
-        return 0;
-    }
-    text[at]
+    text.get(at).copied().unwrap_or(0)
 }
 
 // Whether a keyword stands at a position.
+#[tactic(auto, using(crate::proofs::Keywords::word_found))]
 fn stands(text: &[u8], at: usize, word: &[u8]) -> bool
     requires { at ≤ length text.now }
     ensures { result ≡ same_bytes (take (length word.now) (drop at text.now)) word.now }
 {
-    if text.len() - at < word.len() {
-        return false;
-    }
-    for i in 0..word.len() {
-        if text[at + i] != word[i] {
-            return false;
-        }
-    }
-    true
+    text[at..].starts_with(word)
 }

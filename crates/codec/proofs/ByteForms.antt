@@ -4,11 +4,12 @@
 use mathlib.Core.Path.{◌≡◌, refl, sym, ap, ◌∙◌}
 use mathlib.Core.List.{List, [], ◌∷◌}
 use mathlib.Core.Logic.{⊎_elim}
-use Prim.Native.Nat.{ℕ, zero, suc, ◌+◌, ◌*◌, ◌/◌, ◌%◌, ◌^◌, ◌≤◌, ◌<◌}
-use native.Mathlib.Nat.{le_refl, pow-suc, mul-suc}
+use Prim.Native.Nat.{ℕ, zero, suc, ◌+◌, ◌*◌, ◌/◌, ◌%◌, ◌^◌, ◌≤◌, ◌<◌, max}
+use native.Mathlib.Nat.{le_refl, pow-suc, pow-succ', one-le-pow, mul-suc, zero-lt-suc}
 use native.Mathlib.Omega.{arith}
 use borrow.Author.Tests.{lt-ltb, le-ltb}
 use native.Mathlib.Numerals.{add-one}
+use lib.Pow.{pow_pos, pow_mono, pow-add}
 use lib.ListN.{length, get_or, set, length-append}
 use lib.Seq.{sets}
 use Rattle.numbers.proofs.Bounds.{below_or_above}
@@ -76,6 +77,41 @@ length_small v h = ap length (bytes_small v h)
 
 pub length_large : (v : ℕ) → 128 ≤ v → length (bytes_of v) ≡ suc (length (bytes_of (v / 128)))
 length_large v h = ap length (bytes_large v h)
+
+-- and one that is not below it takes more
+bytes_at_least : (k v : ℕ) → 128 ^ k ≤ v → k < length (bytes_of v)
+bytes_at_least zero v h = bytes_some v
+bytes_at_least (suc k) v h =
+    let large : 128 ≤ v = omega (arith, pow-succ' 128 k, one-le-pow k 128 (zero-lt-suc 127)) in
+    omega (arith, length_large v large, bytes_at_least k (v / 128) (omega (arith, h, pow-succ' 128 k)))
+
+-- so a number takes a byte for each seven bits, and 0 takes one
+pub length_by_bits : (v k : ℕ) → 2 ^ k ≤ max v 1 → max v 1 < 2 * 2 ^ k → k / 7 + 1 ≡ length (bytes_of v)
+length_by_bits v k h l = ⊎_elim none some (below_or_above v 1)
+  where
+    sevens : (n : ℕ) → 128 ^ n ≡ 2 ^ (7 * n)
+    sevens zero = refl
+    sevens (suc n) = pow-succ' 128 n ∙ ap (λ (x : ℕ). 128 * x) (sevens n) ∙ sym (pow-add 2 7 (7 * n)) ∙ ap (λ (x : ℕ). 2 ^ x) (omega arith)
+
+    none : v < 1 → k / 7 + 1 ≡ length (bytes_of v)
+    none z = omega (arith, length_small v (omega arith), power k (omega (arith, h)))
+      where
+        power : (k : ℕ) → 2 ^ k ≤ 1 → k ≡ 0
+        power zero h = refl
+        power (suc k) h = absurd (omega (arith, pow-succ' 2 k, pow_pos k))
+
+    some : 1 ≤ v → k / 7 + 1 ≡ length (bytes_of v)
+    some g =
+        let first : 2 ^ (7 * (k / 7)) ≤ 2 ^ k = pow_mono (omega arith) in
+        let next : 2 ^ suc k ≤ 2 ^ (7 * suc (k / 7)) = pow_mono (omega arith) in
+        omega (arith, bytes_at_least (k / 7) v (omega (arith, sevens (k / 7), first)), bytes_at_most (suc (k / 7)) v (omega arith) (omega (arith, sevens (suc (k / 7)), next, pow-succ' 2 k)))
+
+-- a number of more than one group is large, and one of a single group is small
+pub large_by_length : (v : ℕ) → 2 ≤ length (bytes_of v) → 128 ≤ v
+large_by_length v h = ⊎_elim (λ small. absurd (omega (arith, length_small v small))) (λ large. large) (below_or_above v 128)
+
+pub small_by_length : (v : ℕ) → length (bytes_of v) ≤ 1 → v < 128
+small_by_length v h = ⊎_elim (λ small. small) (λ large. absurd (omega (arith, length_large v large, bytes_some (v / 128)))) (below_or_above v 128)
 
 -- a number takes no more bytes than a larger one
 pub bytes_rise : (v w : ℕ) → v ≤ w → length (bytes_of v) ≤ length (bytes_of w)

@@ -86,17 +86,12 @@ pub fn read_number(bytes: &[u8], at: usize, field: Field) -> Result<Standing<u64
     Err(Reason::WrongNumber.at(at))
 }
 
-// How many bytes a number takes.
+// How many bytes a number takes: one for each seven bits, and one for 0.
+#[tactic(auto, using(crate::proofs::ByteForms::length_by_bits))]
 pub fn number_length(value: u64) -> usize
     ensures { result ≡ length (bytes_of value) }
 {
-    let mut rest = value;
-    let mut count = 1;
-    while 128 <= rest {
-        rest /= 128;
-        count += 1;
-    }
-    count
+    value.max(1).ilog2() as usize / 7 + 1
 }
 
 // Writes a number at a position of a lent buffer and answers the position after it. Where it does not fit, the buffer stays as it was
@@ -130,22 +125,22 @@ fn ended(value: u64, least: u64, top: u64, start: usize, next: usize) -> Result<
 fn wide(byte: u8) -> u64
     ensures { result ≡ byte }
 {
-    byte as u64
+    u64::from(byte)
 }
 
 // Writes a number's groups from a position on, where there is room for all of them.
+#[tactic(auto, using(crate::proofs::ByteForms::bytes_some, crate::proofs::ByteForms::large_by_length, crate::proofs::ByteForms::small_by_length, crate::proofs::ByteForms::length_large, crate::proofs::ByteForms::length_small, crate::proofs::ByteForms::stores_large, crate::proofs::ByteForms::stores_small))]
 fn write_groups(buffer: &mut [u8], at: usize, value: u64) -> usize
     requires { at + length (bytes_of value) ≤ length buffer.old }
     ensures value { result ≡ at + length (bytes_of value) }
     ensures buffer_after { buffer.new ≡ sets buffer.old at (bytes_of value) }
 {
+    let last = at + number_length(value) - 1;
     let mut rest = value;
-    let mut next = at;
-    while 128 <= rest {
+    for next in at..last {
         buffer[next] = (rest % 128 + 128) as u8;
         rest /= 128;
-        next += 1;
     }
-    buffer[next] = rest as u8;
-    next + 1
+    buffer[last] = rest as u8;
+    last + 1
 }

@@ -5,9 +5,11 @@ use mathlib.Core.List.{List}
 use Prim.Native.Nat.{ℕ, zero, suc, ◌+◌, ◌*◌, ◌/◌, ◌%◌, ◌^◌, ◌≤◌, ◌<◌, zero-le}
 use native.Mathlib.Nat.{add-zero, one-mul, zero-mul, le_trans, le_of_eq, lt_of_le_of_lt}
 use native.Mathlib.Omega.{arith}
+use lib.Count.{ones-le}
 use lib.Dec.{eqb}
 use lib.ListN.{length, get_or}
 use borrow.Author.Tests.{eq-eqb}
+use Rattle.numbers.specs.Tables.{NoneOver}
 use Rattle.theory_sums.specs.Sums.{indicator, gathered}
 use Rattle.theory_sums.proofs.Sums.{sum_below_prefix}
 use Rattle.theory_sums.proofs.Gathering.{gathered_step}
@@ -54,3 +56,9 @@ sum_fits works cells fits b h =
         ap (λ (u : ℕ). cells_by_size works cells b (size b) + u)
         (bit_times (works b) (get_or cells b 0) ∙ ap (λ (t : Bool). cond t (get_or cells b 0) 0) (sym (ap (λ (t : Bool). works b && t) (eq-eqb (size b) (size b) refl) ∙ and-true (works b))))
         ∙ sym (gathered_step works size (λ a. get_or cells a 0) b (size b))
+
+pub size_few : (a : ℕ) → a < 65536 → size a ≤ 16
+size_few a h = ones-le 16 a h
+
+pub mark_few : (b : Bool) (lanes : List ℕ) (s : ℕ) → NoneOver (2 ^ 42) lanes → indicator b * get_or lanes s 0 ≤ 2 ^ 42
+mark_few b lanes s few = bit_few b (get_or lanes s 0) (2 ^ 42) (few s)

@@ -2,21 +2,22 @@
 -- has it. Assumes nothing.
 use mathlib.Core.Path.{◌≡◌, sym, ap, ap₂, ◌∙◌}
 use mathlib.Core.Bool.{Bool, true, false, cond}
-use mathlib.Core.List.{List}
+use mathlib.Core.List.{List, ◌++◌}
 use mathlib.Core.Logic.{◌⊎◌, inl, inr}
-use Prim.Native.Nat.{ℕ, zero, suc, ◌+◌, ◌-◌, ◌*◌, ◌^◌, ◌≤◌, ◌<◌, zero-le}
+use Prim.Native.Nat.{ℕ, zero, suc, ◌+◌, ◌-◌, ◌*◌, ◌^◌, ◌≤◌, ◌<◌, zero-le, min}
 use native.Mathlib.Nat.{add-zero, zero-add, add_assoc, add_comm, mul_comm, one-mul, pow-succ', le_trans, le_of_eq, add-le-add}
 use native.Mathlib.Numerals.{add-one}
 use native.Mathlib.Omega.{arith}
 use lib.Arith.{lt-one}
 use lib.Dec.{ltb}
-use lib.ListN.{get_or}
+use lib.ListN.{length, get_or, take, drop, length-take, length-drop, length-append, get_or-append}
+use lib.Seq.{get_or-append-add, get_or-drop}
 use lib.Pow.{pow-add}
 use borrow.Author.Tests.{lt-ltb, le-ltb}
 use Rattle.numbers.specs.Tables.{tabulate}
 use Rattle.numbers.proofs.Bools.{true_or_false}
 use Rattle.numbers.proofs.Bounds.{below_or_above}
-use Rattle.numbers.proofs.Tables.{tabulate_at}
+use Rattle.numbers.proofs.Tables.{filled, filled_all, tabulate_at, tabulate_length, tabulate_unique}
 use Rattle.theory_sums.specs.Sums.{sum_below}
 use Rattle.theory_sums.proofs.Sums.{sum_below_same, sum_below_zero, sum_below_masks}
 use Rattle.theory_sets.specs.Masks.{has, holds}
@@ -73,6 +74,47 @@ swept_block part block f s h = cases (below_or_above s (2 ^ part))
 pub block_swept : (part half block : ℕ) → half ≡ 2 ^ part → (f : ℕ → ℕ) (s : ℕ) → s < 2 * half
     → f (2 * half * block + s) + cond (ltb s half) (f (2 * half * block + (half + s))) 0 ≡ swept_over part f (2 * half * block + s)
 block_swept part half block e f s h = rw e (swept_block part block f s (rw e at h))
+
+-- what stands in the lower half of a block after the sweep
+abbrev pub half_sum : ℕ → List ℕ → ℕ → ℕ
+half_sum half cells r = get_or cells r 0 + get_or cells (half + r) 0
+
+pub halves_joined : (half : ℕ) (cells : List ℕ) → length cells ≡ 2 * half
+    → filled (half_sum half cells) (take half cells) half ++ drop half cells
+    ≡ tabulate (2 * half) (λ r. get_or cells r 0 + cond (ltb r half) (get_or cells (half + r) 0) 0)
+halves_joined half cells long =
+    tabulate_unique (2 * half) swept_cell (filled (half_sum half cells) (take half cells) half ++ drop half cells) 0 whole (λ r h. cases r h (below_or_above r half))
+  where
+    swept_cell : ℕ → ℕ
+    swept_cell r = get_or cells r 0 + cond (ltb r half) (get_or cells (half + r) 0) 0
+
+    front_long : length (take half cells) ≡ half
+    front_long = length-take half cells ∙ (let few : min half (length cells) ≡ half = omega (arith, long) in few)
+
+    front : filled (half_sum half cells) (take half cells) half ≡ tabulate half (half_sum half cells)
+    front = filled_all (half_sum half cells) (take half cells) half (le_of_eq front_long)
+
+    whole : length (filled (half_sum half cells) (take half cells) half ++ drop half cells) ≡ 2 * half
+    whole =
+        ap (λ (xs : List ℕ). length (xs ++ drop half cells)) front ∙ length-append (tabulate half (half_sum half cells)) (drop half cells)
+        ∙ ap₂ (λ (u v : ℕ). u + v) (tabulate_length half (half_sum half cells)) (length-drop half cells)
+        ∙ (let twice : half + (length cells - half) ≡ 2 * half = omega (arith, long) in twice)
+
+    cases : (r : ℕ) → r < 2 * half → (r < half) ⊎ (half ≤ r) → get_or (filled (half_sum half cells) (take half cells) half ++ drop half cells) r 0 ≡ swept_cell r
+    cases r h (inl low) =
+        ap (λ (xs : List ℕ). get_or (xs ++ drop half cells) r 0) front
+        ∙ get_or-append (tabulate half (half_sum half cells)) (drop half cells) 0 r (rw (tabulate_length half (half_sum half cells)) low)
+        ∙ tabulate_at half (half_sum half cells) r 0 low
+        ∙ ap (λ (t : Bool). get_or cells r 0 + cond t (get_or cells (half + r) 0) 0) (sym (lt-ltb r half low))
+    cases r h (inr high) =
+        let s : ℕ = r - half in
+        let split : r ≡ half + s = omega arith in
+        ap (λ (xs : List ℕ). get_or (xs ++ drop half cells) r 0) front
+        ∙ ap (λ (i : ℕ). get_or (tabulate half (half_sum half cells) ++ drop half cells) i 0) (split ∙ ap (λ (x : ℕ). x + s) (sym (tabulate_length half (half_sum half cells))))
+        ∙ get_or-append-add (tabulate half (half_sum half cells)) (drop half cells) s 0
+        ∙ get_or-drop half cells s 0 ∙ ap (λ (i : ℕ). get_or cells i 0) (sym split)
+        ∙ sym (add-zero (get_or cells r 0))
+        ∙ ap (λ (t : Bool). get_or cells r 0 + cond t (get_or cells (half + r) 0) 0) (sym (le-ltb r half high))
 
 -- ---- part after part
 

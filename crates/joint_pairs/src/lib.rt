@@ -66,17 +66,19 @@ fn one_third(
 }
 
 // What marks a set of each size, for the three sizes that are counted together.
+#[tactic(auto, using(numbers::proofs::Tables::filled_none, numbers::proofs::Tables::filled_again, numbers::proofs::Tables::filled_end))]
 fn lanes(third: usize) -> [u64; 17]
     ensures { result ≡ tabulate 17 (lane_of third) }
 {
     let mut lanes = [0u64; 17];
-    for s in 0..17 {
-        lanes[s] = lane(third, s);
+    for (s, cell) in lanes.iter_mut().enumerate() {
+        *cell = lane(third, s);
     }
     lanes
 }
 
 // 1 in the lane of a size that is one of the three, and 0 for any other size.
+#[tactic(auto, using(crate::proofs::Packing::lane_fits), unfolding(crate::specs::Inside::lane_of))]
 fn lane(third: usize, s: usize) -> u64
     ensures { result ≡ lane_of third s }
 {
@@ -88,13 +90,14 @@ fn lane(third: usize, s: usize) -> u64
 }
 
 // Marks each set that works in the lane of its size; no branch asks whether it works.
+#[tactic(auto, using(numbers::proofs::Tables::filled_none, numbers::proofs::Tables::filled_again, numbers::proofs::Tables::filled_end, crate::proofs::Packing::size_few, crate::proofs::Packing::mark_few), unfolding(crate::specs::Inside::mark_of))]
 fn mark(words: &[u64], lanes: &[u64; 17], cells: &mut [u64])
     requires cells_len_bound { length cells.old ≤ 65536 }
     requires none_over { NoneOver (2 ^ 42) lanes.now }
     ensures { cells.new ≡ tabulate (length cells.old) (mark_of (in_words words.now) lanes.now) }
 {
-    for a in 0..cells.len() {
-        cells[a] = bit(words, a) * lanes[masks::size(a)];
+    for (a, cell) in cells.iter_mut().enumerate() {
+        *cell = bit(words, a) * lanes[masks::size(a)];
     }
 }
 
@@ -102,7 +105,7 @@ fn mark(words: &[u64], lanes: &[u64; 17], cells: &mut [u64])
 fn bit(words: &[u64], a: usize) -> u64
     ensures { result ≡ indicator (in_words words.now a) }
 {
-    (numbers::cell(words, a / 64) >> (a % 64)) % 2
+    structure_words::works(words, a) as u64
 }
 
 // Adds to the cell of each set those of all sets that hold it, part by part.
@@ -135,14 +138,16 @@ fn sweep_part(n: usize, part: usize, cells: &mut [u64])
 }
 
 // Adds to each cell of the lower half of a block the cell in its place of the upper half.
+#[tactic(auto, using(numbers::proofs::Tables::filled_none, numbers::proofs::Tables::filled_again, numbers::proofs::Tables::filled_from, crate::proofs::Sweeping::halves_joined))]
 fn add_upper(half: usize, cells: &mut [u64])
     requires cells_len { length cells.old ≡ 2 * half }
     requires half_bound { half ≤ 65536 }
     requires none_over { NoneOver (2 ^ 62) cells.old }
     ensures { cells.new ≡ tabulate (2 * half) (λ r. get_or cells.old r 0 + cond (ltb r half) (get_or cells.old (half + r) 0) 0) }
 {
-    for r in 0..half {
-        cells[r] += cells[half + r];
+    let (lower, upper) = cells.split_at_mut(half);
+    for (r, low) in lower.iter_mut().enumerate() {
+        *low += upper[r];
     }
 }
 
@@ -153,18 +158,19 @@ fn gather(words: &[u64], cells: &[u64], sums: &mut [u64])
     requires sums_value { sums.old ≡ replicate 17 0 }
     ensures { sums.new ≡ tabulate 17 (cells_by_size (in_words words.now) cells.now (length cells.now)) }
 {
-    for b in 0..cells.len() {
-        sums[masks::size(b)] += bit(words, b) * cells[b];
+    for (b, cell) in cells.iter().enumerate() {
+        sums[masks::size(b)] += bit(words, b) * *cell;
     }
 }
 
 // The counts by the sizes of both sets, taken out of their lanes.
+#[tactic(auto, using(numbers::proofs::Tables::filled_none, numbers::proofs::Tables::filled_again, numbers::proofs::Tables::filled_end))]
 fn unpacked(sums: &[u64; 102]) -> [u64; 289]
     ensures { result ≡ tabulate 289 (λ c. get_or sums.now (17 * (c / 51) + c % 17) 0 / 2 ^ (21 * (c / 17 % 3)) % 2 ^ 21) }
 {
     let mut pairs = [0u64; 289];
-    for c in 0..289 {
-        pairs[c] = (sums[17 * (c / 51) + c % 17] >> (21 * (c / 17 % 3))) % 2097152;
+    for (c, pair) in pairs.iter_mut().enumerate() {
+        *pair = (sums[17 * (c / 51) + c % 17] >> (21 * (c / 17 % 3))) % 2097152;
     }
     pairs
 }

@@ -1,10 +1,10 @@
 -- What is gathered after a sweep are the pairs of three outer sizes, each in its lane; no lane runs over. Assumes nothing.
 use mathlib.Core.Path.{◌≡◌, refl, sym, ap, ap₂, ◌∙◌, subst}
 use mathlib.Core.Bool.{Bool, true, false, cond, ◌&&◌}
-use mathlib.Core.List.{List}
+use mathlib.Core.List.{List, []}
 use mathlib.Core.Logic.{◌⊎◌, inl, inr}
-use Prim.Native.Nat.{ℕ, zero, suc, ◌+◌, ◌*◌, ◌/◌, ◌%◌, ◌^◌, ◌≤◌, ◌<◌, zero-le}
-use native.Mathlib.Nat.{add-zero, mul-zero, zero-mul, one-mul, mul-one, le_of_eq, lt_of_le_of_lt}
+use Prim.Native.Nat.{ℕ, zero, suc, ◌+◌, ◌*◌, ◌/◌, ◌%◌, ◌^◌, ◌≤◌, ◌<◌, zero-le, min}
+use native.Mathlib.Nat.{add-zero, mul-zero, zero-mul, one-mul, mul-one, le_trans, min-le_right, le_of_eq, lt_of_le_of_lt}
 use native.Mathlib.Omega.{arith}
 use lib.Count.{ones-le}
 use lib.Dec.{eqb}
@@ -19,7 +19,7 @@ use Rattle.theory_sums.proofs.Sums.{sum_below_same, sum_below_zero, sum_below_ad
 use Rattle.theory_sets.specs.Masks.{size, holds}
 use Rattle.theory_joint.specs.Formula.{path_of, nested_pairs}
 use Rattle.theory_joint.proofs.Pairs.{pairs_few}
-use Rattle.joint_pairs.specs.Inside.{lane_of, mark_of, swept, cells_by_size, Fits, packed_pairs}
+use Rattle.joint_pairs.specs.Inside.{lane_of, mark_of, swept, cell_of, cells_by_size, Fits, packed_pairs, packed_row}
 use Rattle.joint_pairs.proofs.Packing.{bit_few}
 use Rattle.joint_pairs.proofs.Sweeping.{swept_all}
 
@@ -116,7 +116,7 @@ module _ (n : ℕ) (outer inner : ℕ → Bool) (third j : ℕ) where
       inward false b = sym (sum_below_same _ (λ a. 0) (2 ^ n) (λ a ha. mul-zero (mark a)) ∙ sum_below_zero (2 ^ n))
 
   module _ (few : n ≤ 16) (lanes marked cells : List ℕ) (is-lanes : lanes ≡ tabulate 17 (lane_of third)) (is_marked : marked ≡ tabulate (2 ^ n) (mark_of outer lanes))
-      (is-swept : cells ≡ tabulate (2 ^ n) (swept n (λ a. get_or marked a 0))) where
+      (is-swept : cells ≡ tabulate (2 ^ n) (swept n (cell_of marked))) where
     marked_at : (a : ℕ) → a < 2 ^ n → get_or marked a 0 ≡ mark a
     unfolding mark_of mark
     marked_at a h =
@@ -125,12 +125,13 @@ module _ (n : ℕ) (outer inner : ℕ → Bool) (third j : ℕ) where
         (ap (λ (xs : List ℕ). get_or xs (size a) 0) is-lanes ∙ tabulate_at 17 (lane_of third) (size a) 0 (omega (arith, ones-le n a h)))
 
     cell_at : (b : ℕ) → b < 2 ^ n → get_or cells b 0 ≡ sum_below (λ a. cond (holds a b) (mark a) 0) (2 ^ n)
+    unfolding cell_of
     cell_at b h =
-        ap (λ (xs : List ℕ). get_or xs b 0) is-swept ∙ tabulate_at (2 ^ n) (swept n (λ a. get_or marked a 0)) b 0 h ∙ swept_all n (λ a. get_or marked a 0) b h
+        ap (λ (xs : List ℕ). get_or xs b 0) is-swept ∙ tabulate_at (2 ^ n) (swept n (cell_of marked)) b 0 h ∙ swept_all n (cell_of marked) b h
         ∙ sum_below_same _ _ (2 ^ n) (λ a l. ap (λ (x : ℕ). cond (holds a b) x 0) (marked_at a l))
 
     pub gathered_pairs : cells_by_size inner cells (2 ^ n) j ≡ packed_pairs n outer inner third j
-    unfolding gathered
+    unfolding gathered cell_of
     gathered_pairs = sum_below_same _ _ (2 ^ n) (λ b h. ap (λ (x : ℕ). cond (path_of inner j b) x 0) (cell_at b h)) ∙ marks_above
 
 -- no mark is over 2^42
@@ -158,7 +159,7 @@ packed_fits n outer inner third j few =
     omega (arith, pairs_few n outer inner (3 * third) j few, pairs_few n outer inner (3 * third + 1) j few, pairs_few n outer inner (3 * third + 2) j few)
 
 module _ (n : ℕ) (outer inner : ℕ → Bool) (third : ℕ) (few : n ≤ 16) (lanes marked cells : List ℕ) (is-lanes : lanes ≡ tabulate 17 (lane_of third))
-    (is_marked : marked ≡ tabulate (2 ^ n) (mark_of outer lanes)) (is-swept : cells ≡ tabulate (2 ^ n) (swept n (λ a. get_or marked a 0))) where
+    (is_marked : marked ≡ tabulate (2 ^ n) (mark_of outer lanes)) (is-swept : cells ≡ tabulate (2 ^ n) (swept n (cell_of marked))) where
   pub cells_long : length cells ≡ 2 ^ n
   cells_long = ap length is-swept ∙ tabulate_length (2 ^ n) _
 
@@ -168,8 +169,9 @@ module _ (n : ℕ) (outer inner : ℕ → Bool) (third : ℕ) (few : n ≤ 16) (
   pub cells_fit : Fits inner cells
   cells_fit j = lt_of_le_of_lt (le_of_eq (pairs_of j)) (packed_fits n outer inner third j few)
 
-  pub cells_gathered : (sums : List ℕ) → sums ≡ tabulate 17 (cells_by_size inner cells (length cells)) → sums ≡ tabulate 17 (packed_pairs n outer inner third)
-  cells_gathered sums is = is ∙ tabulate_same 17 _ _ (λ j h. pairs_of j)
+  pub cells_gathered : packed_row n outer inner third ≡ tabulate 17 (cells_by_size inner cells (length cells))
+  unfolding packed_row
+  cells_gathered = sym (tabulate_same 17 _ _ (λ j h. pairs_of j))
 
 -- each lane of a packed number is taken out whole
 lane_out : (x y z k : ℕ) → x < 2 ^ 21 → y < 2 ^ 21 → z < 2 ^ 21 → k < 3 → (r : ℕ → ℕ) → r 0 ≡ x → r 1 ≡ y → r 2 ≡ z
@@ -179,19 +181,30 @@ lane_out x y z (suc zero) hx hy hz h r e f g = omega (arith, f)
 lane_out x y z (suc (suc zero)) hx hy hz h r e f g = omega (arith, g)
 lane_out x y z (suc (suc (suc k))) hx hy hz h r e f g = absurd (omega arith)
 
-pub unpacked_is : (n : ℕ) (outer inner : ℕ → Bool) (sums : List ℕ) → n ≤ 16 → sums ≡ tabulate 102 (λ c. packed_pairs n outer inner (c / 17) (c % 17)) → (c : ℕ) → c < 289
-    → get_or sums (17 * (c / 51) + c % 17) 0 / 2 ^ (21 * (c / 17 % 3)) % 2 ^ 21 ≡ nested_pairs n outer inner (c / 17) (c % 17)
-unfolding packed_pairs
-unpacked_is n outer inner sums few is c h =
-    let at : ℕ = 17 * (c / 51) + c % 17 in
-    let third : at / 17 ≡ c / 51 = omega arith in
-    let column : at % 17 ≡ c % 17 = omega arith in
+unpacked_is : (n : ℕ) (outer inner : ℕ → Bool) (rows : List (List ℕ)) → n ≤ 16 → rows ≡ tabulate 6 (packed_row n outer inner) → (c : ℕ) → c < 289
+    → get_or (get_or rows (c / 51) []) (c % 17) 0 / 2 ^ (21 * (c / 17 % 3)) % 2 ^ 21 ≡ nested_pairs n outer inner (c / 17) (c % 17)
+unfolding packed_row packed_pairs
+unpacked_is n outer inner rows few is c h =
     let pairs : ℕ → ℕ = λ i. nested_pairs n outer inner i (c % 17) in
     let base : ℕ = 3 * (c / 51) in
     let row : base + c / 17 % 3 ≡ c / 17 = omega arith in
     ap (λ (x : ℕ). x / 2 ^ (21 * (c / 17 % 3)) % 2 ^ 21)
-    (ap (λ (xs : List ℕ). get_or xs at 0) is ∙ tabulate_at 102 (λ d. packed_pairs n outer inner (d / 17) (d % 17)) at 0 (omega arith)
-    ∙ ap₂ (packed_pairs n outer inner) third column)
+    (ap (λ (xs : List (List ℕ)). get_or (get_or xs (c / 51) []) (c % 17) 0) is
+    ∙ ap (λ (xs : List ℕ). get_or xs (c % 17) 0) (tabulate_at 6 (packed_row n outer inner) (c / 51) [] (omega arith))
+    ∙ tabulate_at 17 (packed_pairs n outer inner (c / 51)) (c % 17) 0 (omega arith))
     ∙ lane_out (pairs base) (pairs (base + 1)) (pairs (base + 2)) (c / 17 % 3) (pairs_few n outer inner base (c % 17) few) (pairs_few n outer inner (base + 1) (c % 17) few)
     (pairs_few n outer inner (base + 2) (c % 17) few) (omega arith) (λ k. pairs (base + k)) (ap pairs (add-zero base)) refl refl
     ∙ ap pairs row
+
+pub pairs_unpacked : (n k : ℕ) (outer inner : ℕ → Bool) (rows : List (List ℕ)) → rows ≡ tabulate 6 (packed_row k outer inner) → k ≡ min n 16
+    → tabulate 289 (λ c. get_or (get_or rows (c / 51) []) (c % 17) 0 / 2 ^ (21 * (c / 17 % 3)) % 2 ^ 21)
+    ≡ tabulate 289 (λ c. nested_pairs (min n 16) outer inner (c / 17) (c % 17))
+pairs_unpacked n k outer inner rows is cut =
+    tabulate_same 289 _ _ (λ c h.
+    unpacked_is k outer inner rows (le_trans (le_of_eq cut) (min-le_right n 16)) is c h
+    ∙ ap (λ (m : ℕ). nested_pairs m outer inner (c / 17) (c % 17)) cut)
+
+-- ---- what search is told
+
+-- of the cells as they are marked, swept and gathered
+pub ruleset rows = (lanes_few, marks_few, cells_long, cells_fit, cells_gathered)

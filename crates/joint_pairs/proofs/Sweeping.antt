@@ -1,29 +1,31 @@
 -- A sweep over a part, block by block: in a block of the sets that agree in the parts behind it the lower half lacks the part and the upper half
 -- has it. Assumes nothing.
-use mathlib.Core.Path.{◌≡◌, sym, ap, ap₂, ◌∙◌}
+use mathlib.Core.Path.{◌≡◌, refl, subst, sym, ap, ap₂, ◌∙◌}
 use mathlib.Core.Bool.{Bool, true, false, cond}
 use mathlib.Core.List.{List, ◌++◌}
 use mathlib.Core.Logic.{◌⊎◌, inl, inr}
 use Prim.Native.Nat.{ℕ, zero, suc, ◌+◌, ◌-◌, ◌*◌, ◌^◌, ◌≤◌, ◌<◌, zero-le, min}
-use native.Mathlib.Nat.{add-zero, zero-add, add_assoc, add_comm, mul_comm, one-mul, pow-succ', le_trans, le_of_eq, add-le-add}
+use native.Mathlib.Nat.{add-zero, zero-add, add_assoc, add_comm, mul_comm, one-mul, pow-succ', le_trans, le_of_eq, add-le-add, add-sub_cancel_left, mul-zero, mul-le-mul_left, mul-le-mul_right}
 use native.Mathlib.Numerals.{add-one}
 use native.Mathlib.Omega.{arith}
 use lib.Arith.{lt-one}
 use lib.Dec.{ltb}
 use lib.ListN.{length, get_or, take, drop, length-take, length-drop, length-append, get_or-append}
 use lib.Seq.{get_or-append-add, get_or-drop}
-use lib.Pow.{pow-add}
-use borrow.Author.Tests.{lt-ltb, le-ltb}
-use Rattle.numbers.specs.Tables.{tabulate}
-use Rattle.numbers.proofs.Bools.{true_or_false}
+use lib.Pow.{pow-add, pow_mono}
+use borrow.Author.Tests.{lt-ltb, le-ltb, ltb-true}
+use borrow.Rule.Slice.PartMut.{mid_of, put_mid}
+use Rattle.numbers.specs.Tables.{tabulate, NoneOver}
+use Rattle.numbers.proofs.Bools.{true_or_false, cond_same}
 use Rattle.numbers.proofs.Bounds.{below_or_above}
-use Rattle.numbers.proofs.Tables.{filled, filled_all, tabulate_at, tabulate_length, tabulate_unique}
+use Rattle.numbers.proofs.Parts.{part_length, part_few, part_old, part_back}
+use Rattle.numbers.proofs.Tables.{filled, filled_none, filled_all, filled_length, tabulate_at, tabulate_few, tabulate_length, tabulate_same, tabulate_unique}
 use Rattle.theory_sums.specs.Sums.{sum_below}
 use Rattle.theory_sums.proofs.Sums.{sum_below_same, sum_below_zero, sum_below_masks}
 use Rattle.theory_sets.specs.Masks.{has, holds}
 use Rattle.theory_sets.proofs.Masks.{has_block, has_odd, has_even, add_below}
 use Rattle.theory_figures.proofs.Holding.{holds_more, holds_never, holds_last}
-use Rattle.joint_pairs.specs.Inside.{swept_over, swept}
+use Rattle.joint_pairs.specs.Inside.{cell_of, swept_over, swept}
 
 -- the blocks are all of the sets
 pub all_blocks : (n part half blocks : ℕ) → part < n → half ≡ 2 ^ part → blocks ≡ 2 ^ (n - (part + 1)) → 2 * half * blocks ≡ 2 ^ n
@@ -116,6 +118,64 @@ halves_joined half cells long =
         ∙ sym (add-zero (get_or cells r 0))
         ∙ ap (λ (t : Bool). get_or cells r 0 + cond t (get_or cells (half + r) 0) 0) (sym (le-ltb r half high))
 
+-- ---- block after block
+
+-- there is room for each block
+pub block_room : (n part half block : ℕ) → n ≤ 16 → part < n → half ≡ 2 ^ part → block < 2 ^ (n - (part + 1))
+    → (2 * half * block ≡ 2 * half * block) × ((2 * half * block + 2 * half ≤ 2 ^ n) × (2 ^ n ≤ 65536))
+block_room n part half block few h e low =
+    let next : 2 * half * block + 2 * half ≡ 2 * half * suc block = omega arith in (
+      refl,
+      (
+        le_trans (le_of_eq next) (le_trans (mul-le-mul_left (2 * half) low) (le_of_eq (all_blocks n part half (2 ^ (n - (part + 1))) h e refl))),
+        pow_mono few,
+      ),
+    )
+
+-- the cells as the blocks so far leave them
+module _ (part : ℕ) (old list : List ℕ) (start len : ℕ) (is : list ≡ filled (swept_over part (cell_of old)) old start) (room : start + len ≤ length old) where
+  same_len : start + len - start ≡ len
+  same_len = add-sub_cancel_left start len
+
+  pub block_long : length (mid_of start len list) ≡ len
+  block_long = rw same_len at (part_length (swept_over part (cell_of old)) old list start len is room)
+
+  pub block_few : NoneOver (2 ^ 62) old → NoneOver (2 ^ 62) (mid_of start len list)
+  block_few few i = rw same_len at (part_few (swept_over part (cell_of old)) old list start len is room (2 ^ 62) few i)
+
+  pub block_back : (half block : ℕ) (new : List ℕ) → half ≡ 2 ^ part → start ≡ 2 * half * block → len ≡ 2 * half
+      → new ≡ tabulate (2 * half) (λ r. get_or (mid_of start len list) r 0 + cond (ltb r half) (get_or (mid_of start len list) (half + r) 0) 0)
+      → put_mid start len list new ≡ filled (swept_over part (cell_of old)) old (2 * half * (block + 1))
+  unfolding cell_of
+  block_back half block new e at whole made =
+      ap (λ (k : ℕ). put_mid start k list new) (sym same_len)
+      ∙ part_back f old list start len is room new (made ∙ tabulate_same (2 * half) _ (λ s. f (start + s)) same ∙ ap (λ (k : ℕ). tabulate k (λ s. f (start + s))) (sym whole))
+      ∙ ap (filled f old) (let next : start + len ≡ 2 * half * (block + 1) = omega (arith, at, whole) in next)
+    where
+      f : ℕ → ℕ
+      f = swept_over part (cell_of old)
+
+      before : (s : ℕ) → s < 2 * half → get_or (mid_of start len list) s 0 ≡ get_or old (start + s) 0
+      before s h =
+          ap (λ (k : ℕ). get_or (mid_of start k list) s 0) (sym same_len) ∙ part_old f old list start len is room s (let low : s < len = omega (arith, whole) in low)
+
+      same : (s : ℕ) → s < 2 * half
+          → get_or (mid_of start len list) s 0 + cond (ltb s half) (get_or (mid_of start len list) (half + s) 0) 0 ≡ f (start + s)
+      same s h =
+          ap₂ (λ (x y : ℕ). x + y) (before s h) (cond_same (ltb s half) _ _ (λ low. before (half + s) (omega (arith, ltb-true s half low))))
+          ∙ ap (λ (x : ℕ). get_or old (x + s) 0 + cond (ltb s half) (get_or old (x + (half + s)) 0) 0) at
+          ∙ block_swept part half block e (cell_of old) s h ∙ ap (λ (x : ℕ). f (x + s)) (sym at)
+
+pub blocks_none : (part half : ℕ) (old : List ℕ) → old ≡ filled (swept_over part (cell_of old)) old (2 * half * 0)
+blocks_none part half old =
+    filled_none (swept_over part (cell_of old)) old ∙ ap (filled (swept_over part (cell_of old)) old) (sym (mul-zero (2 * half)))
+
+pub blocks_all : (n part half blocks : ℕ) (old list : List ℕ) → part < n → half ≡ 2 ^ part → blocks ≡ 2 ^ (n - (part + 1)) → length old ≡ 2 ^ n
+    → list ≡ filled (swept_over part (cell_of old)) old (2 * half * blocks) → list ≡ tabulate (2 ^ n) (swept_over part (cell_of old))
+blocks_all n part half blocks old list h e b long is =
+    is ∙ ap (filled (swept_over part (cell_of old)) old) (all_blocks n part half blocks h e b)
+    ∙ filled_all (swept_over part (cell_of old)) old (2 ^ n) (le_of_eq long)
+
 -- ---- part after part
 
 module _ (n part : ℕ) (h : part < n) (f : ℕ → ℕ) (cells : List ℕ) (is : cells ≡ tabulate (2 ^ n) (swept part f)) where
@@ -123,8 +183,8 @@ module _ (n part : ℕ) (h : part < n) (f : ℕ → ℕ) (cells : List ℕ) (is 
   cell_at b l = ap (λ (xs : List ℕ). get_or xs b 0) is ∙ tabulate_at (2 ^ n) (swept part f) b 0 l
 
   -- the next part
-  pub swept_next : (b : ℕ) → b < 2 ^ n → swept_over part (λ a. get_or cells a 0) b ≡ swept (part + 1) f b
-  unfolding swept_over swept
+  pub swept_next : (b : ℕ) → b < 2 ^ n → swept_over part (cell_of cells) b ≡ swept (part + 1) f b
+  unfolding swept_over swept cell_of
   swept_next b l = cases (true_or_false (has b part)) ∙ ap (λ (k : ℕ). swept k f b) (sym (add-one part))
     where
       cases : (has b part ≡ true) ⊎ (has b part ≡ false)
@@ -148,6 +208,23 @@ swept_few (suc part) f most few b =
 
     twice_of : (x : ℕ) → x * most + x * most ≡ 2 * x * most
     twice_of x = omega arith
+
+-- the cells part after part
+pub swept_none : (n : ℕ) (start : List ℕ) → length start ≡ 2 ^ n → start ≡ tabulate (2 ^ n) (swept 0 (cell_of start))
+unfolding swept cell_of
+swept_none n start long = tabulate_unique (2 ^ n) (cell_of start) start 0 long (λ j h. refl)
+
+module _ (n part : ℕ) (start cells : List ℕ) (is : cells ≡ tabulate (2 ^ n) (swept part (cell_of start))) where
+  pub swept_more : part < n → tabulate (2 ^ n) (swept (part + 1) (cell_of start)) ≡ tabulate (2 ^ n) (swept_over part (cell_of cells))
+  swept_more h = sym (tabulate_same (2 ^ n) _ _ (λ b l. swept_next n part h (cell_of start) cells is b l))
+
+  pub swept_low : n ≤ 16 → part ≤ n → NoneOver (2 ^ 42) start → NoneOver (2 ^ 62) cells
+  unfolding cell_of
+  swept_low most within low =
+      let small : 2 ^ 16 * 2 ^ 42 ≤ 2 ^ 62 = omega arith in
+      subst (λ (xs : List ℕ). NoneOver (2 ^ 62) xs) (sym is)
+      (tabulate_few (2 ^ n) (swept part (cell_of start)) (2 ^ 62) (λ b.
+      le_trans (swept_few part (cell_of start) (2 ^ 42) low b) (le_trans (mul-le-mul_right (2 ^ 42) (pow_mono (le_trans within most))) small)))
 
 -- what all sets that hold a set have, added up
 above_set : (ℕ → ℕ) → ℕ → ℕ → ℕ
@@ -229,3 +306,11 @@ swept_all n f b h =
   where
     start : (x : ℕ) → 0 * 2 ^ n + x ≡ x
     start x = omega arith
+
+-- ---- what search is told
+
+-- of the cells part after part
+pub ruleset parts = (swept_none, swept_more, swept_low)
+
+-- of the cells block after block
+pub ruleset blocks = (block_room, block_long, block_few, block_back, blocks_none, blocks_all, filled_length)

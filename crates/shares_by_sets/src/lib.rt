@@ -121,7 +121,7 @@ fn weights(n: usize) -> [u64; 18]
     requires { n ≤ 16 }
     ensures { result ≡ tabulate 18 (weight_of n) }
 {
-    let mut weights = [0u64; 18];
+    let mut weights = [0; 18];
     for (s, cell) in weights.iter_mut().enumerate() {
         *cell = weight(n, s);
     }

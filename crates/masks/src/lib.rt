@@ -24,6 +24,7 @@ pub fn meets(set: u16, group: usize) -> bool
 }
 
 // A set without the positions of a group: the others move together.
+#[tactic(auto, using(crate::proofs::Squeezing::kept_on, crate::proofs::Squeezing::end, crate::proofs::Squeezing::unit_small, crate::proofs::Groups::squeezed_le))]
 pub fn squeezed(set: u16, group: usize) -> u16
     ensures { result ≡ squeezed 16 group set }
 {

@@ -1,6 +1,6 @@
 -- `report_figures::put_lines` meets its contract: the first line and the three blocks of lines are put one after the other.
 -- Assumes nothing.
-use mathlib.Core.Path.{◌≡◌, ap, ◌∙◌}
+use mathlib.Core.Path.{◌≡◌}
 use mathlib.Core.List.{List, ◌++◌}
 use Prim.Native.Nat.{ℕ, ◌+◌, ◌*◌, ◌^◌, ◌≤◌, ◌<◌}
 use native.Mathlib.Omega.{arith}
@@ -22,11 +22,10 @@ use Rattle.report_figures.proofs.put_lines.Goals as goal
 
 module _ (text : List ℕ) (list : PartList) (sets : ℕ) (signature domination : List ℤ) (few : list.count ≤ most_parts) (room : 4096 ≤ length text) where
   -- what is put after each call
-  headed : (one : ℕ) (first : List ℕ) (mark : ℕ) → Fits w64 sets → mark < 2 ^ 64 → mark ≡ list.mark → outcome one first ≡ placed text 0 (head_line list.count sets mark)
+  headed : (one : ℕ) (first : List ℕ) → Fits w64 sets → list.mark < 2 ^ 64 → outcome one first ≡ placed text 0 (head_line list.count sets list.mark)
       → Wrote text 0 (head_line list.count sets list.mark) 79 first one
-  headed one first mark sets-fit mark-fits same put =
-      wrote_first text 0 (head_line list.count sets list.mark) 79 first one (head_few list.count sets list.mark (omega arith) sets-fit (omega (arith, mark-fits, same))) (omega arith)
-      (put ∙ ap (λ (m : ℕ). placed text 0 (head_line list.count sets m)) same)
+  headed one first sets-fit mark-fits put =
+      wrote_first text 0 (head_line list.count sets list.mark) 79 first one (head_few list.count sets list.mark (omega arith) sets-fit (omega (arith, mark-fits))) (omega arith) put
 
   ordered : (one two : ℕ) (first second : List ℕ) → Wrote text 0 (head_line list.count sets list.mark) 79 first one
       → outcome two second ≡ placed first one (lines (cell_line (ascii "order") signature) list.count)
@@ -45,13 +44,13 @@ module _ (text : List ℕ) (list : PartList) (sets : ℕ) (signature domination 
 pub put_cells-dominations-requires : goal.put_cells-dominations-requires
 put_cells-dominations-requires c =
     let a = c.args in
-    let head = headed a.text.now a.list a.sets a.signature.now a.domination.now c.requires.count_le_most_parts c.requires.in_bounds _ _ _ c.ranges.sets c.mark_of.type_inv c.mark_of.ensures c.put_first_line-orders.ensures in
+    let head = headed a.text.now a.list a.sets a.signature.now a.domination.now c.requires.count_le_most_parts c.requires.in_bounds _ _ c.ranges.sets (omega arith) c.put_first_line-orders.ensures in
     record { word_len_bound = omega arith; count_le_most_parts = c.requires.count_le_most_parts; count_in_bounds = wrote_room head (64 * a.list.count) (omega arith) }
 
 pub put_cells-parts-requires : goal.put_cells-parts-requires
 put_cells-parts-requires c =
     let a = c.args in
-    let head = headed a.text.now a.list a.sets a.signature.now a.domination.now c.requires.count_le_most_parts c.requires.in_bounds _ _ _ c.ranges.sets c.mark_of.type_inv c.mark_of.ensures c.put_first_line-orders.ensures in
+    let head = headed a.text.now a.list a.sets a.signature.now a.domination.now c.requires.count_le_most_parts c.requires.in_bounds _ _ c.ranges.sets (omega arith) c.put_first_line-orders.ensures in
     let orders = ordered a.text.now a.list a.sets a.signature.now a.domination.now c.requires.count_le_most_parts c.requires.in_bounds _ _ _ _ head
     c.put_cells-dominations.ensures.text_after c.put_cells-dominations.ensures.count_len_bound in
     record { word_len_bound = omega arith; count_le_most_parts = c.requires.count_le_most_parts; count_in_bounds = wrote_room orders (64 * a.list.count) (omega arith) }
@@ -59,7 +58,7 @@ put_cells-parts-requires c =
 pub put_counts-requires : goal.put_counts-requires
 put_counts-requires c =
     let a = c.args in
-    let head = headed a.text.now a.list a.sets a.signature.now a.domination.now c.requires.count_le_most_parts c.requires.in_bounds _ _ _ c.ranges.sets c.mark_of.type_inv c.mark_of.ensures c.put_first_line-orders.ensures in
+    let head = headed a.text.now a.list a.sets a.signature.now a.domination.now c.requires.count_le_most_parts c.requires.in_bounds _ _ c.ranges.sets (omega arith) c.put_first_line-orders.ensures in
     let orders = ordered a.text.now a.list a.sets a.signature.now a.domination.now c.requires.count_le_most_parts c.requires.in_bounds _ _ _ _ head
     c.put_cells-dominations.ensures.text_after c.put_cells-dominations.ensures.count_len_bound in
     let parts = dominated a.text.now a.list a.sets a.signature.now a.domination.now c.requires.count_le_most_parts c.requires.in_bounds _ _ _ _ orders
@@ -71,7 +70,7 @@ unfolding lines_by
 returns c =
     let a = c.args in
     let n = a.list.count in
-    let head = headed a.text.now a.list a.sets a.signature.now a.domination.now c.requires.count_le_most_parts c.requires.in_bounds _ _ _ c.ranges.sets c.mark_of.type_inv c.mark_of.ensures c.put_first_line-orders.ensures in
+    let head = headed a.text.now a.list a.sets a.signature.now a.domination.now c.requires.count_le_most_parts c.requires.in_bounds _ _ c.ranges.sets (omega arith) c.put_first_line-orders.ensures in
     let orders = ordered a.text.now a.list a.sets a.signature.now a.domination.now c.requires.count_le_most_parts c.requires.in_bounds _ _ _ _ head
     c.put_cells-dominations.ensures.text_after c.put_cells-dominations.ensures.count_len_bound in
     let parts = dominated a.text.now a.list a.sets a.signature.now a.domination.now c.requires.count_le_most_parts c.requires.in_bounds _ _ _ _ orders

@@ -50,10 +50,8 @@ pub fn group_verdict(n: usize, group: usize) -> Result<(), Refusal>
     if group == 0 {
         return Err(Reason::EmptyGroup.at(0));
     }
-    if n < 64 {
-        if 0 < group >> n {
-            return Err(Reason::UnknownGroupPart.at(0));
-        }
+    if n < 64 && 0 < group >> n {
+        return Err(Reason::UnknownGroupPart.at(0));
     }
     Ok(())
 }

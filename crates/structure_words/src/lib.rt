@@ -8,7 +8,7 @@ ghost use Rattle.theory_sets.specs.Masks.{has, those, least};
 ghost use Rattle.theory_sets.specs.Tables.{packed, in_table};
 ghost use Rattle.structure_words.specs.Words.{in_words, word_of, words_of, lacks, bytes_in, among};
 
-use answer::{Reason, Refusal};
+use answer::Refusal;
 
 // The set function of a table.
 #[tactic(auto, using(numbers::proofs::Tables::filling))]
@@ -59,9 +59,7 @@ pub fn list(words: &[u64], sets: &mut [u16]) -> Result<usize, Refusal>
     ensures { outcome result sets.new ≡ delivered (Ok tt) (those (in_words words.now) 65536) sets.old }
 {
     let needed = count(words);
-    if sets.len() < needed {
-        return Err(Reason::ShortBuffer.at(needed));
-    }
+    answer::room(needed, sets.len())?;
     let mut at = 0;
     let mut mask = 0;
     let mut rest = numbers::cell(words, 0);

@@ -1,28 +1,18 @@
 -- `structure_words::list` meets its contract: the sets are counted first, so the buffer is left alone where it is short, and then written in their
 -- order, a word after the other.
 -- Assumes nothing.
-use mathlib.Core.Path.{◌≡◌, refl, ap, ◌∙◌, subst}
+use mathlib.Core.Path.{◌≡◌, sym, ◌∙◌, subst}
 use mathlib.Core.List.{List}
 use Prim.Native.Nat.{ℕ, ◌+◌, ◌-◌, ◌*◌, ◌/◌, ◌^◌, ◌≤◌, ◌<◌}
 use native.Mathlib.Omega.{arith}
 use lib.ListN.{length, get_or, set}
 use lib.Pow.{shr_le}
-use Rattle.std.specs.Prelude.{Ok, Err}
-use Rattle.answer.specs.Outcome.{outcome, Numbered}
-use Rattle.answer.proofs.Outcomes.{InFront, in_front_delivered, in_front_length}
-use Rattle.answer.proofs.Deliveries.{delivered_short}
+use Rattle.answer.proofs.Outcomes.{InFront, in_front_delivered, in_front_length, room_accepted}
 use Rattle.theory_sets.specs.Masks.{has, those, least}
 use Rattle.theory_sets.proofs.Ranges.{those_fewer}
 use Rattle.structure_words.specs.Words.{in_words}
 use Rattle.structure_words.proofs.Runs.{Lowest, lowest_of, Walk, walk_start, walk_turn, walk_near, walk_room, walk_found}
 use Rattle.structure_words.proofs.list.Goals as goal
-
-pub returns-then-sets-needed : goal.returns-then-sets-needed
-returns-then-sets-needed c =
-    let a = c.args in
-    let found = c.count-needed in
-    ap (λ (w : Numbered). outcome w a.sets.now) (ap Err c.at.ensures)
-    ∙ delivered_short (Ok tt) (those (in_words a.words.now) 65536) a.sets.now refl found.result found.ensures c.if-sets-needed.true
 
 -- the stores keep the buffer's length
 kept : (words old sets : List ℕ) (at mask rest next : ℕ) → Walk words old at mask rest next sets → length (those (in_words words) 65536) ≤ length old
@@ -50,7 +40,7 @@ module _ (words old sets : List ℕ) (at mask rest next gap : ℕ) (w : Walk wor
 pub loop-at-init : goal.loop-at-init
 loop-at-init c =
     let a = c.args in
-    (c.count-needed.ensures, (c.if-sets-needed.false, walk_start a.words.now a.sets.now c.cell-rest.result c.cell-rest.ensures))
+    (c.count-needed.ensures, (room_accepted _ _ (sym c.room.ensures ∙ c.in_ok-room.was), walk_start a.words.now a.sets.now c.cell-rest.result c.cell-rest.ensures))
 
 pub loop-at-smaller-then-rest-eq0 : goal.loop-at-smaller-then-rest-eq0
 loop-at-smaller-then-rest-eq0 c = omega (arith, c.loop-at.invariant.1.1.high)

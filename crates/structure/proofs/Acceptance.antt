@@ -11,14 +11,16 @@ use native.Mathlib.Nat.{pos_of_ne-zero, lt_irrefl, lt_of_lt_of_le, lt_of_le_of_l
 use native.Mathlib.Numerals.{add-one}
 use native.Mathlib.Omega.{arith}
 use lib.Dec.{leb, ltb, eqb}
-use lib.ListN.{length, get_or, drop}
-use lib.Pow.{ones_lt}
+use lib.ListN.{length, get_or, drop, drop_of_length-le}
+use lib.Pow.{ones_lt, pow-add}
 use lib.Seq.{drop-cons}
 use borrow.Author.Tests.{eqb-true, eqb-false, eq-eqb, ne_eqb, leb-true, leb-false, le-leb, lt-leb, ltb-true, ltb-false, lt-ltb, le-ltb, not-false}
 use Rattle.std.specs.Prelude.{Ok}
 use Rattle.answer.specs.Outcome.{refuse}
 use Rattle.answer.specs.declared.Reason.TheVariants.{WrongPartCount, EmptyList, LongList, UnknownPart, EmptySet, WrongTableLength, UnusedBit, EmptySetWorks, FullSetFails, BrokenSet}
 use Rattle.answer.proofs.Outcomes.{refuse_accepted, refuse_passed}
+use Rattle.numbers.specs.Counts.{up_to_16}
+use Rattle.numbers.proofs.Counts.{up_to_16_given}
 use Rattle.theory_orders.specs.Antichains.{most_sets}
 use Rattle.theory_orders.proofs.Sperner.{minimal_sets_most}
 use Rattle.theory_sets.specs.Masks.{has, holds, any, least, Rising}
@@ -33,6 +35,17 @@ use Rattle.theory_sets.proofs.Tables.{packed_unique, in_table_at, in_table_beyon
 use Rattle.numbers.proofs.Tables.{tabulate_unique}
 use Rattle.structure.specs.Accepted.{AcceptedTable}
 use Rattle.structure.specs.Checks.{entries_refusal, list_refusal, unused, table_refusal}
+
+-- ---- the length of a table
+
+pub length_one : (n : ℕ) → n < 3 → up_to_16 n (table_length n) ≡ 1
+length_one n h = up_to_16_given n _ (omega arith) ∙ table_length_small n h
+
+pub length_eighth : (n k : ℕ) → 3 ≤ n → n ≤ 16 → k ≡ n - 3 → up_to_16 k (2 ^ k) ≡ up_to_16 n (table_length n)
+length_eighth n k many few e =
+    let whole : 8 * table_length n ≡ 2 ^ n = table_length_large n many in
+    let eights : 2 ^ n ≡ 2 ^ 3 * 2 ^ k = ap (λ (j : ℕ). 2 ^ j) (omega (arith, e)) ∙ pow-add 2 3 k in
+    up_to_16_given k _ (omega arith) ∙ omega (arith, whole, eights) ∙ sym (up_to_16_given n (table_length n) few)
 
 -- ---- an accepted table
 
@@ -154,6 +167,11 @@ unfolding entries_refusal
 entries_from n i list h =
     ap (entries_refusal n i) (drop-cons list i 0 h)
     ∙ ap (λ (k : ℕ). refuse (leb (2 ^ n) (get_or list i 0)) UnknownPart i (refuse (eqb (get_or list i 0) 0) EmptySet i (entries_refusal n k (drop k list)))) (sym (add-one i))
+
+-- behind the last entry nothing is refused
+pub entries_ended : (n i : ℕ) (list : List ℕ) → length list ≤ i → entries_refusal n i (drop i list) ≡ Ok tt
+unfolding entries_refusal
+entries_ended n i list h = ap (entries_refusal n i) (drop_of_length-le list h)
 
 pub accepted_list : (n : ℕ) (list : List ℕ) → list_refusal n list ≡ Ok tt → AcceptedList n list
 unfolding list_refusal

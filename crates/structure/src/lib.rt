@@ -12,13 +12,14 @@ ghost use Rattle.structure.specs.Checks.{list_refusal, entries_refusal, table_re
 use answer::{Reason, Refusal};
 
 // The verdict on a list of sets.
+#[tactic(auto, unfolding(crate::specs::Checks::list_refusal))]
 pub fn list_verdict(n: usize, list: &[u16]) -> Result<(), Refusal>
     ensures { result ≡ list_refusal n list.now }
 {
     if !numbers::in_range(n, 16) {
         return Err(Reason::WrongPartCount.at(0));
     }
-    if list.len() == 0 {
+    if list.is_empty() {
         return Err(Reason::EmptyList.at(0));
     }
     if 12870 < list.len() {
@@ -28,6 +29,7 @@ pub fn list_verdict(n: usize, list: &[u16]) -> Result<(), Refusal>
 }
 
 // The verdict on a table.
+#[tactic(auto, using(crate::proofs::Acceptance::unused_first, crate::proofs::Acceptance::table_beyond, numbers::proofs::Counts::up_to_16_given), unfolding(crate::specs::Checks::table_refusal))]
 pub fn table_verdict(n: usize, table: &[u8]) -> Result<(), Refusal>
     ensures { result ≡ table_refusal n table.now }
 {
@@ -44,27 +46,24 @@ pub fn table_verdict(n: usize, table: &[u8]) -> Result<(), Refusal>
 }
 
 // The bytes of a table; 0 where no structure has so many parts.
+#[tactic(auto, using(numbers::proofs::Counts::up_to_16_given, numbers::proofs::Counts::up_to_16_above, crate::proofs::Acceptance::length_one, crate::proofs::Acceptance::length_eighth))]
 pub fn table_length(n: usize) -> usize
     ensures { result ≡ up_to_16 n (table_length n) }
 {
-    if 16 < n {
-        return 0;
-    }
-    if n < 3 {
-        1
-    } else {
-        numbers::power_of_two(n - 3)
+    match n {
+        0..=2 => 1,
+        3..=16 => numbers::power_of_two(n - 3),
+        _ => 0,
     }
 }
 
 // The table of n parts in words, into a lent buffer; a table of no bytes where no structure has so many parts.
+#[tactic(auto, using(numbers::proofs::Tables::tabulate_length))]
 pub fn hand_out_table(n: usize, words: &[u64], table: &mut [u8]) -> Result<usize, Refusal>
     ensures { outcome result table.new ≡ delivered (Ok tt) (bytes_in (up_to_16 n (table_length n)) words.now) table.old }
 {
     let needed = table_length(n);
-    if table.len() < needed {
-        return Err(Reason::ShortBuffer.at(needed));
-    }
+    answer::room(needed, table.len())?;
     structure_words::store(words, &mut table[..needed]);
     Ok(needed)
 }
@@ -90,12 +89,13 @@ fn structure_verdict(n: usize, table: &[u8]) -> Result<(), Refusal>
 }
 
 // The verdict on the entries of a list, one after the other.
+#[tactic(auto, using(crate::proofs::Acceptance::entries_from, crate::proofs::Acceptance::entries_ended, numbers::proofs::Counts::up_to_16_given))]
 fn entries_verdict(n: usize, list: &[u16]) -> Result<(), Refusal>
     requires { n ≤ 16 }
     ensures { result ≡ entries_refusal n 0 list.now }
 {
-    for i in 0..list.len() {
-        let mask = list[i] as usize;
+    for (i, &set) in list.iter().enumerate() {
+        let mask = usize::from(set);
         if numbers::power_of_two(n) <= mask {
             return Err(Reason::UnknownPart.at(i));
         }
@@ -111,11 +111,9 @@ fn has_unused(n: usize, byte: u8) -> bool
     requires { 1 ≤ n }
     ensures { result ≡ any (λ a. leb (2 ^ n) a && has byte a) 8 }
 {
-    if n == 1 {
-        return 4 <= byte;
+    match n {
+        1 => 4 <= byte,
+        2 => 16 <= byte,
+        _ => false,
     }
-    if n == 2 {
-        return 16 <= byte;
-    }
-    false
 }

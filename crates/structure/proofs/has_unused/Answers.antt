@@ -18,22 +18,22 @@ use Rattle.structure.proofs.has_unused.Goals as goal
 abbrev unused_in : ℕ → ℕ → Bool
 unused_in n byte = any (λ a. leb (2 ^ n) a && has byte a) 8
 
-pub returns-then-n-eq1 : goal.returns-then-n-eq1
+pub returns-in-1 : goal.returns-in-1
 unfolding tabulate any has
-returns-then-n-eq1 c =
+returns-in-1 c =
     let a = c.args in
-    tabulate_agree 256 (leb 4) (unused_in 1) refl a.byte (omega arith) ∙ ap (λ (n : ℕ). unused_in n a.byte) (sym c.if-n-eq1.true)
+    tabulate_agree 256 (leb 4) (unused_in 1) refl a.byte (omega arith) ∙ ap (λ (n : ℕ). unused_in n a.byte) (sym c.in-1.is)
 
-pub returns-then-n-eq2 : goal.returns-then-n-eq2
+pub returns-in-2 : goal.returns-in-2
 unfolding tabulate any has
-returns-then-n-eq2 c =
+returns-in-2 c =
     let a = c.args in
-    tabulate_agree 256 (leb 16) (unused_in 2) refl a.byte (omega arith) ∙ ap (λ (n : ℕ). unused_in n a.byte) (sym c.if-n-eq2.true)
+    tabulate_agree 256 (leb 16) (unused_in 2) refl a.byte (omega arith) ∙ ap (λ (n : ℕ). unused_in n a.byte) (sym c.in-2.is)
 
-pub returns : goal.returns
-returns c =
+pub returns-in_default : goal.returns-in_default
+returns-in_default c =
     let a = c.args in
-    let three : 3 ≤ a.n = omega (arith, c.if-n-eq1.false, c.if-n-eq2.false, c.requires) in
+    let three : 3 ≤ a.n = omega (arith, c.in_default) in
     let eight : 8 ≤ 2 ^ a.n = pow_mono three in
     sym (any_false (λ m. leb (2 ^ a.n) m && has a.byte m) 8 (λ m h t.
     clash (and_left (leb (2 ^ a.n) m) (has a.byte m) t) (lt-leb (2 ^ a.n) m (omega arith))))

@@ -191,7 +191,8 @@ fn write_figures(
     let entries = signed(&rows[272..289]);
     write_vectors(n, &entries[..n + 1], counts, signature, domination);
     let made = part_importances(n, &rows);
-    answer::hand_out(&made[..n], importance);
+    // The buffer is long enough, so nothing is refused.
+    let _ = answer::hand_out(&made[..n], importance);
 }
 
 // Writes the path counts, the signature and the domination by the path counts as entries.
@@ -210,9 +211,10 @@ fn write_vectors(
     ensures signature_after { signature.new ≡ front (converted Kind.Signature Kind.PathCounts n entries.now) signature.old }
     ensures domination_after { domination.new ≡ front (converted Kind.Domination Kind.PathCounts n entries.now) domination.old }
 {
-    vector_conversion::convert(Kind::PathCounts, n, entries, Kind::PathCounts, counts);
-    vector_conversion::convert(Kind::PathCounts, n, entries, Kind::Signature, signature);
-    vector_conversion::convert(Kind::PathCounts, n, entries, Kind::Domination, domination);
+    // The entries are accepted and the buffers long enough, so nothing is refused.
+    let _ = vector_conversion::convert(Kind::PathCounts, n, entries, Kind::PathCounts, counts);
+    let _ = vector_conversion::convert(Kind::PathCounts, n, entries, Kind::Signature, signature);
+    let _ = vector_conversion::convert(Kind::PathCounts, n, entries, Kind::Domination, domination);
 }
 
 // s! × (n-s-1)!, the weight of a set of size s in the importance of a part that it lacks.

@@ -22,7 +22,12 @@ pub enum Pattern {
 }
 
 // The table of a pattern, into a lent buffer.
-pub fn table_of_pattern(pattern: Pattern, n: usize, k: usize, table: &mut [u8]) -> Result<usize, Refusal>
+pub fn table_of_pattern(
+    pattern: Pattern,
+    n: usize,
+    k: usize,
+    table: &mut [u8],
+) -> Result<usize, Refusal>
     ensures { outcome result table.new ≡ delivered (pattern_refusal n k) (table_of n (patterned pattern n k)) table.old }
 {
     let checked = pattern_verdict(n, k);
@@ -53,7 +58,12 @@ fn pattern_verdict(n: usize, k: usize) -> Result<(), Refusal>
 }
 
 // The table of the machine that is stopped exactly by k neighbours from one of the first `count` bits on, into a lent buffer.
-fn stopped_by_neighbours(n: usize, k: usize, count: usize, table: &mut [u8]) -> Result<usize, Refusal>
+fn stopped_by_neighbours(
+    n: usize,
+    k: usize,
+    count: usize,
+    table: &mut [u8],
+) -> Result<usize, Refusal>
     requires n_bound { n ≤ 16 }
     requires le_k { 1 ≤ k }
     requires k_le_n { k ≤ n }

@@ -22,7 +22,13 @@ pub fn judge(kind: Kind, n: usize, entries: &[i64]) -> Result<(), Refusal>
 }
 
 // A vector as one of another kind, into a lent buffer.
-pub fn convert(kind: Kind, n: usize, entries: &[i64], target: Kind, cells: &mut [i64]) -> Result<usize, Refusal>
+pub fn convert(
+    kind: Kind,
+    n: usize,
+    entries: &[i64],
+    target: Kind,
+    cells: &mut [i64],
+) -> Result<usize, Refusal>
     ensures { outcome result cells.new ≡ delivered (vector_refusal kind n entries.now) (converted target kind n entries.now) cells.old }
 {
     let examined = examine(kind, n, entries);

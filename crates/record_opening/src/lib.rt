@@ -60,10 +60,8 @@ fn load_sets(bytes: &[u8], first: Cursor) -> [u16; 12870]
     ensures { result ≡ set_cells (met_in first.left bytes.now (step_at bytes.now first)) }
 {
     let mut sets = [0u16; 12870];
-    let count = first.left;
     let mut cursor = first;
-    let mut read = 0;
-    while read < count {
+    for read in 0..first.left {
         let step = cursor.step(bytes);
         let Step::Set {
             set,
@@ -74,7 +72,6 @@ fn load_sets(bytes: &[u8], first: Cursor) -> [u16; 12870]
         };
         sets[read] = set as u16;
         cursor = behind;
-        read += 1;
     }
     sets
 }

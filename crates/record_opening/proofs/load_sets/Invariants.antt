@@ -1,11 +1,7 @@
--- `record_opening::load_sets` meets its contract. The loop's invariant: it walks along the sets (`SetWalk`). The measure is the sets left.
+-- `record_opening::load_sets` meets its contract. The loop's invariant: it walks along the sets (`SetWalk`).
 -- Assumes nothing.
-use Prim.Native.Nat.{◌-◌}
 use Rattle.record_opening.proofs.Loading.{SetWalk}
 use Rattle.record_opening.proofs.load_sets.Given as goal
 
 abbrev pub invariant-loop-read : goal.invariant-loop-read
-invariant-loop-read l = SetWalk l.bytes l.count l.initial.cursor l.sets l.cursor l.read
-
-abbrev pub decreases-loop-read : goal.decreases-loop-read
-decreases-loop-read l = l.count - l.read
+invariant-loop-read l = SetWalk l.bytes l.read-end l.initial.cursor l.sets l.cursor l.read

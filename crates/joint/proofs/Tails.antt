@@ -14,7 +14,7 @@ use Rattle.numbers.specs.Counts.{factorial}
 use Rattle.numbers.specs.Tables.{tabulate}
 use Rattle.numbers.proofs.Bounds.{below_or_above}
 use Rattle.numbers.proofs.Counts.{factorials_few, factorial_rises}
-use Rattle.numbers.proofs.Tables.{tabulate_at, tabulate_same, tabulate_length}
+use Rattle.numbers.proofs.Tables.{filled_none, filled_again, tabulate_at, tabulate_same, tabulate_length}
 use Rattle.theory_sets.specs.Tables.{in_table}
 use Rattle.answer.proofs.Outcomes.{then_accepted}
 use Rattle.structure_words.specs.Words.{in_words, words_of}
@@ -31,13 +31,13 @@ use Rattle.joint.specs.Refusals.{joint_refusal}
 use Rattle.joint.specs.Inside.{pairs_by_size, Counted, tail_by, cell_by}
 
 -- no product of factorials of parts that are 16 together is over 16!
-pub ways_few : (x y z : ℕ) → x + y + z ≤ 16 → (factorial x * factorial y ≤ 20922789888000) × (factorial x * factorial y * factorial z ≤ 20922789888000)
+pub two_few : (x y : ℕ) → x + y ≤ 16 → factorial x * factorial y ≤ 20922789888000
 unfolding factorial
-ways_few x y z h =
-    let two : factorial x * factorial y ≤ factorial (x + y) = factorials_few x y (x + y) (le_of_eq refl) in (
-      le_trans two (factorial_rises (x + y) 16 (omega arith)),
-      le_trans (mul-le-mul_right (factorial z) two) (factorials_few (x + y) z 16 h),
-    )
+two_few x y h = le_trans (factorials_few x y (x + y) (le_of_eq refl)) (factorial_rises (x + y) 16 h)
+
+pub three_few : (x y z : ℕ) → x + y + z ≤ 16 → factorial x * factorial y * factorial z ≤ 20922789888000
+unfolding factorial
+three_few x y z h = le_trans (mul-le-mul_right (factorial z) (factorials_few x y (x + y) (le_of_eq refl))) (factorials_few (x + y) z 16 h)
 
 -- an entry of a row
 pair_at : (n : ℕ) (one other : ℕ → Bool) (i j : ℕ) → i ≤ 16 → j ≤ 16 → get_or (pairs_by_size n one other) (17 * i + j) 0 ≡ nested_pairs n one other i j
@@ -108,6 +108,22 @@ module _ (n : ℕ) (within around : List ℕ) (counted : Counted n within around
       let after_second = tail_is k (l + 1) (omega arith) (omega arith) ∙ ap (works k) (add-one l) in
       (omega (arith, step, at, after, after_first, after_second), omega (arith, step, at, after, after_first, after_second))
 
+  pub cell_less : (k l : ℕ) → k < n → l < n
+      → (tail_by n within around k l ≡ tail_by n within around k l)
+      × (tail_by n within around (k + 1) l + tail_by n within around k (l + 1) ≤ tail_by n within around k l + tail_by n within around (k + 1) (l + 1))
+  cell_less k l hk hl = (refl, (cell_is k l hk hl).0)
+
+  -- the product that the tail goes by
+  pub within_few : (k l x w : ℕ) → k ≤ l → l ≤ n → x ≡ get_or within (17 * (n - k) + (n - l)) 0 → w ≡ factorial k * factorial (l - k) * factorial (n - l)
+      → x * w ≤ 20922789888000
+  within_few k l x w le h pairs ways =
+      le_trans (le_of_eq (ap₂ (λ (u v : ℕ). u * v) pairs ways ∙ tail_within n within around k l le)) (tail_few k l (omega arith) h)
+
+  pub around_few : (k l x w : ℕ) → l < k → k ≤ n → x ≡ get_or around (17 * (n - l) + (n - k)) 0 → w ≡ factorial l * factorial (k - l) * factorial (n - k)
+      → x * w ≤ 20922789888000
+  around_few k l x w less h pairs ways =
+      le_trans (le_of_eq (ap₂ (λ (u v : ℕ). u * v) pairs ways ∙ tail_around n within around k l less)) (tail_few k l h (omega arith))
+
 -- ---- the cells of a square
 
 pub some_part : (n c : ℕ) → c < n * n → 0 < n
@@ -163,3 +179,8 @@ module _ (n : ℕ) (first second : List ℕ) (accepted : joint_refusal n first s
 pub square_length : (n : ℕ) (first second : ℕ → Bool) → length (joint_square n first second) ≡ n * n
 unfolding joint_square
 square_length n first second = tabulate_length (n * n) _
+
+-- ---- what search is told
+
+-- of a cell that is written
+pub ruleset writing = (filled_none, filled_again, some_part, square_row, square_column, square_few)

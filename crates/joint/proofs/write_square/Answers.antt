@@ -7,13 +7,11 @@ use lib.ListN.{drop}
 use Rattle.joint.proofs.Tails.{counted_tables, square_is}
 use Rattle.joint.proofs.write_square.Goals as goal
 
-pub write_cells-requires : goal.write_cells-requires
-write_cells-requires c =
-    let a = c.args in record {
-      counted = counted_tables a.n a.first.now a.second.now c.requires.second_value _ _ _ _ c.load-one.ensures c.load-other.ensures c.nested_pairs-within.ensures
-          c.nested_pairs-around.ensures;
-      n_in_bounds = c.requires.n_in_bounds;
-    }
+pub write_cells-requires-clause-counted : goal.write_cells-requires-clause-counted
+write_cells-requires-clause-counted c =
+    let a = c.args in
+    counted_tables a.n a.first.now a.second.now c.requires.second_value _ _ _ _ c.load-one.ensures c.load-other.ensures c.nested_pairs-within.ensures
+    c.nested_pairs-around.ensures
 
 pub returns : goal.returns
 returns c =

@@ -32,7 +32,7 @@ use Rattle.record_lines.proofs.Lines.{follows}
 second_read_lem : (bytes : List ℕ) (s : Stored) (next : ℕ) → whole_stored bytes ≡ found s next → edition_given bytes ≡ Ok 2 → edition_of s ≡ Second
 second_read_lem bytes s next read two = cases (edition_of s) (sym (edition_read bytes s next read) ∙ two)
   where
-    cases : (edition : Edition) → Ok (edition_number edition) ≡ Ok 2 → edition ≡ Second
+    cases : (edition : Edition) → ◌≡◌ {A = Numbered} (Ok (edition_number edition)) (Ok 2) → edition ≡ Second
     cases First e = let z : ◌≡◌ {A = ℕ} 1 2 = cc e in absurd (omega (arith, z))
     cases Second e = refl
 

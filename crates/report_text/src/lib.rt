@@ -11,7 +11,7 @@ ghost use Rattle.report_text.specs.Reports.{report_of};
 ghost use Rattle.report_text.specs.Reporting.{report_buffers, handed_out, reported};
 ghost use Rattle.report_text.specs.Inside.{table_text};
 
-use answer::{Reason, Refusal};
+use answer::Refusal;
 use record_parts::PartList;
 
 // The report of a record and the record's table, into two lent buffers. No report is longer than 4,096 bytes.
@@ -23,15 +23,9 @@ pub fn report(bytes: &[u8], table: &mut [u8], text: &mut [u8]) -> Result<usize, 
     let mut own_text = [0u8; 4096];
     let read = record_editions::whole_with_words(bytes);
     let contents = read.contents;
-    let built = record::store_table(read, &mut own_table);
-    match built {
-        Err(refusal) => Err(refusal),
-        Ok(size) => {
-            let list = contents.list;
-            let end = put_table(&mut own_text, list, contents.sets, &own_table[..size]);
-            hand_out_both(&own_table[..size], &own_text[..end], table, text)
-        }
-    }
+    let size = record::store_table(read, &mut own_table)?;
+    let end = put_table(&mut own_text, contents.list, contents.sets, &own_table[..size]);
+    hand_out_both(&own_table[..size], &own_text[..end], table, text)
 }
 
 // The text of a machine's table, with its part list and the number of its minimal sets.
@@ -52,7 +46,8 @@ fn put_table(text: &mut [u8], list: PartList, sets: usize, table: &[u8]) -> usiz
         &mut signature,
         &mut domination,
         &mut importance,
-    );
+    )
+    .unwrap();
     report_figures::put_figures(text, list, sets, &signature, &domination[1..], &importance)
 }
 
@@ -60,12 +55,8 @@ fn put_table(text: &mut [u8], list: PartList, sets: usize, table: &[u8]) -> usiz
 fn hand_out_both(own_table: &[u8], own_text: &[u8], table: &mut [u8], text: &mut [u8]) -> Result<usize, Refusal>
     ensures { outcome result (report_buffers table.new text.new) ≡ handed_out own_table.now own_text.now table.old text.old }
 {
-    if table.len() < own_table.len() {
-        return Err(Reason::ShortBuffer.at(own_table.len()));
-    }
-    if text.len() < own_text.len() {
-        return Err(Reason::ShortBuffer.at(own_text.len()));
-    }
-    answer::hand_out(own_table, table);
+    answer::room(own_table.len(), table.len())?;
+    answer::room(own_text.len(), text.len())?;
+    answer::hand_out(own_table, table)?;
     answer::hand_out(own_text, text)
 }

@@ -11,4 +11,4 @@ use Rattle.record.proofs.refused_sets.Goals as goal
 -- `record::refused_sets` meets its contract: zeros are the words of no set.
 -- Assumes nothing.
 pub returns : goal.returns
-returns c = ap (λ (words : List ℕ). record { words = words; end = 0; verdict = Err (at c.args.number c.args.place) }) no_words
+returns c = ap (λ (words : List ℕ). record { words = words; end = 0; verdict = Err (at c.args.reason c.args.place) }) no_words

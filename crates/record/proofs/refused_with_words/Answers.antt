@@ -11,4 +11,4 @@ use Rattle.record.proofs.refused_with_words.Goals as goal
 -- `record::refused_with_words` meets its contract: zeros are the words of no set.
 -- Assumes nothing.
 pub returns : goal.returns
-returns c = ap (λ (words : List ℕ). record { contents = nothing (at c.args.number c.args.place); words = words }) no_words
+returns c = ap (λ (words : List ℕ). record { contents = nothing (at c.args.reason c.args.place); words = words }) no_words

@@ -25,7 +25,7 @@ returns-in-Err-count c =
     c.refused_heading-in-Err-count.ensures
     ∙ sym (ap heading_of (head_no_count a.bytes.now a.start _ _ _ (listed (goal.at.returns-in-Err-count c).In-Ok) (answer_refused _ _ (sym c.in-Err-count.is ∙ c.read_set_count-count.ensures))))
 
-pub returns-in-Ok : goal.returns-in-Ok
-returns-in-Ok c =
+pub returns-in-Ok-count : goal.returns-in-Ok-count
+returns-in-Ok-count c =
     let a = c.args in
-    sym (ap heading_of (head_given a.bytes.now a.start _ _ _ _ (listed (goal.at.returns-in-Ok c).In-Ok) (answer_number _ _ _ (sym c.in-Ok.is ∙ c.read_set_count-count.ensures))))
+    sym (ap heading_of (head_given a.bytes.now a.start _ _ _ _ (listed (goal.at.returns-in-Ok-count c).In-Ok) (answer_number _ _ _ (sym c.in-Ok-count.is ∙ c.read_set_count-count.ensures))))

@@ -25,9 +25,9 @@ returns-in-Err-counted c =
     ∙ sym (ap tail_of (tail_no_counts a.bytes.now a.mark a.numbers.now a.start a.counts.now first.retired _ first.given _
     (counts_refused _ _ (sym c.in-Err-counted.is ∙ c.read_counts-counted.ensures))))
 
-pub returns-in-Ok : goal.returns-in-Ok
-returns-in-Ok c =
+pub returns-in-Ok-counted : goal.returns-in-Ok-counted
+returns-in-Ok-counted c =
     let a = c.args in
-    let first = listed (goal.at.returns-in-Ok c).In-Ok in
-    let counts = counts_given _ _ _ (sym c.in-Ok.is ∙ c.read_counts-counted.ensures) in
+    let first = listed (goal.at.returns-in-Ok-counted c).In-Ok in
+    let counts = counts_given _ _ _ (sym c.in-Ok-counted.is ∙ c.read_counts-counted.ensures) in
     tail_whole a.bytes.now a.mark a.numbers.now a.start a.counts.now first.retired _ first.given _ counts.0 _ first.cells counts.1

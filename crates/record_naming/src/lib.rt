@@ -15,15 +15,12 @@ use answer::{Reason, Refusal};
 pub fn position(numbers: &[u64], number: u64) -> Result<usize, Refusal>
     ensures { result ≡ found_position numbers.now number }
 {
-    for i in 0..numbers.len() {
-        if numbers[i] == number {
+    for (i, known) in numbers.iter().enumerate() {
+        if *known == number {
             return Ok(i + 1);
         }
     }
-    Err(Refusal {
-        number: Reason::UnknownPosition,
-        place: 0,
-    })
+    Err(Reason::UnknownPosition.at(0))
 }
 
 // The mask of the positions at which wanted numbers stand.

@@ -9,6 +9,7 @@ use native.Mathlib.Omega.{arith}
 use lib.ListN.{drop}
 use lib.Dec.{eqb}
 use borrow.Author.Tests.{eq-eqb, ne_eqb}
+use Rattle.std.specs.Prelude.{Err}
 use Rattle.std.specs.Prelude.{Ok, Err}
 use Rattle.answer.specs.declared.Reason.TheVariants.{UnknownPosition}
 use Rattle.answer.specs.Outcome.{at}
@@ -31,21 +32,21 @@ pub loop-i-init : goal.loop-i-init
 loop-i-init c =
     (omega arith, refl)
 
-pub returns-then-numbers-i : goal.returns-then-numbers-i
-returns-then-numbers-i c =
+pub returns-then-known-number : goal.returns-then-known-number
+returns-then-known-number c =
     let a = c.args in
     found_is a.numbers.now a.number c.loop-i.i
-    (sym c.loop-i.invariant.1 ∙ position_here a.numbers.now c.loop-i.i (omega arith) (suc c.loop-i.i) a.number c.if-numbers-i.true)
+    (sym c.loop-i.invariant.1 ∙ position_here a.numbers.now c.loop-i.i (omega arith) (suc c.loop-i.i) a.number c.if-known-number.true)
 
 pub loop-i-preserved : goal.loop-i-preserved
 loop-i-preserved c =
     let a = c.args in (
       omega arith,
       ap (λ (k : ℕ). position_from (suc k) a.number (drop (c.loop-i.i + 1) a.numbers.now)) (add-one c.loop-i.i)
-          ∙ sym (position_past a.numbers.now c.loop-i.i (omega arith) (suc c.loop-i.i) a.number c.if-numbers-i.false) ∙ c.loop-i.invariant.1,
+          ∙ sym (position_past a.numbers.now c.loop-i.i (omega arith) (suc c.loop-i.i) a.number c.if-known-number.false) ∙ c.loop-i.invariant.1,
     )
 
 pub returns : goal.returns
 returns c =
     let a = c.args in
-    found_none a.numbers.now a.number (sym c.loop-i.invariant.1 ∙ position_end a.numbers.now c.loop-i.i (omega arith) (suc c.loop-i.i) a.number)
+    ap Err c.at.ensures ∙ found_none a.numbers.now a.number (sym c.loop-i.invariant.1 ∙ position_end a.numbers.now c.loop-i.i (omega arith) (suc c.loop-i.i) a.number)

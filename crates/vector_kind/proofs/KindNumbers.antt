@@ -1,15 +1,17 @@
 -- Kinds and their numbers: each kind has its own, and 26 refuses every other number; and the number of a vector's entries. Assumes nothing.
-use mathlib.Core.Path.{◌≡◌, refl, ap}
+use mathlib.Core.Path.{◌≡◌, refl, ap, ◌∙◌}
 use mathlib.Core.Bool.{Bool, true, false, not, cond}
-use Prim.Native.Nat.{ℕ, ◌≤◌}
+use Prim.Native.Nat.{ℕ, zero, suc, ◌≤◌}
 use native.Mathlib.Omega.{arith}
 use lib.Dec.{eqb}
-use borrow.Author.Tests.{le-ltb, eqb-true}
-use Rattle.std.specs.Prelude.{Err}
+use borrow.Author.Tests.{le-ltb, le-leb, lt-leb, eqb-true, ne_eqb}
+use Rattle.std.specs.Prelude.{Ok, Err}
+use Rattle.std.specs.Result.{result_unwrap_or}
 use Rattle.answer.specs.Outcome.{at, Verdict}
 use Rattle.answer.specs.declared.Reason.TheVariants.{WrongKind}
+use Rattle.answer.specs.declared.Refusal.{Refusal}
 use Rattle.answer.proofs.Outcomes.{refuse_held, refuse_passed}
-use Rattle.vector_kind.specs.Kinds.{kind_number, length_of, entry_count, is_kind, kind_of, kind_refusal}
+use Rattle.vector_kind.specs.Kinds.{kind_number, length_of, entry_count, is_kind, kind_of, kind_refusal, kind_named}
 use Rattle.vector_kind.specs.declared.Kind.{Kind}
 use Rattle.vector_kind.specs.declared.Kind.TheVariants.{PathCounts, Tail, Signature, Domination}
 
@@ -38,11 +40,34 @@ tail_number number same = cases (eqb number 2) (eqb number 3) (eqb number 4) ref
     cases false false true e is = absurd (omega (arith, ap kind_number is))
     cases false false false e is = absurd (omega (arith, ap kind_number is))
 
-pub kind_passed : (number : ℕ) (later : Verdict) → is_kind number ≡ true → kind_refusal number later ≡ later
-kind_passed number later h = refuse_passed (not (is_kind number)) WrongKind 0 later (ap not h)
+-- path counts, where no kind is named
+pub kind_else : (number : ℕ) → result_unwrap_or (kind_named number) PathCounts ≡ kind_of number
+unfolding kind_of
+kind_else zero = refl
+kind_else (suc zero) = refl
+kind_else (suc (suc zero)) = refl
+kind_else (suc (suc (suc zero))) = refl
+kind_else (suc (suc (suc (suc zero)))) = refl
+kind_else (suc (suc (suc (suc (suc m))))) =
+    let number : ℕ = suc (suc (suc (suc (suc m)))) in
+    rw (le-leb 1 number (omega arith), lt-leb number 4 (omega arith), ne_eqb number 2 (λ e. omega arith), ne_eqb number 3 (λ e. omega arith), ne_eqb number 4 (λ e. omega arith))
 
-pub kind_refused : (number : ℕ) (later : Verdict) → is_kind number ≡ false → kind_refusal number later ≡ Err (at WrongKind 0)
-kind_refused number later h = refuse_held (not (is_kind number)) WrongKind 0 later (ap not h)
+-- a kind that is named is its number's, and the number is not refused
+pub kind_given : (number : ℕ) (kind : Kind) → Ok kind ≡ kind_named number → (kind ≡ kind_of number) × ((later : Verdict) → kind_refusal number later ≡ later)
+kind_given number kind e = cases (is_kind number) refl e
+  where
+    cases : (t : Bool) → is_kind number ≡ t → Ok kind ≡ cond t (Ok (kind_of number)) (Err (at WrongKind 0))
+        → (kind ≡ kind_of number) × ((later : Verdict) → kind_refusal number later ≡ later)
+    cases true h same = (cc same, λ later. refuse_passed (not (is_kind number)) WrongKind 0 later (ap not h))
+    cases false h same = absurd (let clash : ◌≡◌ {A = ℕ} 0 1 = cc same in omega arith)
+
+-- a number that names none is refused
+pub kind_refused : (number : ℕ) (why : Refusal) (later : Verdict) → Err why ≡ kind_named number → kind_refusal number later ≡ Err why
+kind_refused number why later e = cases (is_kind number) refl e
+  where
+    cases : (t : Bool) → is_kind number ≡ t → Err why ≡ cond t (Ok (kind_of number)) (Err (at WrongKind 0)) → kind_refusal number later ≡ Err why
+    cases true h same = absurd (let clash : ◌≡◌ {A = ℕ} 0 1 = cc same in omega arith)
+    cases false h same = refuse_held (not (is_kind number)) WrongKind 0 later (ap not h) ∙ ap Err (let right : at WrongKind 0 ≡ why = cc same in right)
 
 -- for 16 parts or fewer a vector has its kind's length
 pub entries_few : (kind : Kind) (n : ℕ) → n ≤ 16 → entry_count kind n ≡ length_of kind n

@@ -1,6 +1,7 @@
 -- The four kinds of vectors, each with its own number and length (01, "Vector sheets").
-use Rattle.std.specs.Prelude.{Bool, not, cond, ◌&&◌, ℕ, ◌+◌, leb, ltb, eqb}
-use Rattle.answer.specs.Outcome.{refuse, Verdict}
+use Rattle.std.specs.Prelude.{Bool, not, cond, ◌&&◌, ℕ, ◌+◌, leb, ltb, eqb, Result, Ok, Err}
+use Rattle.answer.specs.Outcome.{at, refuse, Verdict}
+use Rattle.answer.specs.declared.Refusal.{Refusal}
 use Rattle.answer.specs.declared.Reason.TheVariants.{WrongKind}
 use Rattle.vector_kind.specs.declared.Kind.{Kind}
 use Rattle.vector_kind.specs.declared.Kind.TheVariants.{PathCounts, Tail, Signature, Domination}
@@ -34,3 +35,7 @@ kind_of number = cond (eqb number 2) Tail (cond (eqb number 3) Signature (cond (
 -- a kind that comes as a number, before n: 26
 abbrev pub kind_refusal : ℕ → Verdict → Verdict
 kind_refusal number later = refuse (not (is_kind number)) WrongKind 0 later
+
+-- the kind of a number, and 26 where it is no kind's
+abbrev pub kind_named : ℕ → Result Kind Refusal
+kind_named number = cond (is_kind number) (Ok (kind_of number)) (Err (at WrongKind 0))

@@ -2,10 +2,12 @@
 #![tactic(auto)]
 
 ghost use Rattle.std.specs.Prelude.{◌≡◌};
-ghost use Rattle.vector_kind.specs.Kinds.{kind_number, entry_count, is_kind, kind_of};
+ghost use Rattle.vector_kind.specs.Kinds.{kind_number, entry_count, is_kind, kind_of, kind_named};
+
+use answer::{Reason, Refusal};
 
 // What a vector's entries are, each kind with its own number.
-#[derive(Clone, Copy)]
+#[derive(Clone, Copy, Debug, PartialEq, Eq)]
 pub enum Kind {
     PathCounts = 1,
     Tail = 2,
@@ -18,12 +20,7 @@ impl Kind {
     pub fn number(self) -> u8
         ensures { result ≡ kind_number self }
     {
-        match self {
-            Kind::PathCounts => 1,
-            Kind::Tail => 2,
-            Kind::Signature => 3,
-            Kind::Domination => 4,
-        }
+        self as u8
     }
 
     // How many entries a vector of the kind has, and 0 where n is over 16.
@@ -42,28 +39,35 @@ impl Kind {
     }
 }
 
+impl TryFrom<u8> for Kind {
+    type Error = Refusal;
+
+    ghost try_from_gives = { λ number answer. answer ≡ kind_named number };
+
+    // The kind of a number, and 26 where it is no kind's.
+    #[tactic(auto, unfolding(crate::specs::Kinds::kind_of))]
+    fn try_from(number: u8) -> Result<Self, Refusal> {
+        match number {
+            1 => Ok(Kind::PathCounts),
+            2 => Ok(Kind::Tail),
+            3 => Ok(Kind::Signature),
+            4 => Ok(Kind::Domination),
+            _ => Err(Reason::WrongKind.at(0)),
+        }
+    }
+}
+
 // Whether a number is a kind's.
 pub fn is_kind(number: u8) -> bool
     ensures { result ≡ is_kind number }
 {
-    if number < 1 {
-        return false;
-    }
-    number <= 4
+    Kind::try_from(number).is_ok()
 }
 
 // The kind of a number. A number that is no kind's gives path counts; callers ask first.
+#[tactic(auto, using(crate::proofs::KindNumbers::kind_else))]
 pub fn kind_of(number: u8) -> Kind
     ensures { result ≡ kind_of number }
 {
-    if number == 2 {
-        return Kind::Tail;
-    }
-    if number == 3 {
-        return Kind::Signature;
-    }
-    if number == 4 {
-        return Kind::Domination;
-    }
-    Kind::PathCounts
+    Kind::try_from(number).unwrap_or(Kind::PathCounts)
 }

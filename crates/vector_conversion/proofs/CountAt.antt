@@ -1,6 +1,6 @@
 -- The path count of a size in a vector, by the entry of that size and the path counts of the sizes below it. Assumes nothing.
 use mathlib.Core.Path.{◌≡◌, refl, sym, ap, ap₂, ◌∙◌}
-use mathlib.Core.Bool.{Bool, true, false}
+use mathlib.Core.Bool.{Bool, true, false, cond}
 use mathlib.Core.Logic.{◌⊎◌, inl, inr}
 use mathlib.Core.List.{List}
 use Prim.Native.Nat.{ℕ, suc, ◌+◌, ◌-◌, ◌*◌, ◌^◌, ◌≤◌, ◌<◌}
@@ -20,9 +20,9 @@ use Rattle.theory_sums.proofs.IntegerSums.{sum_belowℤ_same}
 use Rattle.numbers.proofs.Bounds.{below_or_above}
 use Rattle.theory_figures.specs.Figures.{sign, domination}
 use Rattle.theory_figures.proofs.Dominations.{path_count_back}
+use Rattle.std.specs.Prelude.{None, Some}
 use Rattle.vector_conversion.specs.Vectors.{entry_at, scaled_count, unit_of, stands_for, counts_of, wrong_count}
-use Rattle.vector_conversion.specs.Inside.{pick, count_in, count_at, cells_of, Found}
-use Rattle.vector_conversion.specs.declared.Count.TheVariants.{Of, Wrong}
+use Rattle.vector_conversion.specs.Inside.{count_in, count_at, cells_of, Found}
 use Rattle.vector_kind.specs.declared.Kind.{Kind}
 use Rattle.vector_kind.specs.declared.Kind.TheVariants.{PathCounts, Tail, Signature, Domination}
 use Rattle.vector_conversion.proofs.Scaled.{last_term, sign_last, domination_unique}
@@ -119,24 +119,24 @@ count_domination n entries counts j added taken h found sums =
 
 module _ (kind : Kind) (n : ℕ) (entries : List ℤ) (j : ℕ) where
   -- a count that is found, and one that is wrong
-  pub count_of : (x : ℕ) → count_at kind n entries j ≡ Of x → (wrong_count n (stands_for kind n entries) j ≡ false) × (x ≡ counts_of kind n entries j)
+  pub count_of : (x : ℕ) → count_at kind n entries j ≡ Some x → (wrong_count n (stands_for kind n entries) j ≡ false) × (x ≡ counts_of kind n entries j)
   unfolding count_at wrong_count
   count_of x h = cases _ h
     where
-      cases : (t : Bool) → pick t Wrong (Of (counts_of kind n entries j)) ≡ Of x → (t ≡ false) × (x ≡ counts_of kind n entries j)
+      cases : (t : Bool) → cond t None (Some (counts_of kind n entries j)) ≡ Some x → (t ≡ false) × (x ≡ counts_of kind n entries j)
       cases true e = absurd (let clash : ◌≡◌ {A = ℕ} 0 1 = cc in omega arith)
       cases false e = (refl, cc)
 
-  pub count_wrong : count_at kind n entries j ≡ Wrong → wrong_count n (stands_for kind n entries) j ≡ true
+  pub count_wrong : count_at kind n entries j ≡ None → wrong_count n (stands_for kind n entries) j ≡ true
   unfolding count_at wrong_count
   count_wrong h = cases _ h
     where
-      cases : (t : Bool) → pick t Wrong (Of (counts_of kind n entries j)) ≡ Wrong → t ≡ true
+      cases : (t : Bool) → cond t None (Some (counts_of kind n entries j)) ≡ None → t ≡ true
       cases true e = refl
       cases false e = absurd (let clash : ◌≡◌ {A = ℕ} 0 1 = cc in omega arith)
 
   -- the counts with one more
-  pub found_more : (counts : List ℕ) (x : ℕ) → n ≤ 16 → j < length counts → Found kind n entries counts j → count_at kind n entries j ≡ Of x
+  pub found_more : (counts : List ℕ) (x : ℕ) → n ≤ 16 → j < length counts → Found kind n entries counts j → count_at kind n entries j ≡ Some x
       → Found kind n entries (set counts j x) (j + 1)
   found_more counts x few h found e =
       record {

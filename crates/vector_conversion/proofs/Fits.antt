@@ -1,13 +1,10 @@
 -- The numbers that a vector is worked out from stay in range. Assumes nothing.
-use mathlib.Core.Logic.{◌⊎◌, inl, inr}
 use mathlib.Core.Path.{◌≡◌}
-use Prim.Native.Nat.{ℕ, ◌-◌, ◌*◌, ◌≤◌, ◌<◌}
+use Prim.Native.Nat.{ℕ, ◌-◌, ◌*◌, ◌≤◌}
 use native.Mathlib.Nat.{le_trans, le_of_eq, mul-le-mul}
 use native.Mathlib.Omega.{arith}
-use lib.ListN.{get_or, replicate, length-replicate, get_or-replicate, get_or-eq_default}
 use Rattle.numbers.specs.Counts.{factorial, up_to_16}
 use Rattle.numbers.proofs.Counts.{factorials_few, up_to_16_given}
-use Rattle.numbers.proofs.Bounds.{below_or_above}
 
 -- 16!
 pub tail_unit_few : (n j : ℕ) → n ≤ 16 → j ≤ n → factorial j * factorial (n - j) ≤ 20922789888000
@@ -20,12 +17,3 @@ unit_few a b n j ea eb h l =
 
 pub scaled_few : (count unit n j : ℕ) → count ≤ 12870 → unit ≡ factorial j * factorial (n - j) → n ≤ 16 → j ≤ n → count * unit ≤ 12870 * 20922789888000
 scaled_few count unit n j few e h l = mul-le-mul few (le_trans (le_of_eq e) (tail_unit_few n j h l))
-
--- an array of nothing
-pub none_few : (n j : ℕ) → get_or (replicate n 0) j 0 ≤ 12870
-none_few n j = cases (below_or_above j n)
-  where
-    cases : (j < n) ⊎ (n ≤ j) → get_or (replicate n 0) j 0 ≤ 12870
-    cases (inl l) = le_trans (le_of_eq (get_or-replicate n j 0 0 l)) (omega arith)
-    cases (inr l) =
-        le_trans (le_of_eq (get_or-eq_default (replicate n 0) 0 (le_trans (le_of_eq (length-replicate n 0)) l))) (omega arith)

@@ -6,11 +6,11 @@ use Prim.Native.Nat.{ℕ, suc, ◌*◌, ◌≤◌, ◌<◌, suc-le-suc}
 use native.Mathlib.Omega.{arith}
 use lib.Dec.{leb, ltb}
 use lib.IntN.{ℤ}
-use lib.ListN.{length, get_or}
+use lib.ListN.{length}
 use borrow.Author.Tests.{leb-true, le-leb, eq-eqb, ne_eqb}
 use Rattle.std.specs.Prelude.{Ok, Err}
-use Rattle.answer.specs.Outcome.{at, Verdict}
-use Rattle.answer.specs.declared.Reason.{Reason}
+use Rattle.answer.specs.Outcome.{at}
+use Rattle.answer.specs.declared.Refusal.{Refusal}
 use Rattle.answer.specs.declared.Reason.TheVariants.{WrongPartCount, WrongVectorLength, WrongPathCount, FallingProportion}
 use Rattle.answer.proofs.Outcomes.{refuse_held, refuse_passed}
 use Rattle.numbers.specs.Counts.{choose}
@@ -19,7 +19,7 @@ use Rattle.numbers.proofs.Bools.{and_left, and_right, and_both, clash, false_of}
 use Rattle.theory_sets.proofs.Ranges.{any_intro, any_false, least_found}
 use Rattle.vector_kind.specs.Kinds.{length_of}
 use Rattle.vector_conversion.specs.Vectors.{stands_for, counts_of, wrong_count, falls, path_counts_refusal, counts_refusal, vector_refusal}
-use Rattle.vector_conversion.specs.Inside.{cells_of, FoundAll, FirstFall}
+use Rattle.vector_conversion.specs.Inside.{cells_of, Found, FirstWrong, FirstFall}
 use Rattle.vector_kind.specs.declared.Kind.{Kind}
 
 module _ (kind : Kind) (n : ℕ) (entries : List ℤ) where
@@ -43,47 +43,41 @@ module _ (kind : Kind) (n : ℕ) (entries : List ℤ) where
           refuse_passed _ WrongPartCount 0 _ (ap not (and_both (le-leb 1 n some) (le-leb n 16 few)))
           ∙ refuse_passed _ WrongVectorLength 0 _ (ap not (eq-eqb (length entries) (length_of kind n) long))
 
-      module _ (counts : List ℕ) (wrong : ℕ) (found : FoundAll kind n entries counts wrong) where
-        pub refused_count : wrong ≤ n → Err (at WrongPathCount wrong) ≡ vector_refusal kind n entries
+      module _ (why : Refusal) (wrong : FirstWrong kind n entries why) where
+        pub refused_count : Err why ≡ vector_refusal kind n entries
         unfolding counts_refusal path_counts_refusal
-        refused_count h =
-            sym (passed
-            ∙ refuse_held _ WrongPathCount (least (wrong_count n (stands_for kind n entries)) (suc n)) _ (any_intro (wrong_count n (stands_for kind n entries)) (suc n) wrong (suc-le-suc h) (found.first h))
+        refused_count =
+            ap Err wrong.told
+            ∙ sym (passed
+            ∙ refuse_held _ WrongPathCount (least (wrong_count n (stands_for kind n entries)) (suc n)) _ (any_intro (wrong_count n (stands_for kind n entries)) (suc n) why.place (suc-le-suc wrong.within) wrong.first)
             ∙ ap (λ (place : ℕ). Err (at WrongPathCount place))
-            (least_found (wrong_count n (stands_for kind n entries)) (suc n) wrong (suc-le-suc h) (found.first h) found.found.right))
+            (least_found (wrong_count n (stands_for kind n entries)) (suc n) why.place (suc-le-suc wrong.within) wrong.first wrong.right))
 
-        module _ (past : n < wrong) where
-          -- no count is wrong, and all are found
-          pub all_found : (j : ℕ) → j ≤ n → get_or counts j 0 ≡ counts_of kind n entries j
-          all_found j h = found.found.cells j (omega arith)
+      module _ (counts : List ℕ) (found : Found kind n entries counts (suc n)) where
+        -- no count is wrong
+        none_wrong : any (wrong_count n (stands_for kind n entries)) (suc n) ≡ false
+        none_wrong = any_false (wrong_count n (stands_for kind n entries)) (suc n) (λ j h w. clash w (found.right j h))
 
-          none_wrong : any (wrong_count n (stands_for kind n entries)) (suc n) ≡ false
-          none_wrong = any_false (wrong_count n (stands_for kind n entries)) (suc n) (λ j h w. clash w (found.found.right j (omega arith)))
+        fall_same : (j : ℕ) → j < n → falls n (counts_of kind n entries) j ≡ falls n (cells_of counts) j
+        unfolding falls
+        fall_same j h = sym (ap₂ (λ (x y : ℕ). ltb (x * choose n j) (y * choose n (suc j))) (found.cells (suc j) (suc-le-suc h)) (found.cells j (omega arith)))
 
-          fall_same : (j : ℕ) → j < n → falls n (counts_of kind n entries) j ≡ falls n (cells_of counts) j
-          unfolding falls
-          fall_same j h = sym (ap₂ (λ (x y : ℕ). ltb (x * choose n j) (y * choose n (suc j))) (all_found (suc j) h) (all_found j (omega arith)))
+        module _ (fall : ℕ) (first : FirstFall n counts fall) where
+          below : (j : ℕ) → j < fall → falls n (counts_of kind n entries) j ≡ false
+          below j h = fall_same j (omega (arith, first.within)) ∙ first.rises j h
 
-          module _ (fall : ℕ) (first : FirstFall n counts fall) where
-            below : (j : ℕ) → j < fall → falls n (counts_of kind n entries) j ≡ false
-            below j h = fall_same j (omega (arith, first.within)) ∙ first.rises j h
+          pub refused_fall : fall < n → Err (at FallingProportion fall) ≡ vector_refusal kind n entries
+          unfolding counts_refusal path_counts_refusal
+          refused_fall h =
+              let here : falls n (counts_of kind n entries) fall ≡ true = fall_same fall h ∙ first.first h in
+              sym (passed ∙ refuse_passed _ WrongPathCount (least (wrong_count n (stands_for kind n entries)) (suc n)) _ none_wrong
+              ∙ refuse_held _ FallingProportion (least (falls n (counts_of kind n entries)) n) (Ok tt)
+              (any_intro (falls n (counts_of kind n entries)) n fall h here)
+              ∙ ap (λ (place : ℕ). Err (at FallingProportion place)) (least_found (falls n (counts_of kind n entries)) n fall h here below))
 
-            pub refused_fall : fall < n → Err (at FallingProportion fall) ≡ vector_refusal kind n entries
-            unfolding counts_refusal path_counts_refusal
-            refused_fall h =
-                let here : falls n (counts_of kind n entries) fall ≡ true = fall_same fall h ∙ first.first h in
-                sym (passed ∙ refuse_passed _ WrongPathCount (least (wrong_count n (stands_for kind n entries)) (suc n)) _ none_wrong
-                ∙ refuse_held _ FallingProportion (least (falls n (counts_of kind n entries)) n) (Ok tt)
-                (any_intro (falls n (counts_of kind n entries)) n fall h here)
-                ∙ ap (λ (place : ℕ). Err (at FallingProportion place)) (least_found (falls n (counts_of kind n entries)) n fall h here below))
-
-            pub passed_all : n ≤ fall → (Ok tt) ≡ vector_refusal kind n entries
-            unfolding counts_refusal path_counts_refusal
-            passed_all h =
-                sym (passed ∙ refuse_passed _ WrongPathCount (least (wrong_count n (stands_for kind n entries)) (suc n)) _ none_wrong
-                ∙ refuse_passed _ FallingProportion (least (falls n (counts_of kind n entries)) n) (Ok tt)
-                (any_false (falls n (counts_of kind n entries)) n (λ j l w. clash w (below j (omega arith)))))
-
--- a refusal is no acceptance
-pub refused-other {ℓ} : {A : Type ℓ} (verdict : Verdict) (reason : Reason) (place : ℕ) → verdict ≡ Err (at reason place) → verdict ≡ Ok tt → A
-refused-other verdict reason place refused accepted = let clash : ◌≡◌ {A = ℕ} 0 1 = cc in absurd (omega arith)
+          pub passed_all : n ≤ fall → Ok tt ≡ vector_refusal kind n entries
+          unfolding counts_refusal path_counts_refusal
+          passed_all h =
+              sym (passed ∙ refuse_passed _ WrongPathCount (least (wrong_count n (stands_for kind n entries)) (suc n)) _ none_wrong
+              ∙ refuse_passed _ FallingProportion (least (falls n (counts_of kind n entries)) n) (Ok tt)
+              (any_false (falls n (counts_of kind n entries)) n (λ j l w. clash w (below j (omega arith)))))

@@ -1,31 +1,27 @@
 -- What the private functions do: a reader of the promises may pass this file over.
-use Rattle.answer.specs.Outcome.{Verdict}
-use Rattle.std.specs.Prelude.{Bool, true, false, not, ◌&&◌, ◌||◌, List, ◌≡◌, ℕ, suc, ◌-◌, ◌/◌, ◌^◌, ◌≤◌, ◌<◌, ltb, eqb, ℤ, pos, nat_abs, ◌-ℤ◌, ◌*ℤ◌, get_or, Ok}
+use Rattle.std.specs.Prelude.{Bool, true, false, not, ◌&&◌, ◌||◌, List, ◌≡◌, ℕ, suc, ◌-◌, ◌/◌, ◌^◌, ◌≤◌, ◌<◌, ltb, eqb, ℤ, pos, nat_abs, ◌-ℤ◌, ◌*ℤ◌, get_or, cond, Option, None, Some, Result, Ok, Err}
+use Rattle.answer.specs.Outcome.{at}
+use Rattle.answer.specs.declared.Reason.TheVariants.{WrongPathCount}
+use Rattle.answer.specs.declared.Refusal.{Refusal}
 use Rattle.numbers.specs.Tables.{NoneOver}
 use Rattle.numbers.specs.Counts.{choose}
 use Rattle.theory_sums.specs.Sums.{sum_belowℤ}
 use Rattle.theory_figures.specs.Figures.{sign}
 use Rattle.vector_conversion.specs.Vectors.{scaled_count, unit_of, stands_for, counts_of, wrong_count, falls, vector_refusal}
-use Rattle.vector_conversion.specs.declared.Count.{Count}
-use Rattle.vector_conversion.specs.declared.Count.TheVariants.{Of, Wrong}
 use Rattle.vector_kind.specs.declared.Kind.{Kind}
 
 -- ---- one count
 
-abbrev pub pick : Bool → Count → Count → Count
-pick true a b = a
-pick false a b = b
-
 -- the count of size j in a number that has it with its unit
-abbrev pub count_in : ℕ → ℕ → ℕ → ℤ → Count
-count_in n j unit z = pick (wrong_count n (λ i. record { number = z; unit = unit }) j) Wrong (Of (nat_abs z / unit))
+abbrev pub count_in : ℕ → ℕ → ℕ → ℤ → Option ℕ
+count_in n j unit z = cond (wrong_count n (λ i. record { number = z; unit = unit }) j) None (Some (nat_abs z / unit))
 
 -- what 13 asks of a whole count of size j that is not negative
 unfoldable pub off_range : ℕ → ℕ → ℕ → Bool
 off_range n j count = ltb (choose n j) count || eqb j 0 && not (eqb count 0) || eqb j n && not (eqb count 1)
 
 -- the count of size j in a vector
-unfoldable pub count_at : Kind → ℕ → List ℤ → ℕ → Count
+unfoldable pub count_at : Kind → ℕ → List ℤ → ℕ → Option ℕ
 count_at kind n entries j = count_in n j (unit_of kind n j) (scaled_count kind n entries j)
 
 -- ---- all counts
@@ -40,11 +36,17 @@ pub record Found (kind : Kind) (n : ℕ) (entries : List ℤ) (counts : List ℕ
   pub right : (i : ℕ) → i < j → wrong_count n (stands_for kind n entries) i ≡ false
   pub cells : (i : ℕ) → i < j → get_or counts i 0 ≡ counts_of kind n entries i
 
--- the counts below the first wrong one, or all
-pub record FoundAll (kind : Kind) (n : ℕ) (entries : List ℤ) (counts : List ℕ) (wrong : ℕ) : Type 0 where
-  pub found : Found kind n entries counts wrong
-  pub within : wrong ≤ suc n
-  pub first : wrong ≤ n → wrong_count n (stands_for kind n entries) wrong ≡ true
+-- a refusal for the first wrong count of a vector
+pub record FirstWrong (kind : Kind) (n : ℕ) (entries : List ℤ) (why : Refusal) : Type 0 where
+  pub told : why ≡ at WrongPathCount why.place
+  pub within : why.place ≤ n
+  pub right : (i : ℕ) → i < why.place → wrong_count n (stands_for kind n entries) i ≡ false
+  pub first : wrong_count n (stands_for kind n entries) why.place ≡ true
+
+-- all counts of a vector, or a refusal for the first wrong one
+abbrev pub CountsAs : Kind → ℕ → List ℤ → Result (List ℕ) Refusal → Type 0
+CountsAs kind n entries (Ok counts) = Found kind n entries counts (suc n)
+CountsAs kind n entries (Err why) = FirstWrong kind n entries why
 
 -- the first size from which the proportion falls, or n
 pub record FirstFall (n : ℕ) (counts : List ℕ) (fall : ℕ) : Type 0 where
@@ -52,11 +54,16 @@ pub record FirstFall (n : ℕ) (counts : List ℕ) (fall : ℕ) : Type 0 where
   pub rises : (j : ℕ) → j < fall → falls n (cells_of counts) j ≡ false
   pub first : fall < n → falls n (cells_of counts) fall ≡ true
 
--- a verdict on a vector, with its path counts where it is accepted
-pub record ExaminedAs (kind : Kind) (n : ℕ) (entries : List ℤ) (counts : List ℕ) (verdict : Verdict) : Type 0 where
+-- the path counts of an accepted vector
+pub record Examined (kind : Kind) (n : ℕ) (entries : List ℤ) (counts : List ℕ) : Type 0 where
   pub few : NoneOver 12870 counts
-  pub judged : verdict ≡ vector_refusal kind n entries
-  pub cells : verdict ≡ Ok tt → (j : ℕ) → j ≤ n → get_or counts j 0 ≡ counts_of kind n entries j
+  pub accepted : Ok tt ≡ vector_refusal kind n entries
+  pub cells : (j : ℕ) → j ≤ n → get_or counts j 0 ≡ counts_of kind n entries j
+
+-- the path counts of a vector, or its refusal
+abbrev pub ExaminedAs : Kind → ℕ → List ℤ → Result (List ℕ) Refusal → Type 0
+ExaminedAs kind n entries (Ok counts) = Examined kind n entries counts
+ExaminedAs kind n entries (Err why) = Err why ≡ vector_refusal kind n entries
 
 -- ---- the terms of a domination
 

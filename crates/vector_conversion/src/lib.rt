@@ -4,11 +4,11 @@
 ghost use Rattle.std.specs.Prelude.{◌≡◌, not, ◌&&◌, ◌++◌, ◌+◌, ◌-◌, ◌*◌, ◌^◌, ◌≤◌, ◌<◌, eqb, pos, ◌+ℤ◌, ◌-ℤ◌, length, drop};
 ghost use Rattle.numbers.specs.Tables.{NoneOver};
 ghost use Rattle.numbers.specs.Counts.{factorial};
-ghost use Rattle.answer.specs.Outcome.{at, outcome, delivered};
+ghost use Rattle.answer.specs.Outcome.{outcome, delivered};
 ghost use Rattle.vector_kind.specs.Kinds.{length_of};
 ghost use Rattle.theory_figures.specs.Figures.{tail as tail_of, domination as domination_of};
 ghost use Rattle.vector_conversion.specs.Vectors.{vector_refusal, figure as figure_of, vector_of, converted};
-ghost use Rattle.vector_conversion.specs.Inside.{count_in, off_range, count_at, cells_of, Found, FoundAll, FirstFall, ExaminedAs, TermsOf};
+ghost use Rattle.vector_conversion.specs.Inside.{count_in, off_range, count_at, cells_of, Found, CountsAs, FirstFall, ExaminedAs, TermsOf};
 
 use answer::{Reason, Refusal};
 use vector_kind::Kind;
@@ -17,8 +17,8 @@ use vector_kind::Kind;
 pub fn judge(kind: Kind, n: usize, entries: &[i64]) -> Result<(), Refusal>
     ensures { result ≡ vector_refusal kind n entries.now }
 {
-    let examined = examine(kind, n, entries);
-    examined.verdict
+    examine(kind, n, entries)?;
+    Ok(())
 }
 
 // A vector as one of another kind, into a lent buffer.
@@ -31,41 +31,11 @@ pub fn convert(
 ) -> Result<usize, Refusal>
     ensures { outcome result cells.new ≡ delivered (vector_refusal kind n entries.now) (converted target kind n entries.now) cells.old }
 {
-    let examined = examine(kind, n, entries);
-    let verdict = examined.verdict;
-    match verdict {
-        Err(refusal) => Err(refusal),
-        Ok(()) => {
-            let needed = target.entries(n);
-            if cells.len() < needed {
-                return Err(Reason::ShortBuffer.at(needed));
-            }
-            let counts = examined.counts;
-            write(target, n, &counts, cells);
-            Ok(needed)
-        }
-    }
-}
-
-// A path count found in a vector, or that it is none.
-#[derive(Drop)]
-enum Count {
-    Of(u64),
-    Wrong,
-}
-
-// The path counts of a vector below the first wrong size; the cells from there on are 0.
-#[derive(Drop)]
-struct Counts {
-    cells: [u64; 17],
-    wrong: usize,
-}
-
-// The verdict on a vector, and its path counts where it is accepted.
-#[derive(Drop)]
-struct Examined {
-    counts: [u64; 17],
-    verdict: Result<(), Refusal>,
+    let counts = examine(kind, n, entries)?;
+    let needed = target.entries(n);
+    answer::room(needed, cells.len())?;
+    write(target, n, &counts, cells);
+    Ok(needed)
 }
 
 // The terms of a domination by their sign.
@@ -75,77 +45,42 @@ struct Terms {
     taken: u64,
 }
 
-// The verdict on a vector, with its path counts.
-fn examine(kind: Kind, n: usize, entries: &[i64]) -> Examined
-    ensures { ExaminedAs kind n entries.now result.counts result.verdict }
+// The path counts of a vector, where it is accepted.
+fn examine(kind: Kind, n: usize, entries: &[i64]) -> Result<[u64; 17], Refusal>
+    ensures { ExaminedAs kind n entries.now result }
 {
-    if n < 1 {
-        return unread(Reason::WrongPartCount);
-    }
-    if 16 < n {
-        return unread(Reason::WrongPartCount);
+    if n < 1 || 16 < n {
+        return Err(Reason::WrongPartCount.at(0));
     }
     if entries.len() != kind.entries(n) {
-        return unread(Reason::WrongVectorLength);
+        return Err(Reason::WrongVectorLength.at(0));
     }
-    let found = path_counts(kind, n, entries);
-    let cells = found.cells;
-    let wrong = found.wrong;
-    if wrong <= n {
-        return Examined {
-            counts: cells,
-            verdict: Err(Reason::WrongPathCount.at(wrong)),
-        };
-    }
-    let fall = first_fall(n, &cells);
+    let counts = path_counts(kind, n, entries)?;
+    let fall = first_fall(n, &counts);
     if fall < n {
-        return Examined {
-            counts: cells,
-            verdict: Err(Reason::FallingProportion.at(fall)),
-        };
+        return Err(Reason::FallingProportion.at(fall));
     }
-    Examined {
-        counts: cells,
-        verdict: Ok(()),
-    }
-}
-
-// A vector that is refused at place 0, with no count read.
-fn unread(reason: Reason) -> Examined
-    ensures { (NoneOver 12870 result.counts) × (result.verdict ≡ Err (at reason 0)) }
-{
-    Examined {
-        counts: [0u64; 17],
-        verdict: Err(reason.at(0)),
-    }
+    Ok(counts)
 }
 
 // The path counts of a vector, size by size up to the first wrong one.
-fn path_counts(kind: Kind, n: usize, entries: &[i64]) -> Counts
+fn path_counts(kind: Kind, n: usize, entries: &[i64]) -> Result<[u64; 17], Refusal>
     requires n_bound { n ≤ 16 }
     requires entries_len { length entries.now ≡ length_of kind n }
-    ensures { FoundAll kind n entries.now result.cells result.wrong }
+    ensures { CountsAs kind n entries.now result }
 {
     let mut cells = [0u64; 17];
-    for j in 0..n + 1 {
-        let found = count_at(kind, n, entries, &cells, j);
-        match found {
-            Count::Of(count) => {
-                cells[j] = count;
-            }
-            Count::Wrong => {
-                return Counts { cells, wrong: j };
-            }
-        }
+    for j in 0..=n {
+        let Some(count) = count_at(kind, n, entries, &cells, j) else {
+            return Err(Reason::WrongPathCount.at(j));
+        };
+        cells[j] = count;
     }
-    Counts {
-        cells,
-        wrong: n + 1,
-    }
+    Ok(cells)
 }
 
 // The path count of size j, where those below it are found.
-fn count_at(kind: Kind, n: usize, entries: &[i64], counts: &[u64; 17], j: usize) -> Count
+fn count_at(kind: Kind, n: usize, entries: &[i64], counts: &[u64; 17], j: usize) -> Option<u64>
     requires n_bound { n ≤ 16 }
     requires j_le_n { j ≤ n }
     requires entries_len { length entries.now ≡ length_of kind n }
@@ -161,7 +96,7 @@ fn count_at(kind: Kind, n: usize, entries: &[i64], counts: &[u64; 17], j: usize)
 }
 
 // The path count of size j of a signature: its entry is added to what the sizes below it add up to.
-fn signature_count(n: usize, entries: &[i64], counts: &[u64; 17], j: usize) -> Count
+fn signature_count(n: usize, entries: &[i64], counts: &[u64; 17], j: usize) -> Option<u64>
     requires n_bound { n ≤ 16 }
     requires j_le_n { j ≤ n }
     requires entries_len { length entries.now ≡ n }
@@ -177,7 +112,7 @@ fn signature_count(n: usize, entries: &[i64], counts: &[u64; 17], j: usize) -> C
 }
 
 // The path count of size j of a domination: its entry is added to what the sizes below it leave.
-fn domination_count(n: usize, entries: &[i64], counts: &[u64; 17], j: usize) -> Count
+fn domination_count(n: usize, entries: &[i64], counts: &[u64; 17], j: usize) -> Option<u64>
     requires n_bound { n ≤ 16 }
     requires j_le_n { j ≤ n }
     requires entries_len { length entries.now ≡ n + 1 }
@@ -189,40 +124,19 @@ fn domination_count(n: usize, entries: &[i64], counts: &[u64; 17], j: usize) -> 
 }
 
 // The path count of size j in what a base and an entry make, less what is taken.
-fn count_of(base: u64, entry: i64, taken: u64, unit: u64, n: usize, j: usize) -> Count
+fn count_of(base: u64, entry: i64, taken: u64, unit: u64, n: usize, j: usize) -> Option<u64>
     requires base_bound { base < 2 ^ 62 }
     requires unit_nonzero { 0 < unit }
     requires n_bound { n ≤ 16 }
     ensures { result ≡ count_in n j unit (pos base +ℤ entry -ℤ pos taken) }
 {
-    if entry < 0 {
-        let less = (-1 - entry) as u64;
-        if base <= less {
-            return Count::Wrong;
-        }
-        return counted(base - less - 1, taken, unit, n, j);
-    }
-    counted(base + entry as u64, taken, unit, n, j)
-}
-
-// The path count of size j in a sum, less what is taken.
-fn counted(sum: u64, taken: u64, unit: u64, n: usize, j: usize) -> Count
-    requires unit_nonzero { 0 < unit }
-    requires n_bound { n ≤ 16 }
-    ensures { result ≡ count_in n j unit (pos sum -ℤ pos taken) }
-{
-    if sum < taken {
-        return Count::Wrong;
-    }
-    let scaled = sum - taken;
-    if scaled % unit != 0 {
-        return Count::Wrong;
-    }
+    let sum = base.checked_add_signed(entry)?;
+    let scaled = sum.checked_sub(taken)?;
     let count = scaled / unit;
-    if off_range(count, n, j) {
-        return Count::Wrong;
+    if scaled % unit != 0 || off_range(count, n, j) {
+        return None;
     }
-    Count::Of(count)
+    Some(count)
 }
 
 // Whether a number is no path count of size j: it is over C(n,j), not 0 for size 0, or not 1 for size n.

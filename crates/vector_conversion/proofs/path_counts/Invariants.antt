@@ -7,4 +7,4 @@ use Rattle.vector_conversion.specs.Inside.{Found}
 use Rattle.vector_conversion.proofs.path_counts.Given as goal
 
 abbrev pub invariant-loop-j : goal.invariant-loop-j
-invariant-loop-j l = (l.j-end ≡ l.n + 1) × (l.j ≤ l.n + 1) × (length l.cells ≡ 17) × Found l.kind l.n l.entries l.cells l.j
+invariant-loop-j l = (l.j ≤ l.n + 1) × (length l.cells ≡ 17) × Found l.kind l.n l.entries l.cells l.j

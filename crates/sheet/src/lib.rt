@@ -14,28 +14,35 @@ use vector::Vector;
 use vector_kind::Kind;
 
 // Saves a vector: the sheet of its own kind, and of a tail the signature sheet with the same path counts, into a lent buffer.
-pub fn save_sheet(kind: Kind, n: usize, entries: &[i64], buffer: &mut [u8]) -> Result<usize, Refusal>
+pub fn save_sheet(
+    kind: Kind,
+    n: usize,
+    entries: &[i64],
+    buffer: &mut [u8],
+) -> Result<usize, Refusal>
     ensures { outcome result buffer.new ≡ delivered (vector_refusal kind n entries.now) (saved_sheet kind n entries.now) buffer.old }
 {
     write_as(kind, n, entries, saved_kind(kind), buffer)
 }
 
 // Saves a vector whose kind comes as a number.
-pub fn save_sheet_numbered(kind: u8, n: usize, entries: &[i64], buffer: &mut [u8]) -> Result<usize, Refusal>
+#[tactic(auto, using(vector_kind::proofs::KindNumbers::kind_given, vector_kind::proofs::KindNumbers::kind_refused))]
+pub fn save_sheet_numbered(
+    kind: u8,
+    n: usize,
+    entries: &[i64],
+    buffer: &mut [u8],
+) -> Result<usize, Refusal>
     ensures { outcome result buffer.new ≡ delivered (kind_refusal kind (vector_refusal (kind_of kind) n entries.now)) (saved_sheet (kind_of kind) n entries.now) buffer.old }
 {
-    if vector_kind::is_kind(kind) {
-        return save_sheet(vector_kind::kind_of(kind), n, entries, buffer);
-    }
-    Err(Reason::WrongKind.at(0))
+    save_sheet(Kind::try_from(kind)?, n, entries, buffer)
 }
 
 // Saves a vector in a struct.
 pub fn save_vector(vector: Vector, buffer: &mut [u8]) -> Result<usize, Refusal>
     ensures { outcome result buffer.new ≡ delivered (struct_refusal vector) (saved_sheet vector.kind vector.n (entries_of vector)) buffer.old }
 {
-    let kind = vector.kind;
-    write_vector_as(vector, saved_kind(kind), buffer)
+    write_vector_as(vector, saved_kind(vector.kind), buffer)
 }
 
 // Saves a vector as the sheet of the kind that is named, into a lent buffer; 34 for the tail.
@@ -48,13 +55,14 @@ pub fn save_sheet_as(
 ) -> Result<usize, Refusal>
     ensures { outcome result buffer.new ≡ delivered (tail_sheet_refusal (kind_number target) (vector_refusal kind n entries.now)) (sheet_as target kind n entries.now) buffer.old }
 {
-    if target.number() == 2 {
+    if target == Kind::Tail {
         return Err(Reason::TailSheet.at(0));
     }
     write_as(kind, n, entries, target, buffer)
 }
 
 // Saves a vector as the sheet of the kind that is named, where both kinds come as numbers.
+#[tactic(auto, using(vector_kind::proofs::KindNumbers::kind_given, vector_kind::proofs::KindNumbers::kind_refused, crate::proofs::Saving::tail_held, crate::proofs::Saving::tail_passed))]
 pub fn save_sheet_as_numbered(
     kind: u8,
     n: usize,
@@ -67,26 +75,20 @@ pub fn save_sheet_as_numbered(
     if target == 2 {
         return Err(Reason::TailSheet.at(0));
     }
-    if vector_kind::is_kind(kind) {
-        if vector_kind::is_kind(target) {
-            return write_as(
-                vector_kind::kind_of(kind),
-                n,
-                entries,
-                vector_kind::kind_of(target),
-                buffer,
-            );
-        }
-        return Err(Reason::WrongKind.at(0));
-    }
-    Err(Reason::WrongKind.at(0))
+    write_as(
+        Kind::try_from(kind)?,
+        n,
+        entries,
+        Kind::try_from(target)?,
+        buffer,
+    )
 }
 
 // Saves a vector in a struct as the sheet of the kind that is named.
 pub fn save_vector_as(vector: Vector, target: Kind, buffer: &mut [u8]) -> Result<usize, Refusal>
     ensures { outcome result buffer.new ≡ delivered (tail_sheet_refusal (kind_number target) (struct_refusal vector)) (sheet_as target vector.kind vector.n (entries_of vector)) buffer.old }
 {
-    if target.number() == 2 {
+    if target == Kind::Tail {
         return Err(Reason::TailSheet.at(0));
     }
     write_vector_as(vector, target, buffer)
@@ -107,32 +109,24 @@ fn saved_kind(kind: Kind) -> Kind
 fn write_vector_as(vector: Vector, target: Kind, buffer: &mut [u8]) -> Result<usize, Refusal>
     ensures { outcome result buffer.new ≡ delivered (struct_refusal vector) (sheet_as target vector.kind vector.n (entries_of vector)) buffer.old }
 {
-    let verdict = vector.judge();
-    match verdict {
-        Err(refusal) => Err(refusal),
-        Ok(()) => {
-            let kind = vector.kind;
-            let length = vector.length;
-            let entries = vector.entries;
-            write_as(kind, vector.n, &entries[..length], target, buffer)
-        }
-    }
+    write_as(vector.kind, vector.n, vector.entries(), target, buffer)
 }
 
 // The sheet of a kind for a vector: its entries are converted, and written as numbers.
-fn write_as(kind: Kind, n: usize, entries: &[i64], target: Kind, buffer: &mut [u8]) -> Result<usize, Refusal>
+fn write_as(
+    kind: Kind,
+    n: usize,
+    entries: &[i64],
+    target: Kind,
+    buffer: &mut [u8],
+) -> Result<usize, Refusal>
     ensures { outcome result buffer.new ≡ delivered (vector_refusal kind n entries.now) (sheet_as target kind n entries.now) buffer.old }
 {
     let mut cells = [0i64; 17];
-    let converted = vector_conversion::convert(kind, n, entries, target, &mut cells);
-    match converted {
-        Err(refusal) => Err(refusal),
-        Ok(count) => {
-            let mut sheet = [0u8; 155];
-            let length = write_numbers(target, n, &cells[..count], &mut sheet);
-            answer::hand_out(&sheet[..length], buffer)
-        }
-    }
+    let count = vector_conversion::convert(kind, n, entries, target, &mut cells)?;
+    let mut sheet = [0u8; 155];
+    let length = write_numbers(target, n, &cells[..count], &mut sheet);
+    answer::hand_out(&sheet[..length], buffer)
 }
 
 // Writes a sheet's numbers into a buffer that has room for them all, and answers how many bytes they take.

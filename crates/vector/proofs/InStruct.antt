@@ -68,14 +68,6 @@ lent_judged vector all = cases (true_or_false (ltb most_entries vector.length))
         (refuse (not (eqb k (length_of vector.kind vector.n))) WrongVectorLength 0 (counts_refusal vector.kind vector.n (entries_of vector))))
         (length-take-le vector.length vector.entries (omega (arith, ltb-false most_entries vector.length e)))
 
--- the cells that are looked at are no more than there are
-pub lent_few : (count : ℕ) → lent_cells count ≤ most_entries
-lent_few count = cases (true_or_false (ltb most_entries count))
-  where
-    cases : (ltb most_entries count ≡ true) ⊎ (ltb most_entries count ≡ false) → cond (ltb most_entries count) 0 count ≤ most_entries
-    cases (inl e) = rw e (omega arith)
-    cases (inr e) = rw e (omega (arith, ltb-false most_entries count e))
-
 -- an accepted vector has no more entries than cells, so all of them are looked at
 pub accepted_few : (vector : Vector) → struct_refusal vector ≡ Ok tt → vector.length ≤ most_entries
 unfolding struct_refusal
@@ -89,6 +81,9 @@ accepted_few vector accepted =
 
 pub lent_all : (vector : Vector) → struct_refusal vector ≡ Ok tt → lent_cells vector.length ≡ vector.length
 lent_all vector accepted = ap (λ (t : Bool). cond t 0 vector.length) (le-ltb most_entries vector.length (accepted_few vector accepted))
+
+pub lent_held : (vector : Vector) → struct_refusal vector ≡ Ok tt → take (lent_cells vector.length) vector.entries ≡ entries_of vector
+lent_held vector accepted = ap (λ (k : ℕ). take k vector.entries) (lent_all vector accepted)
 
 -- and its entries are an accepted vector
 pub held_same : (vector : Vector) → length vector.entries ≡ most_entries → struct_refusal vector ≡ Ok tt

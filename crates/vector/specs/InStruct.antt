@@ -1,13 +1,12 @@
 -- A vector in a struct: its kind beside its array of signed entries (01, "Vector sheets" and "Which places take which form").
-use Rattle.std.specs.Prelude.{not, List, [], ◌++◌, ℕ, ◌-◌, eqb, ℤ, pos, length, take, replicate, Ok, Err}
+use Rattle.std.specs.Prelude.{not, List, ◌++◌, ℕ, ◌-◌, eqb, ℤ, pos, length, take, replicate, Result, Ok, Err}
 use Rattle.answer.specs.Outcome.{refuse, Verdict}
 use Rattle.answer.specs.declared.Reason.TheVariants.{WrongVectorLength}
+use Rattle.answer.specs.declared.Refusal.{Refusal}
 use Rattle.answer.specs.Checks.{part_count_refusal}
 use Rattle.vector_kind.specs.Kinds.{length_of}
 use Rattle.vector_conversion.specs.Vectors.{counts_refusal, converted}
-use Rattle.vector.specs.declared.Converted.{Converted}
 use Rattle.vector_kind.specs.declared.Kind.{Kind}
-use Rattle.vector_kind.specs.declared.Kind.TheVariants.{PathCounts}
 use Rattle.vector.specs.declared.Vector.{Vector}
 
 -- the cells of a vector: the most entries that one can have
@@ -22,10 +21,6 @@ entry_cells entries = entries ++ replicate (most_entries - length entries) (pos 
 abbrev pub vector_holding : Kind → ℕ → List ℤ → Vector
 vector_holding kind n entries = record { kind = kind; n = n; length = length entries; entries = entry_cells entries }
 
--- what stands beside a refusal: path counts, n = 0, no entries, all cells 0
-abbrev pub no_vector : Vector
-no_vector = vector_holding PathCounts 0 []
-
 -- the entries of a vector: the first `length` cells, and the spare ones are not looked at
 abbrev pub entries_of : Vector → List ℤ
 entries_of vector = take vector.length vector.entries
@@ -38,11 +33,11 @@ struct_refusal vector =
     (counts_refusal vector.kind vector.n (entries_of vector)))
 
 -- a vector, or why there is none
-abbrev pub given : Verdict → Vector → Converted
-given (Err r) vector = record { vector = no_vector; verdict = Err r }
-given (Ok _) vector = record { vector = vector; verdict = (Ok tt) }
+abbrev pub given : Verdict → Vector → Result Vector Refusal
+given (Err r) vector = Err r
+given (Ok _) vector = Ok vector
 
 -- the vector as one of another kind
-abbrev pub struct_converted : Vector → Kind → Converted
+abbrev pub struct_converted : Vector → Kind → Result Vector Refusal
 struct_converted vector target =
     given (struct_refusal vector) (vector_holding target vector.n (converted target vector.kind vector.n (entries_of vector)))

@@ -1,14 +1,14 @@
 // Vectors of the four kinds (01, "Vector sheets"): in a struct, and with their kinds as numbers.
 #![tactic(auto)]
 
-ghost use Rattle.std.specs.Prelude.{◌≡◌};
+ghost use Rattle.std.specs.Prelude.{◌≡◌, take};
 ghost use Rattle.answer.specs.Outcome.{outcome, delivered};
 ghost use Rattle.vector_kind.specs.Kinds.{kind_of, kind_refusal};
 ghost use Rattle.vector_conversion.specs.Vectors.{vector_refusal, converted};
 ghost use Rattle.vector.specs.InStruct.{struct_refusal, struct_converted};
 ghost use Rattle.vector.specs.Inside.{lent_cells};
 
-use answer::{Reason, Refusal};
+use answer::Refusal;
 use vector_kind::Kind;
 
 // A vector of a machine of n parts: its entries are the first `length` cells. In every vector that the library makes the spare cells behind
@@ -21,73 +21,53 @@ pub struct Vector {
     pub entries: [i64; 17],
 }
 
-// What converting a vector answers: the vector, or why there is none, and then a vector of no entries.
-#[derive(Clone, Copy)]
-pub struct Converted {
-    pub vector: Vector,
-    pub verdict: Result<(), Refusal>,
-}
-
 impl Vector {
+    // The entries; none where the vector claims more than it has cells, since that length is wrong for every kind.
+    pub fn entries(&self) -> &[i64]
+        ensures { result.now ≡ take (lent_cells self.now.length) self.now.entries }
+    {
+        self.entries.get(..self.length).unwrap_or(&[])
+    }
+
     // Whether the vector is accepted.
+    #[tactic(auto, using(crate::proofs::InStruct::lent_judged))]
     pub fn judge(self) -> Result<(), Refusal>
         ensures { result ≡ struct_refusal self }
     {
-        let kind = self.kind;
-        let entries = self.entries;
-        let count = lent(self.length);
-        vector_conversion::judge(kind, self.n, &entries[..count])
+        vector_conversion::judge(self.kind, self.n, self.entries())
     }
 
     // The vector as one of another kind.
-    pub fn convert(self, target: Kind) -> Converted
+    pub fn convert(self, target: Kind) -> Result<Vector, Refusal>
         ensures { result ≡ struct_converted self target }
     {
-        let kind = self.kind;
-        let entries = self.entries;
-        let count = lent(self.length);
         let mut cells = [0i64; 17];
-        let written = vector_conversion::convert(
-            kind,
+        let length = vector_conversion::convert(
+            self.kind,
             self.n,
-            &entries[..count],
+            self.entries(),
             target,
             &mut cells,
-        );
-        match written {
-            Err(refusal) => Converted {
-                vector: Vector {
-                    kind: Kind::PathCounts,
-                    n: 0,
-                    length: 0,
-                    entries: [0i64; 17],
-                },
-                verdict: Err(refusal),
-            },
-            Ok(length) => Converted {
-                vector: Vector {
-                    kind: target,
-                    n: self.n,
-                    length,
-                    entries: cells,
-                },
-                verdict: Ok(()),
-            },
-        }
+        )?;
+        Ok(Vector {
+            kind: target,
+            n: self.n,
+            length,
+            entries: cells,
+        })
     }
 }
 
 // Whether a vector whose kind comes as a number is accepted.
+#[tactic(auto, using(vector_kind::proofs::KindNumbers::kind_given, vector_kind::proofs::KindNumbers::kind_refused))]
 pub fn judge_numbered(kind: u8, n: usize, entries: &[i64]) -> Result<(), Refusal>
     ensures { result ≡ kind_refusal kind (vector_refusal (kind_of kind) n entries.now) }
 {
-    if vector_kind::is_kind(kind) {
-        return vector_conversion::judge(vector_kind::kind_of(kind), n, entries);
-    }
-    Err(Reason::WrongKind.at(0))
+    vector_conversion::judge(Kind::try_from(kind)?, n, entries)
 }
 
 // A vector as one of another kind, into a lent buffer, where both kinds come as numbers.
+#[tactic(auto, using(vector_kind::proofs::KindNumbers::kind_given, vector_kind::proofs::KindNumbers::kind_refused))]
 pub fn convert_numbered(
     kind: u8,
     n: usize,
@@ -97,28 +77,7 @@ pub fn convert_numbered(
 ) -> Result<usize, Refusal>
     ensures { outcome result cells.new ≡ delivered (kind_refusal kind (kind_refusal target (vector_refusal (kind_of kind) n entries.now))) (converted (kind_of target) (kind_of kind) n entries.now) cells.old }
 {
-    if vector_kind::is_kind(kind) {
-        if vector_kind::is_kind(target) {
-            return vector_conversion::convert(
-                vector_kind::kind_of(kind),
-                n,
-                entries,
-                vector_kind::kind_of(target),
-                cells,
-            );
-        }
-        return Err(Reason::WrongKind.at(0));
-    }
-    Err(Reason::WrongKind.at(0))
-}
-
-// How many cells of a vector are looked at: as many as it has entries, and none where it claims more than there are cells, since that length is
-// wrong for every kind.
-fn lent(length: usize) -> usize
-    ensures { result ≡ lent_cells length }
-{
-    if 17 < length {
-        return 0;
-    }
-    length
+    let kind = Kind::try_from(kind)?;
+    let target = Kind::try_from(target)?;
+    vector_conversion::convert(kind, n, entries, target, cells)
 }

@@ -9,7 +9,8 @@ use lib.IntN.{ℤ}
 use lib.ListN.{length}
 use borrow.Author.Tests.{leb-true, le-leb, eq-eqb, ne_eqb}
 use Rattle.std.specs.Prelude.{Ok, Err}
-use Rattle.answer.specs.Outcome.{at}
+use Rattle.answer.specs.Outcome.{at, Verdict}
+use Rattle.answer.specs.declared.Reason.{Reason}
 use Rattle.answer.specs.declared.Refusal.{Refusal}
 use Rattle.answer.specs.declared.Reason.TheVariants.{WrongPartCount, WrongVectorLength, WrongPathCount, FallingProportion}
 use Rattle.answer.proofs.Outcomes.{refuse_held, refuse_passed}
@@ -81,3 +82,7 @@ module _ (kind : Kind) (n : ℕ) (entries : List ℤ) where
               sym (passed ∙ refuse_passed _ WrongPathCount (least (wrong_count n (stands_for kind n entries)) (suc n)) _ none_wrong
               ∙ refuse_passed _ FallingProportion (least (falls n (counts_of kind n entries)) n) (Ok tt)
               (any_false (falls n (counts_of kind n entries)) n (λ j l w. clash w (below j (omega arith)))))
+
+-- a refusal is no acceptance
+pub refused-other {ℓ} : {A : Type ℓ} (verdict : Verdict) (reason : Reason) (place : ℕ) → verdict ≡ Err (at reason place) → verdict ≡ Ok tt → A
+refused-other verdict reason place refused accepted = let clash : ◌≡◌ {A = ℕ} 0 1 = cc in absurd (omega arith)

@@ -7,6 +7,7 @@ use Prim.Native.Nat.{ℕ, ◌≤◌}
 use lib.IntN.{ℤ, pos}
 use lib.ListN.{length, take, replicate}
 use Rattle.std.specs.Prelude.{Ok}
+use Rattle.std.proofs.lemmas.Result.{err_from_is_err_and}
 use Rattle.answer.specs.Outcome.{outcome, delivered, Numbered, Verdict}
 use Rattle.answer.proofs.Deliveries.{Given, given, refused_kept, refused_by}
 use Rattle.vector.specs.InStruct.{most_entries}
@@ -41,23 +42,22 @@ module _ (kind : Kind) (n : ℕ) (entries : List ℤ) (target : Kind) (count : �
 pub write_numbers-length-requires : goal.write_numbers-length-requires
 write_numbers-length-requires c =
     let a = c.args in
-    short a.kind a.n a.entries.now a.target c.in-Ok.count c.convert-converted.new.cells
-    (ap (λ (answer : Numbered). outcome answer c.convert-converted.new.cells) (sym c.in-Ok.is) ∙ c.convert-converted.ensures)
+    short a.kind a.n a.entries.now a.target c.in_ok-count.count c.convert.new.cells
+    (ap (λ (said : Numbered). outcome said c.convert.new.cells) (sym c.in_ok-count.was) ∙ c.convert.ensures)
 
-pub returns-in-Err : goal.returns-in-Err
-returns-in-Err c =
+pub returns-in_err-count : goal.returns-in_err-count
+returns-in_err-count c =
     let a = c.args in
-    let judged = vector_refusal a.kind a.n a.entries.now in
-    refused_kept judged (sheet_as a.target a.kind a.n a.entries.now) a.buffer.now _
-    (refused_by judged (converted a.target a.kind a.n a.entries.now) (replicate most_entries (pos 0)) c.convert-converted.new.cells _
-    (converted_fits a.target a.kind a.n a.entries.now)
-    (ap (λ (answer : Numbered). outcome answer c.convert-converted.new.cells) (sym c.in-Err.is) ∙ c.convert-converted.ensures))
+    let p = err_from_is_err_and c.from_residual.result c.from_residual.ensures.1 in
+    rw (p.1, p.2)
+    (refused_kept (vector_refusal a.kind a.n a.entries.now) (sheet_as a.target a.kind a.n a.entries.now) a.buffer.now _
+    (refused_by _ _ (replicate most_entries (pos 0)) c.convert.new.cells _ (converted_fits a.target a.kind a.n a.entries.now)
+    (ap (λ (said : Numbered). outcome said c.convert.new.cells) (sym c.in_err-count.was) ∙ c.convert.ensures)))
 
-pub returns-in-Ok : goal.returns-in-Ok
-returns-in-Ok c =
+pub returns : goal.returns
+returns c =
     let a = c.args in
-    let cells = c.convert-converted.new.cells in
     c.hand_out.ensures
-    ∙ handed a.kind a.n a.entries.now a.target c.in-Ok.count cells
-    (ap (λ (answer : Numbered). outcome answer cells) (sym c.in-Ok.is) ∙ c.convert-converted.ensures)
+    ∙ handed a.kind a.n a.entries.now a.target c.in_ok-count.count c.convert.new.cells
+    (ap (λ (said : Numbered). outcome said c.convert.new.cells) (sym c.in_ok-count.was) ∙ c.convert.ensures)
     c.write_numbers-length.result c.write_numbers-length.new.buffer a.buffer.now c.write_numbers-length.ensures

@@ -14,6 +14,7 @@ use Rattle.std.specs.Prelude.{Ok, Err}
 use Rattle.answer.specs.declared.Reason.TheVariants.{BytesLeft}
 use Rattle.answer.specs.Outcome.{at, Verdict}
 use Rattle.answer.specs.declared.Refusal.{Refusal}
+use Rattle.codec.specs.declared.Standing.{Standing}
 use Rattle.codec.specs.declared.Field.{Field}
 use Rattle.codec.specs.Fields.{top}
 use Rattle.codec.specs.ByteForm.{bytes_of}
@@ -151,6 +152,14 @@ module _ {A : Type 0} where
   pub answer_refused : (r : Read A) (why : Refusal) → Err why ≡ reading_of r → r ≡ refused why
   unfolding read_back
   answer_refused r why e = sym (ap read_back e ∙ read_again r)
+
+-- what a `?` hands on, and what stands behind it
+module _ {A B C : Type 0} (r : Read A) (k : A → ℕ → Read B) (form : Read B → C) where
+  pub handed_on : (why : Refusal) → Err why ≡ reading_of r → form (refused why) ≡ form (then r k)
+  handed_on why e = sym (ap (λ (x : Read A). form (then x k)) (answer_refused r why e))
+
+  pub gone_on : (here : Standing A) → Ok here ≡ reading_of r → form (k here.value here.next) ≡ form (then r k)
+  gone_on here e = sym (ap (λ (x : Read A). form (then x k)) (answer_number r here.value here.next e))
 
 module _ (bytes : List ℕ) (start : ℕ) (field : Field) (refusal : ℕ → Verdict) {r : Reading ℕ} (read : r ≡ reading_of (number_at bytes start field)) where
   -- no number

@@ -8,13 +8,10 @@ use Rattle.std.specs.Prelude.{Ok, Err}
 use Rattle.answer.specs.Outcome.{Verdict}
 use Rattle.answer.specs.declared.Refusal.{Refusal}
 use Rattle.record_parts.specs.declared.PartList.{PartList}
-use Rattle.record_head.specs.declared.Parts.{Parts}
-use Rattle.record_head.specs.declared.Heading.{Heading}
 use Rattle.codec.specs.declared.Field.TheVariants.{Count}
 use Rattle.codec.specs.Reads.{Read, found, refused}
 use Rattle.codec.specs.FieldReads.{field_at}
-use Rattle.record_head.specs.Headings.{set_count_refusal, parts_at, Head, head_at, heading_of}
-use Rattle.record_head.specs.Inside.{parts_of}
+use Rattle.record_head.specs.Headings.{set_count_refusal, parts_at, Head, head_at}
 use Rattle.record_numbers.specs.Numbering.{most_parts}
 use Rattle.codec.proofs.Found.{then_found}
 use Rattle.record_head.proofs.PartNumbers.{parts_few}
@@ -22,27 +19,6 @@ use Rattle.record_head.proofs.PartNumbers.{parts_few}
 -- an accepting verdict is no refusal
 pub not_both : {A : Type 0} {v : Verdict} {why : Refusal} → v ≡ Ok tt → v ≡ Err why → A
 not_both a b = let z : ◌≡◌ {A = ℕ} 0 1 = cc in absurd (omega arith)
-
--- a part list
-pub parts_given : (read : Read PartList) (parts : Parts) → parts ≡ parts_of read → parts.verdict ≡ Ok tt → read ≡ found parts.list parts.next
-parts_given (found list next) parts e v = ap₂ (λ (l : PartList) (k : ℕ). found l k) (sym (ap (λ (p : Parts). p.list) e)) (sym (ap (λ (p : Parts). p.next) e))
-parts_given (refused why) parts e v = not_both v (ap (λ (p : Parts). p.verdict) e)
-
-pub parts_refused : (read : Read PartList) (parts : Parts) (why : Refusal) → parts ≡ parts_of read → parts.verdict ≡ Err why → read ≡ refused why
-parts_refused (found list next) parts why e v = not_both (ap (λ (p : Parts). p.verdict) e) v
-parts_refused (refused r) parts why e v = let same : Err r ≡ Err why = sym (ap (λ (p : Parts). p.verdict) e) ∙ v in cc same
-
--- what stands before the sets
-pub heading_given : (read : Read Head) (h : Heading) → h ≡ heading_of read → h.verdict ≡ Ok tt → read ≡ found (record { parts = h.list; count = h.sets }) h.begin
-heading_given (found head begin) h e v =
-    ap₂ (λ (x : Head) (k : ℕ). found x k)
-    (ap₂ (λ (l : PartList) (k : ℕ). record { parts = l; count = k }) (sym (ap (λ (p : Heading). p.list) e)) (sym (ap (λ (p : Heading). p.sets) e)))
-    (sym (ap (λ (p : Heading). p.begin) e))
-heading_given (refused why) h e v = not_both v (ap (λ (p : Heading). p.verdict) e)
-
-pub heading_refused : (read : Read Head) (h : Heading) (why : Refusal) → h ≡ heading_of read → h.verdict ≡ Err why → read ≡ refused why
-heading_refused (found head begin) h why e v = not_both (ap (λ (p : Heading). p.verdict) e) v
-heading_refused (refused r) h why e v = let same : Err r ≡ Err why = sym (ap (λ (p : Heading). p.verdict) e) ∙ v in cc same
 
 -- ---- what stands before the sets, from its parts
 

@@ -1,8 +1,9 @@
 -- What stands before the sets of a design record, at bytes from a position on (01, "Records on disk"), or which refusal at which place: each
 -- number is judged as it is read, and places are counted in the whole input.
-use Rattle.std.specs.Prelude.{List, [], ◌∷◌, ℕ, ltb, eqb, Ok, Err}
+use Rattle.std.specs.Prelude.{List, [], ◌∷◌, ℕ, ltb, eqb, Result, Ok, Err}
 use Rattle.answer.specs.declared.Reason.TheVariants.{EmptyList, LongList, WrongPartNumber}
 use Rattle.answer.specs.Outcome.{refuse, Verdict}
+use Rattle.answer.specs.declared.Refusal.{Refusal}
 use Rattle.answer.specs.Checks.{part_count_refusal}
 use Rattle.codec.specs.declared.Field.TheVariants.{Count, PartNumber}
 use Rattle.codec.specs.Reads.{Read, found, refused, then}
@@ -65,7 +66,7 @@ head_at bytes start =
     then (field_at bytes next Count (set_count_refusal next)) (λ count after.
     found (record { parts = parts; count = count }) after))
 
--- what stands before the sets, or the refusal beside a list of no parts
-abbrev pub heading_of : Read Head → Heading
-heading_of (found head begin) = record { list = head.parts; sets = head.count; begin = begin; verdict = (Ok tt) }
-heading_of (refused refusal) = record { list = list_of 0 []; sets = 0; begin = 0; verdict = Err refusal }
+-- how it is answered
+abbrev pub heading_of : Read Head → Result Heading Refusal
+heading_of (found head begin) = Ok (record { list = head.parts; sets = head.count; begin = begin })
+heading_of (refused refusal) = Err refusal

@@ -6,47 +6,45 @@ use mathlib.Core.List.{List, []}
 use Prim.Native.Nat.{ℕ, ◌≤◌}
 use native.Mathlib.Omega.{arith}
 use borrow.Author.Tests.{ltb-false}
-use lib.ListN.{length}
 use Rattle.std.specs.Prelude.{Ok, Err}
 use Rattle.numbers.proofs.Bools.{or_left, or_right}
 use Rattle.answer.specs.declared.Reason.TheVariants.{WrongRetired}
 use Rattle.answer.specs.Outcome.{at}
 use Rattle.answer.specs.declared.Refusal.{Refusal}
 use Rattle.answer.proofs.Outcomes.{refuse_accepted, refuse_held, refuse_passed}
+use Rattle.codec.specs.declared.Standing.{Standing}
 use Rattle.codec.specs.declared.Field.TheVariants.{Count, PartNumber}
 use Rattle.codec.specs.Reads.{Read, found, refused, answered}
 use Rattle.codec.specs.FieldReads.{field_at, fields_at}
-use Rattle.codec.proofs.Found.{answer_number, field_checked}
+use Rattle.codec.proofs.Found.{field_checked}
 use Rattle.record_numbers.specs.Numbering.{misnumbered, names}
-use Rattle.record_head.proofs.Answers.{not_both}
 use Rattle.record_retired.specs.declared.Retired.{Retired}
 use Rattle.record_retired.specs.Retired.{most_retired, retired_of}
-use Rattle.record_tail.specs.declared.Tail.{Tail}
 use Rattle.record_tail.specs.Tails.{retired_count_refusal, retired_refusal, retired_judge, retired_at, counts_at, tail_at, tail_of}
-use Rattle.record_tail.specs.Inside.{counted_of}
+use Rattle.record_tail.specs.Inside.{position_after}
 
 -- the retired numbers that an accepting answer speaks of
-pub record TailGiven (read : Read (List ℕ)) (tail : Tail) : Type 0 where
+pub record TailGiven (read : Read (List ℕ)) (tail : Standing Retired) : Type 0 where
   pub retired : List ℕ
   pub given : read ≡ found retired tail.next
-  pub cells : tail.retired ≡ retired_of retired
+  pub cells : tail.value ≡ retired_of retired
 
-pub tail_given : (read : Read (List ℕ)) (tail : Tail) → tail ≡ tail_of read → tail.verdict ≡ Ok tt → TailGiven read tail
-tail_given (found retired next) tail e v =
-    record { retired = retired; given = ap (found retired) (sym (ap (λ (t : Tail). t.next) e)); cells = ap (λ (t : Tail). t.retired) e }
-tail_given (refused why) tail e v = not_both v (ap (λ (t : Tail). t.verdict) e)
+pub tail_given : (read : Read (List ℕ)) (tail : Standing Retired) → Ok tail ≡ tail_of read → TailGiven read tail
+tail_given (found retired next) tail e =
+    let same : tail ≡ record { value = retired_of retired; next = next } = cc e in
+    record { retired = retired; given = ap (found retired) (sym (ap (λ (t : Standing Retired). t.next) same)); cells = ap (λ (t : Standing Retired). t.value) same }
+tail_given (refused why) tail e = let z : ◌≡◌ {A = ℕ} 0 1 = cc in absurd (omega arith)
 
-pub tail_refused : (read : Read (List ℕ)) (tail : Tail) (why : Refusal) → tail ≡ tail_of read → tail.verdict ≡ Err why → read ≡ refused why
-tail_refused (found retired next) tail why e v = not_both (ap (λ (t : Tail). t.verdict) e) v
-tail_refused (refused r) tail why e v = let same : Err r ≡ Err why = sym (ap (λ (t : Tail). t.verdict) e) ∙ v in cc same
+pub tail_refused : (read : Read (List ℕ)) (why : Refusal) → Err why ≡ tail_of read → read ≡ refused why
+tail_refused (found retired next) why e = let z : ◌≡◌ {A = ℕ} 0 1 = cc in absurd (omega arith)
+tail_refused (refused r) why e = let same : r ≡ why = cc e in ap refused same
 
 -- the counts
-pub counts_given : (read : Read (List ℕ)) (value next : ℕ) → answered value next ≡ counted_of read → (same : List ℕ) × (read ≡ found same next)
-counts_given (found numbers end) value next e = let same : found (length numbers) end ≡ found value next = answer_number (found (length numbers) end) value next e in
-    let ends : end ≡ next = cc same in (numbers, ap (found numbers) ends)
-counts_given (refused why) value next e = let z : ◌≡◌ {A = ℕ} 0 1 = cc in absurd (omega arith)
+pub counts_given : (read : Read (List ℕ)) (next : ℕ) → Ok next ≡ position_after read → (same : List ℕ) × (read ≡ found same next)
+counts_given (found numbers end) next e = let ends : end ≡ next = cc e in (numbers, ap (found numbers) ends)
+counts_given (refused why) next e = let z : ◌≡◌ {A = ℕ} 0 1 = cc in absurd (omega arith)
 
-pub counts_refused : (read : Read (List ℕ)) (why : Refusal) → Err why ≡ counted_of read → read ≡ refused why
+pub counts_refused : (read : Read (List ℕ)) (why : Refusal) → Err why ≡ position_after read → read ≡ refused why
 counts_refused (found numbers end) why e = let z : ◌≡◌ {A = ℕ} 0 1 = cc in absurd (omega arith)
 counts_refused (refused r) why e = let same : r ≡ why = cc e in ap refused same
 
@@ -89,6 +87,6 @@ module _ (bytes : List ℕ) (mark : ℕ) (in_use : List ℕ) (start : ℕ) where
       tail_no_counts why d = rw (e, d)
 
       pub tail_whole : (cells : Retired) (same : List ℕ) (end : ℕ) → cells ≡ retired_of retired → counts_at bytes counts next ≡ found same end
-          → record { retired = cells; next = end; verdict = (Ok tt) } ≡ tail_of (tail_at bytes mark in_use counts start)
+          → answered cells end ≡ tail_of (tail_at bytes mark in_use counts start)
       unfolding tail_at
-      tail_whole cells same end r d = ap (λ (k : Retired). record { retired = k; next = end; verdict = (Ok tt) }) r ∙ rw (e, d)
+      tail_whole cells same end r d = ap (λ (k : Retired). answered k end) r ∙ rw (e, d)

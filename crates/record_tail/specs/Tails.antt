@@ -5,12 +5,12 @@ use Rattle.std.specs.Prelude.{not, ◌||◌, List, [], ℕ, ltb, eqb, length, ge
 use Rattle.answer.specs.declared.Reason.TheVariants.{WrongRetired, DifferentCount}
 use Rattle.answer.specs.Outcome.{refuse, Verdict}
 use Rattle.codec.specs.declared.Field.TheVariants.{Count, PartNumber}
-use Rattle.codec.specs.Reads.{Read, found, refused, then}
+use Rattle.codec.specs.Reads.{Read, found, refused, then, Reading, answered}
 use Rattle.codec.specs.FieldReads.{field_at, Judge, fields_at}
 use Rattle.record_numbers.specs.Numbering.{misnumbered, names}
 use Rattle.record_head.specs.Headings.{last_number}
+use Rattle.record_retired.specs.declared.Retired.{Retired}
 use Rattle.record_retired.specs.Retired.{most_retired, retired_of}
-use Rattle.record_tail.specs.declared.Tail.{Tail}
 
 -- ---- the checks, with the number's first byte as place
 
@@ -52,7 +52,7 @@ tail_at bytes mark in_use counts start =
     then (counts_at bytes counts next) (λ same end.
     found retired end))
 
--- the retired numbers and the position after the path counts; or the refusal, beside no numbers
-abbrev pub tail_of : Read (List ℕ) → Tail
-tail_of (found retired next) = record { retired = retired_of retired; next = next; verdict = (Ok tt) }
-tail_of (refused refusal) = record { retired = retired_of []; next = 0; verdict = Err refusal }
+-- how it is answered: the retired numbers and the position after the path counts, or the refusal
+abbrev pub tail_of : Read (List ℕ) → Reading Retired
+tail_of (found retired next) = answered (retired_of retired) next
+tail_of (refused refusal) = Err refusal

@@ -1,32 +1,34 @@
 -- `record_tail::read_count` meets its contract: 21 and 22 come from the number, and then 31 is asked.
 -- Assumes nothing.
-use mathlib.Core.Path.{ap, ◌∙◌}
+use mathlib.Core.Path.{sym, ap, ◌∙◌}
 use mathlib.Core.Bool.{not}
 use borrow.Author.Tests.{eq-eqb, ne_eqb}
-use Rattle.std.specs.Prelude.{Err}
+use Rattle.std.proofs.Common.{Ok, Err}
+use Rattle.std.proofs.lemmas.Result.{err_from_is_err_and}
 use Rattle.answer.specs.declared.Reason.TheVariants.{DifferentCount}
 use Rattle.answer.specs.Outcome.{at}
 use Rattle.answer.proofs.Outcomes.{refuse_held, refuse_passed}
 use Rattle.codec.specs.declared.Field.TheVariants.{Count}
 use Rattle.codec.specs.Reads.{reading_of}
-use Rattle.codec.proofs.Found.{field_ended, field_passed, field_held}
 use Rattle.record_tail.specs.Tails.{count_refusal}
+use Rattle.codec.proofs.Found.{field_ended, field_passed, field_held}
 use Rattle.record_tail.proofs.read_count.Goals as goal
 
-pub returns-then-value-right : goal.returns-then-value-right
-returns-then-value-right c =
+pub returns-in_err-count : goal.returns-in_err-count
+returns-in_err-count c =
     let a = c.args in
-    (ap Err c.at.ensures)
-    ∙ ap reading_of (field_held a.bytes.now a.start Count (count_refusal a.right a.start) c.read_number-number.ensures _ _ (at DifferentCount a.start) c.in-Ok.is
-    (refuse_held _ DifferentCount a.start _ (ap not (ne_eqb _ _ c.if-value-right.true))))
+    let p = err_from_is_err_and c.from_residual.result c.from_residual.ensures.1 in
+    rw (p.1, p.2) (ap reading_of (field_ended a.bytes.now a.start Count (count_refusal a.right a.start) c.read_number.ensures _ c.in_err-count.was))
 
-pub returns-in-Err : goal.returns-in-Err
-returns-in-Err c =
+pub returns-then-count-right : goal.returns-then-count-right
+returns-then-count-right c =
     let a = c.args in
-    ap reading_of (field_ended a.bytes.now a.start Count (count_refusal a.right a.start) c.read_number-number.ensures _ c.in-Err.is)
+    ap Err c.at.ensures
+    ∙ ap reading_of (field_held a.bytes.now a.start Count (count_refusal a.right a.start) c.read_number.ensures _ _ (at DifferentCount a.start) c.in_ok-count.was
+    (refuse_held _ DifferentCount a.start _ (ap not (ne_eqb _ _ c.if-count-right.true))))
 
-pub returns-else-value-right : goal.returns-else-value-right
-returns-else-value-right c =
+pub returns : goal.returns
+returns c =
     let a = c.args in
-    ap reading_of (field_passed a.bytes.now a.start Count (count_refusal a.right a.start) c.read_number-number.ensures _ _ c.in-Ok.is
-    (refuse_passed _ DifferentCount a.start _ (ap not (eq-eqb _ _ c.if-value-right.false))))
+    ap reading_of (field_passed a.bytes.now a.start Count (count_refusal a.right a.start) c.read_number.ensures _ _ c.in_ok-count.was
+    (refuse_passed _ DifferentCount a.start _ (ap not (eq-eqb _ _ c.if-count-right.false))))

@@ -12,8 +12,5 @@ use Rattle.record_tail.proofs.read_counts.Given as goal
 -- `record_tail::read_counts` meets its contract. The loop's invariant: it walks along the path counts that have to stand there, and those so far
 -- stood there. The measure is the counts left.
 -- Assumes nothing.
-abbrev pub invariant-loop-index : goal.invariant-loop-index
-invariant-loop-index l = (earlier : List ℕ) × FieldsWalk l.bytes Count (count_judge l.counts) (length l.counts) l.start earlier l.next l.index
-
-abbrev pub decreases-loop-index : goal.decreases-loop-index
-decreases-loop-index l = length l.counts - l.index
+abbrev pub invariant-loop-right : goal.invariant-loop-right
+invariant-loop-right l = (earlier : List ℕ) × FieldsWalk l.bytes Count (count_judge l.counts) (length l.counts) l.start earlier l.next l.right-index

@@ -70,11 +70,10 @@ struct SetsRead {
 pub fn read_with_words(bytes: &[u8], start: usize) -> WithWords
     ensures { result ≡ with_words_of (record_at bytes.now start) }
 {
-    let heading = record_head::read_heading(bytes, start);
-    let verdict = heading.verdict;
-    match verdict {
+    let head = record_head::read_heading(bytes, start);
+    match head {
         Err(refusal) => refused_with_words(refusal.reason, refusal.place),
-        Ok(()) => {
+        Ok(heading) => {
             let list = heading.list;
             let sets = heading.sets;
             let begin = heading.begin;

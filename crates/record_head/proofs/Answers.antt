@@ -11,7 +11,8 @@ use Rattle.record_parts.specs.declared.PartList.{PartList}
 use Rattle.codec.specs.declared.Field.TheVariants.{Count}
 use Rattle.codec.specs.Reads.{Read, found, refused}
 use Rattle.codec.specs.FieldReads.{field_at}
-use Rattle.record_head.specs.Headings.{set_count_refusal, parts_at, Head, head_at}
+use Rattle.record_head.specs.declared.Heading.{Heading}
+use Rattle.record_head.specs.Headings.{set_count_refusal, parts_at, Head, head_at, heading_of}
 use Rattle.record_numbers.specs.Numbering.{most_parts}
 use Rattle.codec.proofs.Found.{then_found}
 use Rattle.record_head.proofs.PartNumbers.{parts_few}
@@ -19,6 +20,17 @@ use Rattle.record_head.proofs.PartNumbers.{parts_few}
 -- an accepting verdict is no refusal
 pub not_both : {A : Type 0} {v : Verdict} {why : Refusal} → v ≡ Ok tt → v ≡ Err why → A
 not_both a b = let z : ◌≡◌ {A = ℕ} 0 1 = cc in absurd (omega arith)
+
+-- what stands before the sets, from its answer
+pub heading_given : (read : Read Head) (h : Heading) → Ok h ≡ heading_of read → read ≡ found (record { parts = h.list; count = h.sets }) h.begin
+heading_given (found head begin) h e =
+    let same : record { list = head.parts; sets = head.count; begin = begin } ≡ h = cc e in
+    ap (λ (x : Heading). found (record { parts = x.list; count = x.sets }) x.begin) same
+heading_given (refused why) h e = let z : ◌≡◌ {A = ℕ} 0 1 = cc in absurd (omega arith)
+
+pub heading_refused : (read : Read Head) (why : Refusal) → Err why ≡ heading_of read → read ≡ refused why
+heading_refused (found head begin) why e = let z : ◌≡◌ {A = ℕ} 0 1 = cc in absurd (omega arith)
+heading_refused (refused r) why e = let same : r ≡ why = cc e in ap refused same
 
 -- ---- what stands before the sets, from its parts
 

@@ -11,9 +11,9 @@ use Rattle.record.proofs.read_with_words.Goals.{In-Ok}
 
 -- what stands before the sets, which was read
 head : (c : In-Ok) → head_at c.args.bytes.now c.args.start
-    ≡ found (record { parts = c.read_heading-heading.result.list; count = c.read_heading-heading.result.sets }) c.read_heading-heading.result.begin
+    ≡ found (record { parts = c.in-Ok.heading.list; count = c.in-Ok.heading.sets }) c.in-Ok.heading.begin
 head c =
-    heading_given _ c.read_heading-heading.result c.read_heading-heading.ensures c.in-Ok.is
+    heading_given _ _ (sym c.in-Ok.is ∙ c.read_heading-head.ensures)
 
 pub read_sets-read-requires : goal.read_sets-read-requires
 read_sets-read-requires c =
@@ -24,7 +24,7 @@ pub returns-in-Err : goal.returns-in-Err
 returns-in-Err c =
     let a = c.args in
     c.refused_with_words.ensures
-    ∙ sym (ap with_words_of (record_no_head a.bytes.now a.start _ (heading_refused _ c.read_heading-heading.result _ c.read_heading-heading.ensures c.in-Err.is)))
+    ∙ sym (ap with_words_of (record_no_head a.bytes.now a.start _ (heading_refused _ _ (sym c.in-Err.is ∙ c.read_heading-head.ensures))))
 
 pub returns-in-Err-judged : goal.returns-in-Err-judged
 returns-in-Err-judged c =
@@ -35,6 +35,6 @@ returns-in-Err-judged c =
 pub returns-in-Ok-judged : goal.returns-in-Ok-judged
 returns-in-Ok-judged c =
     let a = c.args in
-    let heading = c.read_heading-heading.result in
+    let heading = c.in-Ok.heading in
     let sets = sets_given _ _ c.read_sets-read.result c.read_sets-read.ensures c.in-Ok-judged.is in
     record_given a.bytes.now a.start (record { parts = heading.list; count = heading.sets }) heading.begin sets.sets _ _ (head (goal.at.returns-in-Ok-judged c).In-Ok) sets.given sets.words

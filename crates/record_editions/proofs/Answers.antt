@@ -22,7 +22,7 @@ use Rattle.record_parts.specs.PartLists.{numbers_of}
 use Rattle.record_parts.proofs.WellFormed.{cells_enough}
 use Rattle.record_head.proofs.Answers.{not_both}
 use Rattle.record_retired.specs.declared.Retired.{Retired}
-use Rattle.record_tail.specs.declared.Tail.{Tail}
+use Rattle.codec.specs.declared.Standing.{Standing}
 use Rattle.record_tail.specs.Tails.{tail_at, tail_of}
 use Rattle.record_tail.proofs.Answers.{tail_given, tail_refused}
 use Rattle.record.specs.declared.WithWords.{WithWords}
@@ -129,13 +129,13 @@ module _ (bytes : List ℕ) (start : ℕ) (w : WithWords) where
 
 -- ---- what stands behind the body
 
-module _ (w : WithWords) (tail : Tail) (read : Read (List ℕ)) (e : tail ≡ tail_of read) where
-  pub behind_refused : (why : Refusal) → tail.verdict ≡ Err why → first_read (with_words_of (refused why)) ≡ second_read w read
-  behind_refused why v = sym (ap (second_read w) (tail_refused read tail why e v))
+module _ (w : WithWords) (read : Read (List ℕ)) where
+  pub behind_refused : (why : Refusal) → Err why ≡ tail_of read → first_read (with_words_of (refused why)) ≡ second_read w read
+  behind_refused why e = sym (ap (second_read w) (tail_refused read why e))
 
-  pub behind_given : tail.verdict ≡ Ok tt → record { body = record { contents = record { list = w.contents.list; sets = w.contents.sets; begin = w.contents.begin; end = w.contents.end; next = tail.next; verdict = (Ok tt) }; words = w.words }; edition = Second; retired = tail.retired } ≡ second_read w read
-  behind_given v =
-      let g = tail_given read tail e v in
+  pub behind_given : (tail : Standing Retired) → Ok tail ≡ tail_of read → record { body = record { contents = record { list = w.contents.list; sets = w.contents.sets; begin = w.contents.begin; end = w.contents.end; next = tail.next; verdict = (Ok tt) }; words = w.words }; edition = Second; retired = tail.value } ≡ second_read w read
+  behind_given tail e =
+      let g = tail_given read tail e in
       ap (λ (r : Retired). record { body = record { contents = record { list = w.contents.list; sets = w.contents.sets; begin = w.contents.begin; end = w.contents.end; next = tail.next; verdict = (Ok tt) }; words = w.words }; edition = Second; retired = r }) g.cells
       ∙ sym (ap (second_read w) g.given)
 

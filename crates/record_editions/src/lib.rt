@@ -216,20 +216,18 @@ fn second_edition(bytes: &[u8], body: WithWords) -> StoredRead
         &numbers[..n],
         &counts[..n + 1],
     );
-    let verdict = tail.verdict;
-    match verdict {
+    match tail {
         Err(refusal) => first_edition(record::refused_with_words(
             refusal.reason,
             refusal.place,
         )),
-        Ok(()) => {
-            let retired = tail.retired;
+        Ok(behind) => {
             let whole = Contents {
                 list,
                 sets: contents.sets,
                 begin: contents.begin,
                 end: contents.end,
-                next: tail.next,
+                next: behind.next,
                 verdict: Ok(()),
             };
             StoredRead {
@@ -238,7 +236,7 @@ fn second_edition(bytes: &[u8], body: WithWords) -> StoredRead
                     words,
                 },
                 edition: Edition::Second,
-                retired,
+                retired: behind.value,
             }
         }
     }

@@ -41,9 +41,9 @@ pub returns-in-Err : goal.returns-in-Err
 returns-in-Err c =
     let a = c.args in
     c.first_edition.ensures ∙ ap first_read c.refused_with_words.ensures
-    ∙ behind_refused a.body c.read_tail-tail.result (behind_at a.bytes.now a.body) (tail_read (goal.at.returns-in-Err c).After-read_tail-tail) _ c.in-Err.is
+    ∙ behind_refused a.body (behind_at a.bytes.now a.body) _ (sym c.in-Err.is ∙ tail_read (goal.at.returns-in-Err c).After-read_tail-tail)
 
 pub returns-in-Ok : goal.returns-in-Ok
 returns-in-Ok c =
     let a = c.args in
-    behind_given a.body c.read_tail-tail.result (behind_at a.bytes.now a.body) (tail_read (goal.at.returns-in-Ok c).After-read_tail-tail) c.in-Ok.is
+    behind_given a.body (behind_at a.bytes.now a.body) _ (sym c.in-Ok.is ∙ tail_read (goal.at.returns-in-Ok c).After-read_tail-tail)

@@ -16,48 +16,33 @@ use answer::Refusal;
 pub fn table_of_cuts(n: usize, cuts: &[u16], table: &mut [u8]) -> Result<usize, Refusal>
     ensures { outcome result table.new ≡ delivered (list_refusal n cuts.now) (table_of n (by_cuts n cuts.now)) table.old }
 {
-    let checked = structure::list_verdict(n, cuts);
-    match checked {
-        Err(refusal) => Err(refusal),
-        Ok(()) => {
-            let listed = structure_words::marked(cuts);
-            let stopping = structure_closure::spread(&listed, n);
-            // The dual's dual is the machine: what the cut sets cut are its path sets.
-            let running = cut_sets(&stopping, n);
-            structure::hand_out_table(n, &running, table)
-        }
-    }
+    structure::list_verdict(n, cuts)?;
+    let listed = structure_words::marked(cuts);
+    let stopping = structure_closure::spread(&listed, n);
+    // The dual's dual is the machine: what the cut sets cut are its path sets.
+    let running = cut_sets(&stopping, n);
+    structure::hand_out_table(n, &running, table)
 }
 
 // The minimal cut sets of a table, ascending, into a lent buffer.
 pub fn minimal_cuts(n: usize, table: &[u8], cuts: &mut [u16]) -> Result<usize, Refusal>
     ensures { outcome result cuts.new ≡ delivered (table_refusal n table.now) (minimal_cuts n (in_table table.now)) cuts.old }
 {
-    let checked = structure::table_verdict(n, table);
-    match checked {
-        Err(refusal) => Err(refusal),
-        Ok(()) => {
-            let loaded = structure_words::load(table);
-            let stopping = cut_sets(&loaded, n);
-            let minimal = structure_closure::irredundant(&stopping, n);
-            structure_words::list(&minimal, cuts)
-        }
-    }
+    structure::table_verdict(n, table)?;
+    let loaded = structure_words::load(table);
+    let stopping = cut_sets(&loaded, n);
+    let minimal = structure_closure::irredundant(&stopping, n);
+    structure_words::list(&minimal, cuts)
 }
 
 // The table of the dual, whose path sets are the cut sets, into a lent buffer.
 pub fn dual(n: usize, table: &[u8], buffer: &mut [u8]) -> Result<usize, Refusal>
     ensures { outcome result buffer.new ≡ delivered (table_refusal n table.now) (dual_table n table.now) buffer.old }
 {
-    let checked = structure::table_verdict(n, table);
-    match checked {
-        Err(refusal) => Err(refusal),
-        Ok(()) => {
-            let loaded = structure_words::load(table);
-            let stopping = cut_sets(&loaded, n);
-            structure::hand_out_table(n, &stopping, buffer)
-        }
-    }
+    structure::table_verdict(n, table)?;
+    let loaded = structure_words::load(table);
+    let stopping = cut_sets(&loaded, n);
+    structure::hand_out_table(n, &stopping, buffer)
 }
 
 // The cut sets of the structure of n parts that the words hold.

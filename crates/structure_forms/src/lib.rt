@@ -13,28 +13,18 @@ use answer::Refusal;
 pub fn table_of_list(n: usize, list: &[u16], table: &mut [u8]) -> Result<usize, Refusal>
     ensures { outcome result table.new ≡ delivered (list_refusal n list.now) (table_of n (listed list.now)) table.old }
 {
-    let checked = structure::list_verdict(n, list);
-    match checked {
-        Err(refusal) => Err(refusal),
-        Ok(()) => {
-            let listed = structure_words::marked(list);
-            let reached = structure_closure::spread(&listed, n);
-            structure::hand_out_table(n, &reached, table)
-        }
-    }
+    structure::list_verdict(n, list)?;
+    let listed = structure_words::marked(list);
+    let reached = structure_closure::spread(&listed, n);
+    structure::hand_out_table(n, &reached, table)
 }
 
 // The minimal path sets of a table, ascending, into a lent buffer.
 pub fn minimal_sets(n: usize, table: &[u8], sets: &mut [u16]) -> Result<usize, Refusal>
     ensures { outcome result sets.new ≡ delivered (table_refusal n table.now) (minimal_sets n (in_table table.now)) sets.old }
 {
-    let checked = structure::table_verdict(n, table);
-    match checked {
-        Err(refusal) => Err(refusal),
-        Ok(()) => {
-            let loaded = structure_words::load(table);
-            let minimal = structure_closure::irredundant(&loaded, n);
-            structure_words::list(&minimal, sets)
-        }
-    }
+    structure::table_verdict(n, table)?;
+    let loaded = structure_words::load(table);
+    let minimal = structure_closure::irredundant(&loaded, n);
+    structure_words::list(&minimal, sets)
 }

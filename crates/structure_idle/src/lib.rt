@@ -13,12 +13,7 @@ use answer::Refusal;
 pub fn idle_parts(n: usize, table: &[u8]) -> Result<usize, Refusal>
     ensures { result ≡ valued (table_refusal n table.now) (idle_parts n (in_table table.now)) }
 {
-    let checked = structure::table_verdict(n, table);
-    match checked {
-        Err(refusal) => Err(refusal),
-        Ok(()) => {
-            let loaded = structure_words::load(table);
-            Ok(structure_closure::idle_parts(&loaded, n))
-        }
-    }
+    structure::table_verdict(n, table)?;
+    let loaded = structure_words::load(table);
+    Ok(structure_closure::idle_parts(&loaded, n))
 }

@@ -6,7 +6,6 @@ use mathlib.Core.List.{List}
 use Prim.Native.Nat.{ℕ, min}
 use Rattle.std.specs.Prelude.{Ok}
 use Rattle.answer.specs.Outcome.{delivered, Verdict}
-use Rattle.answer.proofs.Deliveries.{refused_kept}
 use Rattle.theory_sets.specs.Masks.{those}
 use Rattle.theory_sets.specs.Tables.{in_table}
 use Rattle.theory_cuts.specs.Cuts.{minimal_cuts}
@@ -18,25 +17,19 @@ use Rattle.structure.proofs.Acceptance.{accepted_table}
 use Rattle.structure_cuts.specs.Inside.{cuts_within}
 use Rattle.structure_cuts.proofs.Walks.{minimal_cut_words}
 use Rattle.structure_cuts.proofs.minimal_cuts.Goals as goal
-use Rattle.structure_cuts.proofs.minimal_cuts.Goals.{In-Ok}
+use Rattle.structure_cuts.proofs.minimal_cuts.Goals.{In_ok-table_verdict}
 
-verdict : (c : In-Ok) → table_refusal c.args.n c.args.table.now ≡ Ok tt
-verdict c = sym c.table_verdict-checked.ensures ∙ c.in-Ok.is
+verdict : (c : In_ok-table_verdict) → table_refusal c.args.n c.args.table.now ≡ Ok tt
+verdict c = sym c.table_verdict.ensures ∙ c.in_ok-table_verdict.was
 
-accepted : (c : In-Ok) → AcceptedTable c.args.n c.args.table.now
+accepted : (c : In_ok-table_verdict) → AcceptedTable c.args.n c.args.table.now
 accepted c = accepted_table c.args.n c.args.table.now (verdict c)
 
 pub cut_sets-stopping-requires : goal.cut_sets-stopping-requires
-cut_sets-stopping-requires c = (accepted (goal.at.cut_sets-stopping-requires c).In-Ok).few
+cut_sets-stopping-requires c = (accepted (goal.at.cut_sets-stopping-requires c).In_ok-table_verdict).few
 
-pub returns-in-Err : goal.returns-in-Err
-returns-in-Err c =
-    let a = c.args in
-    refused_kept (table_refusal a.n a.table.now) (minimal_cuts a.n (in_table a.table.now)) a.cuts.now _
-    (sym c.table_verdict-checked.ensures ∙ c.in-Err.is)
-
-pub returns-in-Ok : goal.returns-in-Ok
-returns-in-Ok c =
+pub returns : goal.returns
+returns c =
     let a = c.args in
     let n = a.n in
     let works = in_table a.table.now in
@@ -45,5 +38,5 @@ returns-in-Ok c =
     c.list.ensures
     ∙ ap (λ (ws : List ℕ). delivered (Ok tt) (those (in_words ws) 65536) a.cuts.now)
     (c.irredundant-minimal.ensures ∙ ap (λ (ws : List ℕ). words_of (irredundant (min n 16) (in_words ws))) words)
-    ∙ ap (λ (xs : List ℕ). delivered (Ok tt) xs a.cuts.now) (minimal_cut_words n works (accepted (goal.at.returns-in-Ok c).In-Ok).few (accepted (goal.at.returns-in-Ok c).In-Ok).semicoherent)
-    ∙ ap (λ (v : Verdict). delivered v (minimal_cuts n works) a.cuts.now) (sym (verdict (goal.at.returns-in-Ok c).In-Ok))
+    ∙ ap (λ (xs : List ℕ). delivered (Ok tt) xs a.cuts.now) (minimal_cut_words n works (accepted (goal.at.returns c).In_ok-table_verdict).few (accepted (goal.at.returns c).In_ok-table_verdict).semicoherent)
+    ∙ ap (λ (v : Verdict). delivered v (minimal_cuts n works) a.cuts.now) (sym (verdict (goal.at.returns c).In_ok-table_verdict))

@@ -16,19 +16,13 @@ use Rattle.structure.proofs.Acceptance.{accepted_table}
 use Rattle.structure.proofs.Walks.{minimal_walk}
 use Rattle.structure_forms.proofs.minimal_sets.Goals as goal
 
-pub returns-in-Err : goal.returns-in-Err
-returns-in-Err c =
-    let a = c.args in
-    let table = a.table.now in
-    ap (λ (v : Verdict). delivered v (minimal_sets a.n (in_table table)) a.sets.now) (sym c.in-Err.is ∙ c.table_verdict-checked.ensures)
-
-pub returns-in-Ok : goal.returns-in-Ok
-returns-in-Ok c =
+pub returns : goal.returns
+returns c =
     let start = c in
     let n = start.args.n in
     let table = start.args.table.now in
     let sets = start.args.sets.now in
-    let verdict : table_refusal n table ≡ Ok tt = sym c.table_verdict-checked.ensures ∙ c.in-Ok.is in
+    let verdict : table_refusal n table ≡ Ok tt = sym c.table_verdict.ensures ∙ c.in_ok-table_verdict.was in
     let works = in_table table in
     c.list.ensures
     ∙ ap (λ (ws : List ℕ). delivered (Ok tt) (those (in_words ws) 65536) sets)

@@ -5,7 +5,6 @@ use mathlib.Core.List.{List}
 use Prim.Native.Nat.{ℕ, min}
 use Rattle.std.specs.Prelude.{Ok}
 use Rattle.answer.specs.Outcome.{delivered, Verdict}
-use Rattle.answer.proofs.Deliveries.{refused_kept}
 use Rattle.theory_sets.specs.Structures.{listed}
 use Rattle.numbers.proofs.Counts.{up_to_16_given}
 use Rattle.theory_sets.specs.Tables.{table_of, table_length}
@@ -16,18 +15,12 @@ use Rattle.structure.proofs.Acceptance.{AcceptedList, accepted_list}
 use Rattle.structure.proofs.Walks.{listed_walk}
 use Rattle.structure_forms.proofs.table_of_list.Goals as goal
 
-pub returns-in-Err : goal.returns-in-Err
-returns-in-Err c =
-    let a = c.args in
-    refused_kept (list_refusal a.n a.list.now) (table_of a.n (listed a.list.now)) a.table.now _
-    (sym c.list_verdict-checked.ensures ∙ c.in-Err.is)
-
-pub returns-in-Ok : goal.returns-in-Ok
-returns-in-Ok c =
+pub returns : goal.returns
+returns c =
     let a = c.args in
     let n = a.n in
     let table = a.table.now in
-    let verdict : list_refusal n a.list.now ≡ Ok tt = sym c.list_verdict-checked.ensures ∙ c.in-Ok.is in
+    let verdict : list_refusal n a.list.now ≡ Ok tt = sym c.list_verdict.ensures ∙ c.in_ok-list_verdict.was in
     let accepted : AcceptedList n a.list.now = accepted_list n a.list.now verdict in
     let result = table_of n (listed a.list.now) in
     let words : c.spread-reached.result ≡ words_of (spread (min n 16) (in_words (words_of (among a.list.now)))) =

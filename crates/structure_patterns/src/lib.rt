@@ -30,21 +30,19 @@ pub fn table_of_pattern(
 ) -> Result<usize, Refusal>
     ensures { outcome result table.new ≡ delivered (pattern_refusal n k) (table_of n (patterned pattern n k)) table.old }
 {
-    let checked = pattern_verdict(n, k);
-    match checked {
-        Err(refusal) => Err(refusal),
-        Ok(()) => match pattern {
-            Pattern::AtLeast => {
-                let running = at_least(n, k);
-                structure::hand_out_table(n, &running, table)
-            }
-            Pattern::Row => stopped_by_neighbours(n, k, n + 1 - k, table),
-            Pattern::Ring => stopped_by_neighbours(n, k, n, table),
-        },
+    pattern_verdict(n, k)?;
+    match pattern {
+        Pattern::AtLeast => {
+            let running = at_least(n, k);
+            structure::hand_out_table(n, &running, table)
+        }
+        Pattern::Row => stopped_by_neighbours(n, k, n + 1 - k, table),
+        Pattern::Ring => stopped_by_neighbours(n, k, n, table),
     }
 }
 
 // The verdict on the number of parts and the threshold k.
+#[tactic(auto, unfolding(crate::specs::Patterns::pattern_refusal))]
 fn pattern_verdict(n: usize, k: usize) -> Result<(), Refusal>
     ensures { result ≡ pattern_refusal n k }
 {

@@ -32,16 +32,10 @@ pub fn add_part(bytes: &[u8], buffer: &mut [u8]) -> Result<usize, Refusal>
     ensures { outcome result buffer.new ≡ changed_record add_part bytes.now buffer.old }
 {
     let opened = record_opening::open_record(bytes);
-    let verdict = opened.verdict;
-    if let Err(refusal) = verdict {
-        return Err(refusal);
-    }
+    opened.verdict?;
     let old = opened.list;
     let changed = old.add();
-    let numbered = changed.answer;
-    if let Err(refusal) = numbered {
-        return Err(refusal);
-    }
+    changed.answer?;
     let list = changed.list;
     let sets = opened.sets;
     let count = opened.count;
@@ -55,10 +49,7 @@ pub fn take_out(bytes: &[u8], position: usize, buffer: &mut [u8]) -> Result<usiz
     ensures { outcome result buffer.new ≡ changed_record (take_out position) bytes.now buffer.old }
 {
     let opened = record_opening::open_record(bytes);
-    let verdict = opened.verdict;
-    if let Err(refusal) = verdict {
-        return Err(refusal);
-    }
+    opened.verdict?;
     let list = opened.list;
     let n = list.count;
     if position == 0 {
@@ -81,10 +72,7 @@ pub fn take_out_group(bytes: &[u8], group: usize, buffer: &mut [u8]) -> Result<u
     ensures { outcome result buffer.new ≡ changed_record (take_out_group group) bytes.now buffer.old }
 {
     let opened = record_opening::open_record(bytes);
-    let verdict = opened.verdict;
-    if let Err(refusal) = verdict {
-        return Err(refusal);
-    }
+    opened.verdict?;
     let list = opened.list;
     let sets = opened.sets;
     let count = opened.count;
@@ -98,21 +86,15 @@ pub fn add_set(bytes: &[u8], set: u16, buffer: &mut [u8]) -> Result<usize, Refus
     ensures { outcome result buffer.new ≡ changed_record (add_set set) bytes.now buffer.old }
 {
     let opened = record_opening::open_record(bytes);
-    let verdict = opened.verdict;
-    if let Err(refusal) = verdict {
-        return Err(refusal);
-    }
+    opened.verdict?;
     let list = opened.list;
     let n = list.count;
     let count = opened.count;
     let edition = opened.edition;
     let retired = opened.retired;
     let mut minimal = [0u16; 12870];
-    let found = record_sets::minimal_with(n, &opened.sets[..count], set, &mut minimal);
-    match found {
-        Err(refusal) => Err(refusal),
-        Ok(left) => { write_stored(edition, list, &minimal[..left], retired, buffer) }
-    }
+    let left = record_sets::minimal_with(n, &opened.sets[..count], set, &mut minimal)?;
+    write_stored(edition, list, &minimal[..left], retired, buffer)
 }
 
 // The record in edition 1, where it has no retired numbers.
@@ -120,10 +102,7 @@ pub fn to_edition_1(bytes: &[u8], buffer: &mut [u8]) -> Result<usize, Refusal>
     ensures { outcome result buffer.new ≡ changed_record (convert First) bytes.now buffer.old }
 {
     let opened = record_opening::open_record(bytes);
-    let verdict = opened.verdict;
-    if let Err(refusal) = verdict {
-        return Err(refusal);
-    }
+    opened.verdict?;
     let retired = opened.retired;
     if retired.count != 0 {
         return Err(Reason::RetiredPresent.at(0));
@@ -139,10 +118,7 @@ pub fn to_edition_2(bytes: &[u8], buffer: &mut [u8]) -> Result<usize, Refusal>
     ensures { outcome result buffer.new ≡ changed_record (convert Second) bytes.now buffer.old }
 {
     let opened = record_opening::open_record(bytes);
-    let verdict = opened.verdict;
-    if let Err(refusal) = verdict {
-        return Err(refusal);
-    }
+    opened.verdict?;
     let list = opened.list;
     let sets = opened.sets;
     let count = opened.count;
@@ -156,17 +132,9 @@ pub fn entered_record(mark: u64, numbers: &[u64], list: &[u16], buffer: &mut [u8
     ensures { outcome result buffer.new ≡ entered_record mark numbers.now list.now buffer.old }
 {
     let mut sets = [0u16; 12870];
-    let found = record_sets::minimal_of_list(numbers.len(), list, &mut sets);
-    match found {
-        Err(refusal) => Err(refusal),
-        Ok(count) => {
-            let verdict = record_numbers::judge(mark, numbers);
-            match verdict {
-                Err(refusal) => Err(refusal),
-                Ok(()) => write_record(mark, numbers, &sets[..count], buffer),
-            }
-        }
-    }
+    let count = record_sets::minimal_of_list(numbers.len(), list, &mut sets)?;
+    record_numbers::judge(mark, numbers)?;
+    write_record(mark, numbers, &sets[..count], buffer)
 }
 
 // A first record, from the number of parts and a list of sets: part numbers 1 to n, mark n, the minimal sets.
@@ -195,10 +163,7 @@ fn write_without(
     ensures { outcome result buffer.new ≡ delivered (take_out_group_refusal group (design list sets.now)) (stored_bytes (in_edition edition (design_without group (design list sets.now)) (filed_all (named (numbers_of list) group) (retired_numbers retired)))) buffer.old }
 {
     let listed = list.take_out_group(group);
-    let verdict = listed.verdict;
-    if let Err(refusal) = verdict {
-        return Err(refusal);
-    }
+    listed.verdict?;
     let others = listed.list;
     let mut kept = [0u16; 12870];
     let left = sets_left(sets, group, &mut kept);

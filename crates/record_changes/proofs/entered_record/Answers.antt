@@ -21,6 +21,7 @@ use Rattle.record.specs.Records.{design}
 use Rattle.record.specs.RecordBytes.{record_bytes}
 use Rattle.record_lines.specs.Changes.{entered_design}
 use Rattle.record_lines.specs.Records.{entered_refusal, entered_record}
+use Rattle.std.proofs.lemmas.Result.{err_from_is_err_and}
 use Rattle.record_changes.proofs.entered_record.Goals as goal
 
 pub slice_bounds-sets-end : goal.slice_bounds-sets-end
@@ -31,12 +32,12 @@ slice_bounds-sets-end c =
     c.args.list.now in
     let minimal : List ℕ =
     minimal_sets (length numbers) (listed list) in
-    let built : Given (list_refusal (length numbers) list) minimal (replicate 12870 0) c.minimal_of_list-found.new.sets c.in-Ok.count =
-    given _ _ (replicate 12870 0) c.minimal_of_list-found.new.sets c.in-Ok.count
-    (ap (λ (x : Numbered). outcome x c.minimal_of_list-found.new.sets) (sym c.in-Ok.is) ∙ c.minimal_of_list-found.ensures) in
+    let built : Given (list_refusal (length numbers) list) minimal (replicate 12870 0) c.minimal_of_list.new.sets c.in_ok-count.count =
+    given _ _ (replicate 12870 0) c.minimal_of_list.new.sets c.in_ok-count.count
+    (ap (λ (x : Numbered). outcome x c.minimal_of_list.new.sets) (sym c.in_ok-count.was) ∙ c.minimal_of_list.ensures) in
     let few : length numbers ≤ 16 =
     (accepted_list (length numbers) list built.accepted).few in
-    let most : c.in-Ok.count ≤ 12870 =
+    let most : c.in_ok-count.count ≤ 12870 =
     omega (arith, built.counted, minimal_sets_most (length numbers) (listed list) few) in
     omega (arith, most)
 
@@ -48,9 +49,9 @@ slice_bounds-write_record-end c =
     c.args.list.now in
     let minimal : List ℕ =
     minimal_sets (length numbers) (listed list) in
-    let built : Given (list_refusal (length numbers) list) minimal (replicate 12870 0) c.minimal_of_list-found.new.sets c.in-Ok.count =
-    given _ _ (replicate 12870 0) c.minimal_of_list-found.new.sets c.in-Ok.count
-    (ap (λ (x : Numbered). outcome x c.minimal_of_list-found.new.sets) (sym c.in-Ok.is) ∙ c.minimal_of_list-found.ensures) in
+    let built : Given (list_refusal (length numbers) list) minimal (replicate 12870 0) c.minimal_of_list.new.sets c.in_ok-count.count =
+    given _ _ (replicate 12870 0) c.minimal_of_list.new.sets c.in_ok-count.count
+    (ap (λ (x : Numbered). outcome x c.minimal_of_list.new.sets) (sym c.in_ok-count.was) ∙ c.minimal_of_list.ensures) in
     built.counted ∙ ap length (sym built.front)
 
 pub write_record-requires : goal.write_record-requires
@@ -61,34 +62,35 @@ write_record-requires c =
     c.args.list.now in
     let minimal : List ℕ =
     minimal_sets (length numbers) (listed list) in
-    let built : Given (list_refusal (length numbers) list) minimal (replicate 12870 0) c.minimal_of_list-found.new.sets c.in-Ok.count =
-    given _ _ (replicate 12870 0) c.minimal_of_list-found.new.sets c.in-Ok.count
-    (ap (λ (x : Numbered). outcome x c.minimal_of_list-found.new.sets) (sym c.in-Ok.is) ∙ c.minimal_of_list-found.ensures) in
+    let built : Given (list_refusal (length numbers) list) minimal (replicate 12870 0) c.minimal_of_list.new.sets c.in_ok-count.count =
+    given _ _ (replicate 12870 0) c.minimal_of_list.new.sets c.in_ok-count.count
+    (ap (λ (x : Numbered). outcome x c.minimal_of_list.new.sets) (sym c.in_ok-count.was) ∙ c.minimal_of_list.ensures) in
     let few : length numbers ≤ 16 =
     (accepted_list (length numbers) list built.accepted).few in
-    let most : c.in-Ok.count ≤ 12870 =
+    let most : c.in_ok-count.count ≤ 12870 =
     omega (arith, built.counted, minimal_sets_most (length numbers) (listed list) few) in
     record { numbers_len_bound = few; sets_len_bound = omega (arith, built.counted, ap length built.front, most) }
 
-pub returns-in-Err : goal.returns-in-Err
+pub returns-in_err-count : goal.returns-in_err-count
 unfolding entered_record
-returns-in-Err c =
+returns-in_err-count c =
     let list : List ℕ =
     c.args.list.now in
     let a = c.args in
     let n : ℕ = length a.numbers.now in
     let list = a.list.now in
     let refused =
-    refused_by (list_refusal n list) (minimal_sets n (listed list)) (replicate 12870 0) c.minimal_of_list-found.new.sets _
+    refused_by (list_refusal n list) (minimal_sets n (listed list)) (replicate 12870 0) c.minimal_of_list.new.sets _
     (λ accepted. subst (λ (k : ℕ). length (minimal_sets n (listed list)) ≤ k) (sym (length-replicate {A = ℕ} 12870 0))
     (minimal_sets_most n (listed list) (accepted_list n list accepted).few))
-    (ap (λ (x : Numbered). outcome x c.minimal_of_list-found.new.sets) (sym c.in-Err.is) ∙ c.minimal_of_list-found.ensures) in
-    refused_kept (entered_refusal a.mark a.numbers.now list) (record_bytes (entered_design a.mark a.numbers.now list)) a.buffer.now _
-    (then_refused (numbers_refusal 0 a.mark 0 a.numbers.now) refused)
+    (ap (λ (x : Numbered). outcome x c.minimal_of_list.new.sets) (sym c.in_err-count.was) ∙ c.minimal_of_list.ensures) in
+    let p = err_from_is_err_and c.from_residual.result c.from_residual.ensures.1 in
+    rw (p.1, p.2) (refused_kept (entered_refusal a.mark a.numbers.now list) (record_bytes (entered_design a.mark a.numbers.now list)) a.buffer.now _
+    (then_refused (numbers_refusal 0 a.mark 0 a.numbers.now) refused))
 
-pub returns-in-Err-verdict : goal.returns-in-Err-verdict
+pub returns-in_err-judge : goal.returns-in_err-judge
 unfolding entered_record
-returns-in-Err-verdict c =
+returns-in_err-judge c =
     let numbers : List ℕ =
     c.args.numbers.now in
     let list : List ℕ =
@@ -97,9 +99,9 @@ returns-in-Err-verdict c =
     c.args.mark in
     let minimal : List ℕ =
     minimal_sets (length numbers) (listed list) in
-    let built : Given (list_refusal (length numbers) list) minimal (replicate 12870 0) c.minimal_of_list-found.new.sets c.in-Ok.count =
-    given _ _ (replicate 12870 0) c.minimal_of_list-found.new.sets c.in-Ok.count
-    (ap (λ (x : Numbered). outcome x c.minimal_of_list-found.new.sets) (sym c.in-Ok.is) ∙ c.minimal_of_list-found.ensures) in
+    let built : Given (list_refusal (length numbers) list) minimal (replicate 12870 0) c.minimal_of_list.new.sets c.in_ok-count.count =
+    given _ _ (replicate 12870 0) c.minimal_of_list.new.sets c.in_ok-count.count
+    (ap (λ (x : Numbered). outcome x c.minimal_of_list.new.sets) (sym c.in_ok-count.was) ∙ c.minimal_of_list.ensures) in
     let few : length numbers ≤ 16 =
     (accepted_list (length numbers) list built.accepted).few in
     -- so the numbers alone are left to be judged
@@ -107,12 +109,13 @@ returns-in-Err-verdict c =
     refusal_counted (length numbers) mark numbers (λ none. omega (arith, (accepted_list (length numbers) list built.accepted).some)) few
     ∙ sym (then_passed (numbers_refusal 0 mark 0 numbers) built.accepted) in
     let a = c.args in
-    refused_kept (entered_refusal mark numbers list) (record_bytes (entered_design mark numbers list)) a.buffer.now _
-    (sym judged ∙ sym c.judge-verdict.ensures ∙ c.in-Err-verdict.is)
+    let p = err_from_is_err_and c.from_residual-in_err-judge.result c.from_residual-in_err-judge.ensures.1 in
+    rw (p.1, p.2) (refused_kept (entered_refusal mark numbers list) (record_bytes (entered_design mark numbers list)) a.buffer.now _
+    (sym judged ∙ sym c.judge.ensures ∙ c.in_err-judge.was))
 
-pub returns-in-Ok : goal.returns-in-Ok
+pub returns : goal.returns
 unfolding entered_record
-returns-in-Ok c =
+returns c =
     let numbers : List ℕ =
     c.args.numbers.now in
     let list : List ℕ =
@@ -121,9 +124,9 @@ returns-in-Ok c =
     c.args.mark in
     let minimal : List ℕ =
     minimal_sets (length numbers) (listed list) in
-    let built : Given (list_refusal (length numbers) list) minimal (replicate 12870 0) c.minimal_of_list-found.new.sets c.in-Ok.count =
-    given _ _ (replicate 12870 0) c.minimal_of_list-found.new.sets c.in-Ok.count
-    (ap (λ (x : Numbered). outcome x c.minimal_of_list-found.new.sets) (sym c.in-Ok.is) ∙ c.minimal_of_list-found.ensures) in
+    let built : Given (list_refusal (length numbers) list) minimal (replicate 12870 0) c.minimal_of_list.new.sets c.in_ok-count.count =
+    given _ _ (replicate 12870 0) c.minimal_of_list.new.sets c.in_ok-count.count
+    (ap (λ (x : Numbered). outcome x c.minimal_of_list.new.sets) (sym c.in_ok-count.was) ∙ c.minimal_of_list.ensures) in
     let few : length numbers ≤ 16 =
     (accepted_list (length numbers) list built.accepted).few in
     -- so the numbers alone are left to be judged
@@ -131,7 +134,7 @@ returns-in-Ok c =
     refusal_counted (length numbers) mark numbers (λ none. omega (arith, (accepted_list (length numbers) list built.accepted).some)) few
     ∙ sym (then_passed (numbers_refusal 0 mark 0 numbers) built.accepted) in
     let a = c.args in
-    let accepted = sym judged ∙ sym c.judge-verdict.ensures ∙ c.in-Ok.is in
+    let accepted = sym judged ∙ sym c.judge.ensures ∙ c.in_ok-judge.was in
     c.write_record.ensures
     ∙ ap (λ (sets : List ℕ). delivered (Ok tt) (record_bytes (design (list_of mark numbers) sets)) a.buffer.now) built.front
     ∙ ap (λ (v : Verdict). delivered v (record_bytes (entered_design mark numbers list)) a.buffer.now) (sym accepted)

@@ -18,17 +18,19 @@ use Rattle.record_lines.specs.Records.{changed_record}
 use Rattle.record_lines.proofs.Refusals.{position_is_group}
 use Rattle.record_opening.proofs.Designs.{opened_record, sets_front, sets_counted, sets_few, sets_room}
 use Rattle.record_changes.proofs.Answers.{d, design_kept, retired_few, retired_inside, opened_refused, change_refused, opened_rules, opened_without}
+use Rattle.std.proofs.lemmas.Result.{err_from_is_err_and}
 use Rattle.record_changes.proofs.take_out.Goals as goal
 
-pub returns-in-Err : goal.returns-in-Err
-returns-in-Err c =
+pub returns-in_err-opened : goal.returns-in_err-opened
+returns-in_err-opened c =
     let a = c.args in
-    opened_refused a.bytes.now c.open_record-opened.result c.open_record-opened.ensures _ c.in-Err.is (take_out a.position) a.buffer.now
+    let p = err_from_is_err_and c.from_residual.result c.from_residual.ensures.1 in
+    rw (p.1, p.2) (opened_refused a.bytes.now c.open_record-opened.result c.open_record-opened.ensures _ c.in_err-opened.was (take_out a.position) a.buffer.now)
 
 pub returns-then-position-eq0 : goal.returns-then-position-eq0
 returns-then-position-eq0 c =
     -- what was opened, where the record is accepted
-    let read = opened_record c.args.bytes.now _ c.open_record-opened.ensures (λ i. omega (arith, c.shared_slice_known-1.given i)) c.in_default.is in
+    let read = opened_record c.args.bytes.now _ c.open_record-opened.ensures (λ i. omega (arith, c.shared_slice_known-1.given i)) c.in_ok-opened.was in
     let a = c.args in
     ap (λ (x : Numbered). outcome x a.buffer.now) (ap Err c.at.ensures)
     ∙ change_refused read (take_out a.position) (at UnknownPosition 0) (simp (eq-eqb a.position 0 c.if-position-eq0.true)) a.buffer.now
@@ -36,7 +38,7 @@ returns-then-position-eq0 c =
 pub returns-then-n-position : goal.returns-then-n-position
 returns-then-n-position c =
     -- what was opened, where the record is accepted
-    let read = opened_record c.args.bytes.now _ c.open_record-opened.ensures (λ i. omega (arith, c.shared_slice_known-1.given i)) c.in_default.is in
+    let read = opened_record c.args.bytes.now _ c.open_record-opened.ensures (λ i. omega (arith, c.shared_slice_known-1.given i)) c.in_ok-opened.was in
     let counted : c.open_record-opened.result.list.count ≡ (d read).parts.count =
     ap (λ (l : PartList). l.count) read.list in
     let a = c.args in
@@ -49,19 +51,19 @@ returns-then-n-position c =
 pub slice_bounds-sets-end : goal.slice_bounds-sets-end
 slice_bounds-sets-end c =
     -- what was opened, where the record is accepted
-    let read = opened_record c.args.bytes.now _ c.open_record-opened.ensures (λ i. omega (arith, c.shared_slice_known-1.given i)) c.in_default.is in
+    let read = opened_record c.args.bytes.now _ c.open_record-opened.ensures (λ i. omega (arith, c.shared_slice_known-1.given i)) c.in_ok-opened.was in
     let r = read in omega (arith, sets_few r, sets_room r)
 
 pub slice_bounds-write_without-end : goal.slice_bounds-write_without-end
 slice_bounds-write_without-end c =
     -- what was opened, where the record is accepted
-    let read = opened_record c.args.bytes.now _ c.open_record-opened.ensures (λ i. omega (arith, c.shared_slice_known-1.given i)) c.in_default.is in
+    let read = opened_record c.args.bytes.now _ c.open_record-opened.ensures (λ i. omega (arith, c.shared_slice_known-1.given i)) c.in_ok-opened.was in
     let r = read in sets_counted r ∙ ap length (sym (sets_front r))
 
 pub write_without-requires : goal.write_without-requires
 write_without-requires c =
     -- what was opened, where the record is accepted
-    let read = opened_record c.args.bytes.now _ c.open_record-opened.ensures (λ i. omega (arith, c.shared_slice_known-1.given i)) c.in_default.is in
+    let read = opened_record c.args.bytes.now _ c.open_record-opened.ensures (λ i. omega (arith, c.shared_slice_known-1.given i)) c.in_ok-opened.was in
     let r = read in
     record {
       design_rules = opened_rules r _ _ r.list (sets_front r);
@@ -72,7 +74,7 @@ write_without-requires c =
 pub returns : goal.returns
 returns c =
     -- what was opened, where the record is accepted
-    let read = opened_record c.args.bytes.now _ c.open_record-opened.ensures (λ i. omega (arith, c.shared_slice_known-1.given i)) c.in_default.is in
+    let read = opened_record c.args.bytes.now _ c.open_record-opened.ensures (λ i. omega (arith, c.shared_slice_known-1.given i)) c.in_ok-opened.was in
     let counted : c.open_record-opened.result.list.count ≡ (d read).parts.count =
     ap (λ (l : PartList). l.count) read.list in
     let position : ℕ =

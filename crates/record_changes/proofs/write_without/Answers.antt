@@ -30,6 +30,7 @@ use Rattle.record_lines.proofs.TakenOut.{without_fewer}
 use Rattle.record_lines.proofs.Rules.{without_rules, group_out_accepted}
 use Rattle.record_changes.proofs.Answers.{out_refused, out_list, out_none, out_some}
 use borrow.Author.Rules.{rules}
+use Rattle.std.proofs.lemmas.Result.{err_from_is_err_and}
 use Rattle.record_changes.proofs.write_without.Goals as goal
 
 -- what the part list answered is the verdict on the group
@@ -50,19 +51,20 @@ filed_few group list retired filed few inside e =
     subst (λ (r : Retired). (r.count ≤ most_retired) × (r.count ≤ length r.numbers)) (sym e)
     (most, omega (arith, length-append gone (replicate (most_retired - length gone) 0)))
 
-pub returns-in-Err : goal.returns-in-Err
-returns-in-Err c =
+pub returns-in_err-listed : goal.returns-in_err-listed
+returns-in_err-listed c =
     let a = c.args in
     let d = design a.list a.sets.now in
-    refused_kept (take_out_group_refusal a.group d) (stored_bytes (in_edition a.edition (design_without a.group d) (filed_all (named (numbers_of a.list) a.group) (retired_numbers a.retired)))) a.buffer.now _
-    (out_refused d c.requires.design_rules a.group _ (verdict_same a.list a.group _ c.take_out_group-listed.ensures _ c.in-Err.is))
+    let p = err_from_is_err_and c.from_residual.result c.from_residual.ensures.1 in
+    rw (p.1, p.2) (refused_kept (take_out_group_refusal a.group d) (stored_bytes (in_edition a.edition (design_without a.group d) (filed_all (named (numbers_of a.list) a.group) (retired_numbers a.retired)))) a.buffer.now _
+    (out_refused d c.requires.design_rules a.group _ (verdict_same a.list a.group _ c.take_out_group-listed.ensures _ c.in_err-listed.was)))
 
 pub returns-then-left-eq0 : goal.returns-then-left-eq0
 returns-then-left-eq0 c =
     let a = c.args in
     let old = design a.list a.sets.now in
     let built = given (Ok tt) (sets_without a.group a.sets.now) (replicate 12870 0) c.sets_left-left.new.kept c.sets_left-left.result c.sets_left-left.ensures in
-    let let_go = verdict_same a.list a.group _ c.take_out_group-listed.ensures _ c.in_default.is in
+    let let_go = verdict_same a.list a.group _ c.take_out_group-listed.ensures _ c.in_ok-listed.was in
     ap (λ (x : Numbered). outcome x a.buffer.now) (ap Err c.at.ensures)
     ∙ refused_kept (take_out_group_refusal a.group old) (stored_bytes (in_edition a.edition (design_without a.group old) (filed_all (named (numbers_of a.list) a.group) (retired_numbers a.retired)))) a.buffer.now (at InEverySet 0)
     (out_none old c.requires.design_rules a.group let_go (omega (arith, c.if-left-eq0.true, built.counted)))
@@ -94,7 +96,7 @@ write_stored-requires c =
     let a = c.args in
     let old = design a.list a.sets.now in
     let built = given (Ok tt) (sets_without a.group a.sets.now) (replicate 12870 0) c.sets_left-left.new.kept c.sets_left-left.result c.sets_left-left.ensures in
-    let let_go = verdict_same a.list a.group _ c.take_out_group-listed.ensures _ c.in_default.is in
+    let let_go = verdict_same a.list a.group _ c.take_out_group-listed.ensures _ c.in_ok-listed.was in
     let made : take_out_group_refusal a.group old ≡ Ok tt =
     out_some old c.requires.design_rules a.group let_go (λ none. omega (arith, c.if-left-eq0.false, built.counted)) in
     let kept = filed_few a.group a.list a.retired c.file_group-filed.result c.requires.count_le_most_retired c.requires.count_in_bounds c.file_group-filed.ensures in
@@ -110,7 +112,7 @@ returns c =
     let a = c.args in
     let old = design a.list a.sets.now in
     let built = given (Ok tt) (sets_without a.group a.sets.now) (replicate 12870 0) c.sets_left-left.new.kept c.sets_left-left.result c.sets_left-left.ensures in
-    let let_go = verdict_same a.list a.group _ c.take_out_group-listed.ensures _ c.in_default.is in
+    let let_go = verdict_same a.list a.group _ c.take_out_group-listed.ensures _ c.in_ok-listed.was in
     let made : take_out_group_refusal a.group old ≡ Ok tt =
     out_some old c.requires.design_rules a.group let_go (λ none. omega (arith, c.if-left-eq0.false, built.counted)) in
     let gone : List ℕ = filed_all (named (numbers_of a.list) a.group) (retired_numbers a.retired) in

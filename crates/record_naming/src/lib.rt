@@ -81,8 +81,8 @@ fn mask(numbers: &[u64], wanted: &[u64]) -> usize
     ensures { result ≡ mask_of numbers.now wanted.now }
 {
     let mut mask = 0;
-    for (at, number) in numbers.iter().enumerate() {
-        if record_numbers::stands(*number, wanted) {
+    for (at, &number) in numbers.iter().enumerate() {
+        if record_numbers::stands(number, wanted) {
             mask += 1 << at;
         }
     }
@@ -95,15 +95,15 @@ fn all_stand(wanted: &[u64], numbers: &[u64]) -> bool
 {
     wanted
         .iter()
-        .all(|number| record_numbers::stands(*number, numbers))
+        .all(|&number| record_numbers::stands(number, numbers))
 }
 
 // Whether some number stands twice.
 fn repeats(numbers: &[u64]) -> bool
     ensures { result ≡ repeated numbers.now }
 {
-    for (at, number) in numbers.iter().enumerate() {
-        if record_numbers::stands(*number, &numbers[at + 1..]) {
+    for (at, &number) in numbers.iter().enumerate() {
+        if record_numbers::stands(number, &numbers[at + 1..]) {
             return true;
         }
     }

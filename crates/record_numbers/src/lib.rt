@@ -59,9 +59,9 @@ pub fn cells(numbers: &[u64], group: usize) -> [u64; MOST_PARTS]
     let mut cells = [0; MOST_PARTS];
     let count = numbers.len().min(MOST_PARTS);
     let mut next = 0;
-    for (index, number) in numbers[..count].iter().enumerate() {
+    for (index, &number) in numbers[..count].iter().enumerate() {
         if (group >> index) % 2 == 0 {
-            cells[next] = *number;
+            cells[next] = number;
             next += 1;
         }
     }

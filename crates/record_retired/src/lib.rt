@@ -23,9 +23,9 @@ pub fn filed_group(retired: &[u64], numbers: &[u64], group: usize) -> Retired
 {
     let mut filing = latest(retired);
     let mut left = group;
-    for number in numbers {
+    for &number in numbers {
         if left % 2 == 1 {
-            filing = file(filing, *number);
+            filing = file(filing, number);
         }
         left /= 2;
     }
@@ -74,6 +74,6 @@ fn place(numbers: &[u64], number: u64) -> usize
 {
     numbers
         .iter()
-        .position(|other| number < *other)
+        .position(|&other| number < other)
         .unwrap_or(numbers.len())
 }

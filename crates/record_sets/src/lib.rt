@@ -94,7 +94,7 @@ fn left_without(sets: &[u16], group: usize) -> usize
     ensures { result ≡ length (sets_without group sets.now) }
 {
     sets.iter()
-        .filter(|set| !masks::meets(**set, group))
+        .filter(|&&set| !masks::meets(set, group))
         .count()
 }
 

@@ -22,8 +22,9 @@ copied numbers cells count e stands =
     let last : cells ≡ drop (length numbers - most_retired) numbers =
     stands ∙ take_all (length numbers - (length numbers - count)) (drop (length numbers - count) numbers) (omega (arith, length-drop (length numbers - count) numbers)) ∙ ap (λ (n : ℕ). drop n numbers) dropped in
     let counted : count ≡ length (drop (length numbers - most_retired) numbers) = omega (arith, length-drop (length numbers - most_retired) numbers) in
-    ap₂ (λ (n : ℕ) (list : List ℕ). record { count = n; numbers = list ++ drop n (replicate most_retired 0) }) counted last
-    ∙ ap (λ (spare : List ℕ). record { count = length (drop (length numbers - most_retired) numbers); numbers = drop (length numbers - most_retired) numbers ++ spare }) (spare most_retired (length (drop (length numbers - most_retired) numbers)))
+    let filled : cells ++ drop count (replicate most_retired 0) ≡ (retired_of (kept numbers)).numbers =
+    ap₂ (λ (front rest : List ℕ). front ++ rest) last (spare most_retired count ∙ ap (λ (n : ℕ). replicate (most_retired - n) 0) counted) in
+    ap₂ (λ (n : ℕ) (list : List ℕ). record { count = n; numbers = list }) counted filled
 
 pub returns : goal.returns
 returns c = copied c.args.numbers.now _ _ c.min-count.ensures c.copy_from_slice.ensures.after

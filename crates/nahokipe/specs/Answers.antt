@@ -1,11 +1,10 @@
 -- What a host is handed. A call leaves what the function behind it leaves, with its answer told in this form: number 0 where the call is given,
 -- with the length written or the number asked for; else the refusal's number, with its place.
-use Rattle.std.specs.Prelude.{ℕ, ◌-◌, Ok, Err}
+use Rattle.std.specs.Prelude.{ℕ, ◌-◌, Ok, Err, Option, Some, None}
 use Rattle.answer.specs.Refusals.{number_of}
 use Rattle.answer.specs.Outcome.{Numbered, Verdict}
 use Rattle.record.specs.declared.Contents.{Contents}
 use Rattle.record.specs.declared.Step.{Step}
-use Rattle.record.specs.declared.Step.TheVariants as step
 use Rattle.nahokipe.specs.declared.Answer.{Answer}
 use Rattle.nahokipe.specs.declared.Record.{Record}
 use Rattle.vector_kind.specs.Kinds.{kind_number}
@@ -44,9 +43,9 @@ of_contents contents =
     }
 
 -- what a step along a record's sets hands out
-abbrev pub of_step : Step → NextSet
-of_step step.End = record { given = 0; set = 0; next = 0; left = 0 }
-of_step (step.Set set cursor) = record { given = 1; set = set; next = cursor.next; left = cursor.left }
+abbrev pub of_step : Option Step → NextSet
+of_step None = record { given = 0; set = 0; next = 0; left = 0 }
+of_step (Some taken) = record { given = 1; set = taken.set; next = taken.cursor.next; left = taken.cursor.left }
 
 -- what reading a sheet hands out: the refusal, or 0 and how many entries were written; the kind's number and n
 abbrev pub of_entries_read : EntriesRead → Sheet

@@ -649,21 +649,21 @@ fn between(begin: usize, end: usize) -> usize
     if end < begin { 0 } else { end - begin }
 }
 
-fn of_step(step: Step) -> NextSet
+fn of_step(step: Option<Step>) -> NextSet
     ensures { result ≡ of_step step }
 {
     match step {
-        Step::End => NextSet {
+        None => NextSet {
             given: 0,
             set: 0,
             next: 0,
             left: 0,
         },
-        Step::Set { set, cursor } => NextSet {
+        Some(taken) => NextSet {
             given: 1,
-            set,
-            next: cursor.next,
-            left: cursor.left,
+            set: taken.set,
+            next: taken.cursor.next,
+            left: taken.cursor.left,
         },
     }
 }

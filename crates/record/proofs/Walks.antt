@@ -12,9 +12,9 @@ use Rattle.codec.specs.Reads.{Read, found, reading_of, answered, Reading}
 use Rattle.codec.specs.Reading.{number_at}
 use Rattle.codec.specs.FieldReads.{field_at, fields_at}
 use Rattle.codec.proofs.Found.{then_found, field_number, answer_number, answer_refused}
-use Rattle.record.specs.declared.Step.TheVariants.{Set, End}
+use Rattle.std.specs.Prelude.{Some, None}
 use Rattle.record.specs.Records.{set_refusal, sets_at}
-use Rattle.record.specs.Contents.{cursor, step_on, step_from, step_at, met_in}
+use Rattle.record.specs.Contents.{step, cursor, step_on, step_from, step_at, met_in}
 
 -- ---- along the sets
 
@@ -34,7 +34,7 @@ walk_sets bytes n (suc more) earlier start sets end e =
 -- ---- a step of a walk
 
 module _ (bytes : List ℕ) (next left : ℕ) where
-  pub step_none : left ≡ 0 → End ≡ step_at bytes (cursor next left)
+  pub step_none : left ≡ 0 → None ≡ step_at bytes (cursor next left)
   unfolding step_at
   step_none e = sym (ap (step_from bytes next) e)
 
@@ -43,8 +43,8 @@ module _ (bytes : List ℕ) (next left : ℕ) where
     unfolding step_at
     here = let more : left ≡ suc (left - 1) = omega (arith, pos_of_ne-zero some) in sym (ap (step_from bytes next) more)
 
-    pub step_ended : (why : Refusal) → r ≡ Err why → End ≡ step_at bytes (cursor next left)
+    pub step_ended : (why : Refusal) → r ≡ Err why → None ≡ step_at bytes (cursor next left)
     step_ended why e = sym (ap (λ (f : Read ℕ). step_on f (left - 1)) (answer_refused (number_at bytes next field.Set) why (sym e ∙ read))) ∙ here
 
-    pub step_set : (value after : ℕ) → r ≡ answered value after → Set value (cursor after (left - 1)) ≡ step_at bytes (cursor next left)
+    pub step_set : (value after : ℕ) → r ≡ answered value after → Some (step value (cursor after (left - 1))) ≡ step_at bytes (cursor next left)
     step_set value after e = sym (ap (λ (f : Read ℕ). step_on f (left - 1)) (answer_number (number_at bytes next field.Set) value after (sym e ∙ read))) ∙ here

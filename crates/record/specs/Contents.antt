@@ -1,5 +1,5 @@
 -- What the reading functions answer: the contents of a record, the stretch of its sets, and a walk along them.
-use Rattle.std.specs.Prelude.{◌&&◌, List, [], ◌∷◌, ℕ, zero, suc, ◌-◌, ◌^◌, ltb, length, take, drop, Ok, Err}
+use Rattle.std.specs.Prelude.{◌&&◌, List, [], ◌∷◌, ℕ, zero, suc, ◌-◌, ◌^◌, ltb, length, take, drop, Ok, Err, Option, Some, None}
 use Rattle.answer.specs.declared.Refusal.{Refusal}
 use Rattle.codec.specs.declared.Field.TheVariants as field
 use Rattle.codec.specs.Reads.{Read, found, refused}
@@ -12,7 +12,6 @@ use Rattle.record_parts.specs.PartLists.{list_of}
 use Rattle.record.specs.declared.Contents.{Contents}
 use Rattle.record.specs.declared.Cursor.{Cursor}
 use Rattle.record.specs.declared.Step.{Step}
-use Rattle.record.specs.declared.Step.TheVariants.{Set, End}
 use Rattle.record.specs.declared.WithWords.{WithWords}
 use Rattle.record.specs.Records.{DesignAt}
 
@@ -57,19 +56,22 @@ abbrev pub cursor : ℕ → ℕ → Cursor
 cursor next left = record { next = next; left = left }
 
 -- one step: the set at the cursor and the cursor behind it. Where no set is left, or no number stands there, the walk is at its end.
-abbrev pub step_on : Read ℕ → ℕ → Step
-step_on (found value next) left = Set value (cursor next left)
-step_on (refused refusal) left = End
+abbrev pub step : ℕ → Cursor → Step
+step set behind = record { set = set; cursor = behind }
 
-abbrev pub step_from : List ℕ → ℕ → ℕ → Step
-step_from bytes next zero = End
+abbrev pub step_on : Read ℕ → ℕ → Option Step
+step_on (found value next) left = Some (step value (cursor next left))
+step_on (refused refusal) left = None
+
+abbrev pub step_from : List ℕ → ℕ → ℕ → Option Step
+step_from bytes next zero = None
 step_from bytes next (suc left) = step_on (number_at bytes next field.Set) left
 
-unfoldable pub step_at : List ℕ → Cursor → Step
+unfoldable pub step_at : List ℕ → Cursor → Option Step
 step_at bytes at = step_from bytes at.next at.left
 
 -- the sets that a walk meets in at most so many steps
-abbrev pub met_in : ℕ → List ℕ → Step → List ℕ
-met_in zero bytes step = []
-met_in (suc more) bytes End = []
-met_in (suc more) bytes (Set value after) = value ∷ met_in more bytes (step_at bytes after)
+abbrev pub met_in : ℕ → List ℕ → Option Step → List ℕ
+met_in zero bytes taken = []
+met_in (suc more) bytes None = []
+met_in (suc more) bytes (Some taken) = taken.set ∷ met_in more bytes (step_at bytes taken.cursor)

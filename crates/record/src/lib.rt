@@ -41,11 +41,11 @@ pub struct Cursor {
     pub left: usize,
 }
 
-// One step of such a walk: a set and the cursor behind it, or the end.
+// One step of such a walk: a set and the cursor behind it.
 #[derive(Clone, Copy)]
-pub enum Step {
-    Set { set: u64, cursor: Cursor },
-    End,
+pub struct Step {
+    pub set: u64,
+    pub cursor: Cursor,
 }
 
 // The sets up to the first that does not rise, or is refused for another reason than holding an earlier one: marked, counted, with the
@@ -100,25 +100,24 @@ pub fn read_with_words(bytes: &[u8], start: usize) -> WithWords
 }
 
 impl Cursor {
-    // The set at the cursor and the cursor behind it, on the bytes that the walk began with.
-    pub fn step(self, bytes: &[u8]) -> Step
+    // The set at the cursor and the cursor behind it, on the bytes that the walk began with; none at the end.
+    pub fn step(self, bytes: &[u8]) -> Option<Step>
         ensures { result ≡ step_at bytes.now self }
     {
         let left = self.left;
         if left == 0 {
-            return Step::End;
+            return None;
         }
-        let next = self.next;
-        let number = codec::read_number(bytes, next, Field::Set);
+        let number = codec::read_number(bytes, self.next, Field::Set);
         match number {
-            Err(_) => Step::End,
-            Ok(Standing { value, next: after }) => Step::Set {
-                set: value,
+            Err(_) => None,
+            Ok(found) => Some(Step {
+                set: found.value,
                 cursor: Cursor {
-                    next: after,
+                    next: found.next,
                     left: left - 1,
                 },
-            },
+            }),
         }
     }
 }

@@ -15,7 +15,7 @@ use Rattle.theory_orders.specs.Antichains.{most_sets}
 use Rattle.record.specs.declared.Contents.{Contents}
 use Rattle.record.specs.declared.Cursor.{Cursor}
 use Rattle.record.specs.declared.Step.{Step}
-use Rattle.record.specs.declared.Step.TheVariants.{Set, End}
+use Rattle.std.specs.Prelude.{Option, Some, None}
 use Rattle.codec.specs.Reads.{Read, found, refused}
 use Rattle.record.specs.Records.{Design}
 use Rattle.record_editions.specs.Editions.{Stored, design_of, retired_in, edition_of, whole_stored}
@@ -68,15 +68,21 @@ module _ {bytes : List ℕ} {count : ℕ} {first : Cursor} {sets : List ℕ} {he
     more : count - read ≡ suc (count - (read + 1))
     more = omega arith
 
-    pub set_walk_ended : step_at bytes here ≡ End → sets ≡ set_cells (met_in count bytes (step_at bytes first))
-    set_walk_ended e = whole (ap₂ (λ (k : ℕ) (s : Step). met_in k bytes s) more e)
+    pub set_walk_ended : step_at bytes here ≡ None → sets ≡ set_cells (met_in count bytes (step_at bytes first))
+    set_walk_ended e = whole (ap₂ (λ (k : ℕ) (s : Option Step). met_in k bytes s) more e)
 
-    module _ (value : ℕ) (after : Cursor) (e : step_at bytes here ≡ Set value after) where
+    module _ (taken : Step) (e : step_at bytes here ≡ Some taken) where
+      abbrev value : ℕ
+      value = taken.set
+
+      abbrev after : Cursor
+      after = taken.cursor
+
       abbrev left : List ℕ
       left = met_in (count - (read + 1)) bytes (step_at bytes after)
 
       one : met_in (count - read) bytes (step_at bytes here) ≡ value ∷ left
-      one = ap₂ (λ (k : ℕ) (s : Step). met_in k bytes s) more e
+      one = ap₂ (λ (k : ℕ) (s : Option Step). met_in k bytes s) more e
 
       -- a set that the walk comes to is one of those that it meets
       pub set_walk_member : Memᴰ value (met_in count bytes (step_at bytes first))

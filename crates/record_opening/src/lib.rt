@@ -10,7 +10,7 @@ ghost use Rattle.record.specs.Contents.{step_at, met_in};
 ghost use Rattle.record_opening.specs.Opening.{set_cells, opened_of};
 
 use answer::Refusal;
-use record::{Cursor, Step};
+use record::Cursor;
 use record_editions::Edition;
 use record_parts::PartList;
 use record_retired::Retired;
@@ -62,16 +62,11 @@ fn load_sets(bytes: &[u8], first: Cursor) -> [u16; 12870]
     let mut sets = [0u16; 12870];
     let mut cursor = first;
     for read in 0..first.left {
-        let step = cursor.step(bytes);
-        let Step::Set {
-            set,
-            cursor: behind,
-        } = step
-        else {
+        let Some(step) = cursor.step(bytes) else {
             return sets;
         };
-        sets[read] = set as u16;
-        cursor = behind;
+        sets[read] = step.set as u16;
+        cursor = step.cursor;
     }
     sets
 }

@@ -4,18 +4,18 @@ use mathlib.Core.Path.{◌≡◌, refl}
 use mathlib.Core.List.{List, [], ◌∷◌}
 use Prim.Native.Nat.{ℕ}
 use Rattle.codec.specs.Reading.{number_in, number_at}
-use Rattle.record_reader.specs.Places.{set_at, met_from}
-use Rattle.record_reader.specs.declared.Found.TheVariants.{Set, End}
+use Rattle.record_reader.specs.Places.{here, set_at, met_from}
+use Rattle.std.specs.Prelude.{None}
 
 -- 01's bridge: 05 05 01 02 03 04 05 04 09 0E 12 15
 abbrev bridge : List ℕ
 bridge = 5 ∷ 5 ∷ 1 ∷ 2 ∷ 3 ∷ 4 ∷ 5 ∷ 4 ∷ 9 ∷ 14 ∷ 18 ∷ 21 ∷ []
 
-second_set : set_at bridge 9 ≡ Set 14 10
+second_set : set_at bridge 9 ≡ here 14 10
 unfolding set_at number_at number_in
 second_set = refl
 
-behind_the_last : set_at bridge 12 ≡ End
+behind_the_last : set_at bridge 12 ≡ None
 unfolding set_at number_at number_in
 behind_the_last = refl
 
@@ -38,15 +38,15 @@ unfolding set_at number_at number_in
 second_met = refl
 
 -- 300 is AC 02, and a place inside it is not the place of a set of the record: what stands there is read for itself
-two_bytes : set_at (1 ∷ 0xAC ∷ 2 ∷ []) 1 ≡ Set 300 3
+two_bytes : set_at (1 ∷ 0xAC ∷ 2 ∷ []) 1 ≡ here 300 3
 unfolding set_at number_at number_in
 two_bytes = refl
 
-inside_a_set : set_at (1 ∷ 0xAC ∷ 2 ∷ []) 2 ≡ Set 2 3
+inside_a_set : set_at (1 ∷ 0xAC ∷ 2 ∷ []) 2 ≡ here 2 3
 unfolding set_at number_at number_in
 inside_a_set = refl
 
 -- no number stands where the bytes end inside it
-end_inside : set_at (1 ∷ 0xAC ∷ []) 1 ≡ End
+end_inside : set_at (1 ∷ 0xAC ∷ []) 1 ≡ None
 unfolding set_at number_at number_in
 end_inside = refl

@@ -24,7 +24,8 @@ use Rattle.codec.specs.Reads.{Read, found, refused}
 use Rattle.record.specs.Records.{Design}
 use Rattle.record.specs.RecordBytes.{record_bytes}
 use Rattle.record.specs.declared.Step.{Step}
-use Rattle.record.specs.declared.Step.TheVariants as step
+use Rattle.codec.specs.declared.Standing.{Standing}
+use Rattle.std.specs.Prelude.{Option, Some, None}
 use Rattle.record.specs.Contents.{contents_of, stretch_of, cursor, step_on, step_at}
 use Rattle.record_editions.specs.Editions.{first, StoredAt, whole_stored, body_of, only_record, whole_record}
 use Rattle.record_editions.specs.EditionBytes.{stored_bytes}
@@ -32,27 +33,26 @@ use Rattle.record_editions.specs.Contents.{whole_contents}
 use Rattle.codec.proofs.Found.{Stands, behind}
 use Rattle.record_editions.proofs.RoundTrip.{standing, stored_read, whole_found, stored_written, stored_design}
 use Rattle.record_editions.proofs.Whole.{design_read_lem, stretch_sets}
-use Rattle.record_reader.specs.Places.{found_of, set_at, met_from}
-use Rattle.record_reader.specs.declared.Found.{Found}
-use Rattle.record_reader.specs.declared.Found.TheVariants.{Set, End}
+use Rattle.record_reader.specs.Places.{here, found_of, set_at, met_from}
 
 -- ---- at any place of any bytes
 
 -- what is found is a number in its byte form, with the place right behind it
-pub set_stands : (bytes : List ℕ) (offset set next : ℕ) → Bytes bytes → set_at bytes offset ≡ Set set next → Stands bytes offset next (bytes_of set)
+pub set_stands : (bytes : List ℕ) (offset set next : ℕ) → Bytes bytes → set_at bytes offset ≡ here set next → Stands bytes offset next (bytes_of set)
 unfolding set_at
 set_stands bytes offset set next small = cases (number_at bytes offset field.Set) refl
   where
-    cases : (r : Read ℕ) → number_at bytes offset field.Set ≡ r → found_of r ≡ Set set next → Stands bytes offset next (bytes_of set)
+    cases : (r : Read ℕ) → number_at bytes offset field.Set ≡ r → found_of r ≡ here set next → Stands bytes offset next (bytes_of set)
     cases (refused why) read e = let z : ◌≡◌ {A = ℕ} 0 1 = cc in absurd (omega arith)
     cases (found value after) read e =
-        let same : value ≡ set = cc e in
-        let ends : after ≡ next = cc e in
+        let both : record { value = value; next = after } ≡ record { value = set; next = next } = cc e in
+        let same : value ≡ set = ap (λ (x : Standing ℕ). x.value) both in
+        let ends : after ≡ next = ap (λ (x : Standing ℕ). x.next) both in
         let r = read_form bytes offset field.Set set next small (read ∙ ap₂ (λ (v k : ℕ). found v k) same ends) in
         record { stands = r.form; position = r.position; inside = r.inside }
 
 -- a number that a record allows is found where its byte form stands
-pub stands_set : (bytes : List ℕ) (offset set : ℕ) (rest : List ℕ) → set ≤ top field.Set → drop offset bytes ≡ bytes_of set ++ rest → set_at bytes offset ≡ Set set (offset + length (bytes_of set))
+pub stands_set : (bytes : List ℕ) (offset set : ℕ) (rest : List ℕ) → set ≤ top field.Set → drop offset bytes ≡ bytes_of set ++ rest → set_at bytes offset ≡ here set (offset + length (bytes_of set))
 unfolding set_at
 stands_set bytes offset set rest allowed e =
     let read : number_at bytes offset field.Set ≡ found set (offset + length (bytes_of set)) =
@@ -60,14 +60,14 @@ stands_set bytes offset set rest allowed e =
     ap found_of read
 
 -- nothing is found behind the last byte
-pub none_behind : (bytes : List ℕ) (offset : ℕ) → length bytes ≤ offset → set_at bytes offset ≡ End
+pub none_behind : (bytes : List ℕ) (offset : ℕ) → length bytes ≤ offset → set_at bytes offset ≡ None
 unfolding set_at
 none_behind bytes offset over = ap found_of (walked_short (walked_none bytes offset 5) field.Set refl (omega arith) over)
 
 -- what one step along the sets finds, and the place behind it
-abbrev pub found_by : Step → Found
-found_by (step.Set set after) = Set set after.next
-found_by step.End = End
+abbrev pub found_by : Option Step → Option (Standing ℕ)
+found_by (Some taken) = here taken.set taken.cursor.next
+found_by None = None
 
 -- a cursor with sets left finds what a reader at its place finds
 pub cursor_found : (bytes : List ℕ) (next left : ℕ) → found_by (step_at bytes (cursor next (suc left))) ≡ set_at bytes next
@@ -89,22 +89,22 @@ module _ (bytes : List ℕ) (end : ℕ) where
     inside = s.inside;
   }
 
-  first_found : (start set : ℕ) (rest : List ℕ) → set ≤ top field.Set → Stands bytes start end (bytes_of set ++ rest) → set_at bytes start ≡ Set set (start + length (bytes_of set))
+  first_found : (start set : ℕ) (rest : List ℕ) → set ≤ top field.Set → Stands bytes start end (bytes_of set ++ rest) → set_at bytes start ≡ here set (start + length (bytes_of set))
   first_found start set rest allowed s =
       stands_set bytes start set (rest ++ drop end bytes) allowed (s.stands ∙ append_assoc (bytes_of set) rest (drop end bytes))
 
   placed : (sets : List ℕ) (start i : ℕ) → ((a : ℕ) → Memᴰ a sets → a ≤ top field.Set) → Stands bytes start end (forms_of sets) → i < length sets
-      → set_at bytes (start + length (forms_of (take i sets))) ≡ Set (get_or sets i 0) (start + length (forms_of (take (suc i) sets)))
+      → set_at bytes (start + length (forms_of (take i sets))) ≡ here (get_or sets i 0) (start + length (forms_of (take (suc i) sets)))
   unfolding forms_of
   placed [] start i allowed s h = absurd (omega arith)
   placed (set ∷ sets) start zero allowed s h =
       ap (set_at bytes) (add-zero start) ∙ first_found start set (forms_of sets) (allowed set (Memᴰ.head refl)) s
-      ∙ ap (λ (form : List ℕ). Set set (start + length form)) (sym (append-nil (bytes_of set)))
+      ∙ ap (λ (form : List ℕ). here set (start + length form)) (sym (append-nil (bytes_of set)))
   placed (set ∷ sets) start (suc i) allowed s h =
       let from : (forms : List ℕ) → start + length (bytes_of set ++ forms) ≡ start + length (bytes_of set) + length forms = λ forms. omega (arith, length-append (bytes_of set) forms) in
       ap (set_at bytes) (from (forms_of (take i sets)))
       ∙ placed sets (start + length (bytes_of set)) i (λ a m. allowed a (Memᴰ.tail m)) (others start (bytes_of set) (forms_of sets) s) (omega (arith, h))
-      ∙ ap (Set (get_or sets i 0)) (sym (from (forms_of (take (suc i) sets))))
+      ∙ ap (here (get_or sets i 0)) (sym (from (forms_of (take (suc i) sets))))
 
   -- moved each time to where the next one starts, a reader meets them, each once and in their order
   meets : (sets : List ℕ) (start : ℕ) → ((a : ℕ) → Memᴰ a sets → a ≤ top field.Set) → Stands bytes start end (forms_of sets)
@@ -136,10 +136,10 @@ module _ (bytes : List ℕ) (small : Bytes bytes) (d : Design) (next : ℕ) (acc
   -- at the first byte of each set: that set, and the first byte of the next
   pub set_placed : (i : ℕ) → i < length d.sets
       → set_at bytes ((whole_contents bytes).begin + length (forms_of (take i d.sets)))
-      ≡ Set (get_or d.sets i 0) ((whole_contents bytes).begin + length (forms_of (take (suc i) d.sets)))
+      ≡ here (get_or d.sets i 0) ((whole_contents bytes).begin + length (forms_of (take (suc i) d.sets)))
   set_placed i h =
       let r = design_read_lem bytes small d next accepted in
-      subst (λ (c : Contents). set_at bytes (c.begin + length (forms_of (take i d.sets))) ≡ Set (get_or d.sets i 0) (c.begin + length (forms_of (take (suc i) d.sets)))) (sym r.contents)
+      subst (λ (c : Contents). set_at bytes (c.begin + length (forms_of (take i d.sets))) ≡ here (get_or d.sets i 0) (c.begin + length (forms_of (take (suc i) d.sets)))) (sym r.contents)
       (placed bytes r.end d.sets r.begin i allowed r.stands h)
 
   -- moved as many times to where the next set starts, a reader meets the sets, each once and in their order
@@ -168,8 +168,8 @@ module _ (bytes : List ℕ) (small : Bytes bytes) (d : Design) (next : ℕ) (acc
       let f = whole_found bytes (first d) next accepted in
       let w = stored_written bytes (first d) next small accepted in
       let read = stored_read bytes 0 [] (first d) w.0 (sym w.1 ∙ sym (append-nil (record_bytes d))) in
-      let here : f.here ≡ standing (first d) 0 = cc (f.read, read) in
-      ap (λ (k : Read StoredAt). (contents_of (body_of k)).end) f.only ∙ ap (λ (h : StoredAt). h.end) here ∙ omega (arith, ap length w.1)
+      let standing_here : f.here ≡ standing (first d) 0 = cc (f.read, read) in
+      ap (λ (k : Read StoredAt). (contents_of (body_of k)).end) f.only ∙ ap (λ (h : StoredAt). h.end) standing_here ∙ omega (arith, ap length w.1)
 
   -- so a reader meets the sets and then the end
   pub reader_ends : met_from (suc (length d.sets)) bytes (set_at bytes (whole_contents bytes).begin) ≡ d.sets

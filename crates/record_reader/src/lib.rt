@@ -5,7 +5,8 @@
 ghost use Rattle.std.specs.Prelude.{◌≡◌};
 ghost use Rattle.record_reader.specs.Places.{set_at};
 
-use record::{Cursor, Step};
+use codec::Standing;
+use record::Cursor;
 
 // A place in a record where the host keeps it. Whether the record is accepted is not asked here: in one that is, what a reader finds from the
 // first set on, as often as there are sets, are its sets. Behind the last of them a record of edition 1 ends, and in one of edition 2 other
@@ -16,29 +17,19 @@ pub struct Reader<'a> {
     pub offset: usize,
 }
 
-// What stands at a place, read as a set: a set, with the place where the next one starts; or no set, as behind the last byte.
-#[derive(Drop)]
-pub enum Found {
-    Set { set: u64, next: usize },
-    End,
-}
-
-// The set at a place: one step of a cursor.
-pub fn set_at(bytes: &[u8], offset: usize) -> Found
+// What stands at a place, read as a set, with the place where the next one starts; none where no number stands, as behind the last byte.
+pub fn set_at(bytes: &[u8], offset: usize) -> Option<Standing<u64>>
     ensures { result ≡ set_at bytes.now offset }
 {
     let cursor = Cursor {
         next: offset,
         left: 1,
     };
-    let step = cursor.step(bytes);
-    match step {
-        Step::End => Found::End,
-        Step::Set { set, cursor: after } => Found::Set {
-            set,
-            next: after.next,
-        },
-    }
+    let step = cursor.step(bytes)?;
+    Some(Standing {
+        value: step.set,
+        next: step.cursor.next,
+    })
 }
 
 // A reader at a place.
@@ -49,7 +40,7 @@ pub fn new<'a>(bytes: &'a [u8], offset: usize) -> Reader<'a>
 }
 
 // The set where the reader is, and where the next one starts.
-pub fn next<'a>(reader: Reader<'a>) -> Found
+pub fn next<'a>(reader: Reader<'a>) -> Option<Standing<u64>>
     ensures { result ≡ set_at reader.entry.bytes.now reader.entry.offset }
 {
     set_at(reader.bytes, reader.offset)
@@ -66,7 +57,7 @@ pub fn moved<'a>(reader: Reader<'a>, offset: usize) -> Reader<'a>
 }
 
 // What a reader at that place finds, for whoever holds none.
-pub fn read_set(bytes: &[u8], offset: usize) -> Found
+pub fn read_set(bytes: &[u8], offset: usize) -> Option<Standing<u64>>
     ensures { result ≡ set_at bytes.now offset }
 {
     next(new(bytes, offset))

@@ -17,13 +17,13 @@ returns-in_default c =
 pub overflow_cast-sets : goal.overflow_cast-sets
 overflow_cast-sets c =
     -- the set is a mask of 16 bits
-    let small : c.in-Set.set < 65536 =
-    c.requires.by_index _ (set_walk_member c.loop-read.invariant c.loop-read-test.true _ _ (sym c.in-Set.ensures)) in
+    let small : c.in-Some.step.set < 65536 =
+    c.requires.by_index _ (set_walk_member c.loop-read.invariant c.loop-read-test.true _ (sym c.in-Some.ensures)) in
     omega (arith, small)
 
 pub loop-read-preserved : goal.loop-read-preserved
 loop-read-preserved c =
-    set_walk_more c.loop-read.invariant c.loop-read-test.true _ _ (sym c.in-Set.ensures) c.requires.left_le_most_sets
+    set_walk_more c.loop-read.invariant c.loop-read-test.true _ (sym c.in-Some.ensures) c.requires.left_le_most_sets
 
 pub returns : goal.returns
 returns c =

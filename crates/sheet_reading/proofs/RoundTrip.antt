@@ -1,7 +1,7 @@
 -- Sheets and vectors there and back (01, "Records on disk"; 02, §11), said of `sheet_of`, which both readers cite, and of what the calls that save
 -- cite: a sheet of every kind that was written before is read as before; a vector that is saved is read back, and what is read is saved as the
 -- bytes that it was read from, but for a tail, which is saved as the signature with the same path counts. Assumes nothing.
-use mathlib.Core.Path.{◌≡◌, refl, sym, ap, ap₂, ◌∙◌}
+use mathlib.Core.Path.{◌≡◌, sym, ap, ap₂, ◌∙◌}
 use mathlib.Core.Bool.{not}
 use mathlib.Core.List.{List}
 use Prim.Native.Nat.{ℕ, ◌≤◌}
@@ -101,13 +101,10 @@ held_entries vector counted =
     ap (λ (k : ℕ). part_count_refusal 0 vector.n (refuse (not (eqb k (length_of vector.kind vector.n))) WrongVectorLength 0 (counts_refusal vector.kind vector.n (entries_of vector))))
     (sym counted)
 
-module _ (bytes buffer : List ℕ) (narrow : Bytes bytes) (accepted : (sheet_read (sheet_of bytes)).verdict ≡ Ok tt) where
-  -- the vector that is read
-  abbrev vector : Vector
-  vector = (sheet_read (sheet_of bytes)).vector
-
-  read : GivenAs (sheet_of bytes) (sheet_read (sheet_of bytes))
-  read = sheet_given (sheet_of bytes) (sheet_read (sheet_of bytes)) refl accepted
+-- from struct to struct, where a vector is read
+module _ (bytes buffer : List ℕ) (narrow : Bytes bytes) (vector : Vector) (accepted : sheet_read (sheet_of bytes) ≡ Ok vector) where
+  read : GivenAs (sheet_of bytes) vector
+  read = sheet_given (sheet_of bytes) vector (sym accepted)
 
   same : struct_refusal vector ≡ vector_refusal vector.kind vector.n (entries_of vector)
   same = held_entries vector read.counted

@@ -1,17 +1,16 @@
 -- The walk along the entries of a sheet: those so far stand in the cells, and what is judged behind them.
 -- Assumes nothing.
 use mathlib.Core.Path.{◌≡◌, refl, sym, ap, ap₂, ◌∙◌}
-use mathlib.Core.Bool.{Bool, true, false, cond, not}
+use mathlib.Core.Bool.{not}
 use mathlib.Core.List.{List, [], ◌∷◌, ◌++◌, map, map-append}
 use Prim.Native.Nat.{ℕ, ◌+◌, ◌-◌, ◌≤◌, ◌<◌}
 use native.Mathlib.Omega.{arith}
 use lib.IntN.{ℤ, pos}
-use lib.Dec.{ltb}
 use lib.ListN.{length, take, set, replicate, length-append}
 use lib.Seq.{take-append_seam}
-use borrow.Author.Tests.{eq-eqb}
-use Rattle.std.specs.Prelude.{Ok}
-use Rattle.answer.specs.Outcome.{at, refuse, and_then}
+use borrow.Author.Tests.{eq-eqb, lt-ltb, le-ltb}
+use Rattle.std.specs.Prelude.{Ok, Err}
+use Rattle.answer.specs.Outcome.{at, Verdict}
 use Rattle.answer.specs.declared.Reason.TheVariants.{WrongVectorLength, BytesLeft}
 use Rattle.answer.specs.declared.Refusal.{Refusal}
 use Rattle.answer.proofs.Outcomes.{refuse_passed}
@@ -22,12 +21,14 @@ use Rattle.codec.specs.Reads.{Read, found, refused, then, unless}
 use Rattle.codec.specs.Reading.{number_at}
 use Rattle.codec.specs.FieldReads.{judged, field_at, any_number}
 use Rattle.codec.proofs.FieldReads.{FieldsWalk, fields_walk_none, fields_walk_more, fields_walk_refused, fields_walk_end}
-use Rattle.vector.specs.InStruct.{most_entries, entry_cells}
+use Rattle.vector.specs.InStruct.{most_entries, entry_cells, vector_holding, struct_refusal}
+use Rattle.vector.specs.declared.Vector.{Vector}
 use Rattle.vector_kind.specs.Kinds.{length_of}
-use Rattle.vector_conversion.specs.Vectors.{counts_refusal, vector_refusal}
+use Rattle.vector_conversion.specs.Vectors.{counts_refusal}
 use Rattle.vector_kind.specs.declared.Kind.{Kind}
 use Rattle.sheet.specs.Sheets.{decoded, sheet, entries_at}
-use Rattle.sheet_reading.specs.Inside.{ended}
+use Rattle.sheet_reading.specs.Inside.{ended, entered}
+use Rattle.sheet_reading.specs.Answers.{sheet_read}
 
 pub record EntriesWalk (bytes : List ℕ) (kind : Kind) (count start : ℕ) (cells : List ℤ) (next index : ℕ) : Type 0 where
   pub numbers : List ℕ
@@ -75,19 +76,47 @@ pub entries_held : (count : ℕ) (cells entries : List ℤ) → count ≡ length
 entries_held count cells entries counted stands =
     ap₂ (λ (k : ℕ) (l : List ℤ). take k l) counted stands ∙ take-append_seam entries (replicate (most_entries - length entries) (pos 0))
 
--- a vector with its kind's length passes 1 and 12
-pub vector_counts : (kind : Kind) (n : ℕ) (entries : List ℤ) → 1 ≤ n → n ≤ 16 → length entries ≡ length_of kind n → vector_refusal kind n entries ≡ counts_refusal kind n entries
-unfolding vector_refusal
-vector_counts kind n entries some few long =
-    parts_passed 0 n _ some few
-    ∙ refuse_passed _ WrongVectorLength 0 _ (ap not (eq-eqb (length entries) (length_of kind n) long))
+-- 25 comes first, and then 13 and 14
+ended_left : (bytes : List ℕ) (kind : Kind) (n : ℕ) (entries : List ℤ) (end : ℕ) → end < length bytes → ended bytes kind n entries end ≡ refused (at BytesLeft end)
+ended_left bytes kind n entries end h = rw (lt-ltb end (length bytes) h)
 
--- 25, and then 13 and 14, are the first of two verdicts
-pub ended_first : (bytes : List ℕ) (kind : Kind) (n : ℕ) (entries : List ℤ) (end : ℕ) → ended bytes kind n entries end
-    ≡ unless (and_then (refuse (ltb end (length bytes)) BytesLeft end (Ok tt)) (counts_refusal kind n entries)) (found (sheet kind n entries) end)
-ended_first bytes kind n entries end = either (ltb end (length bytes))
-  where
-    either : (t : Bool) → then (cond t (refused (at BytesLeft end)) (found entries end)) (λ all last. unless (counts_refusal kind n all) (found (sheet kind n all) last))
-        ≡ unless (and_then (refuse t BytesLeft end (Ok tt)) (counts_refusal kind n entries)) (found (sheet kind n entries) end)
-    either true = refl
-    either false = refl
+ended_judged : (bytes : List ℕ) (kind : Kind) (n : ℕ) (entries : List ℤ) (end : ℕ) → length bytes ≤ end
+    → ended bytes kind n entries end ≡ unless (counts_refusal kind n entries) (found (sheet kind n entries) end)
+ended_judged bytes kind n entries end h = rw (le-ltb end (length bytes) h)
+
+-- what is answered of the vector in the cells
+module _ {bytes : List ℕ} {kind : Kind} {n start : ℕ} {cells : List ℤ} {next index : ℕ} (w : EntriesWalk bytes kind (length_of kind n) start cells next index)
+    (some : 1 ≤ n) (few : n ≤ 16) (count : ℕ) (known : count ≡ length_of kind n) (past : count ≤ index) where
+  long : length w.earlier ≡ length_of kind n
+  long = omega (arith, w.walk.within, w.counted)
+
+  read : entered bytes kind n start ≡ ended bytes kind n w.earlier next
+  read = ap (λ (r : Read (List ℤ)). then r (ended bytes kind n)) (walk_end w (omega arith))
+
+  abbrev vector : Vector
+  vector = record { kind = kind; n = n; length = count; entries = cells }
+
+  same : vector ≡ vector_holding kind n w.earlier
+  same = ap₂ (λ (k : ℕ) (l : List ℤ). record { kind = kind; n = n; length = k; entries = l }) (known ∙ sym long) w.stands
+
+  -- its length is its kind's, so it passes 1 and 12
+  held : struct_refusal (vector_holding kind n w.earlier) ≡ counts_refusal kind n w.earlier
+  unfolding struct_refusal
+  held =
+      parts_passed 0 n _ some few
+      ∙ refuse_passed _ WrongVectorLength 0 _ (ap not (eq-eqb (length w.earlier) (length_of kind n) long))
+      ∙ ap (counts_refusal kind n) (entries_held (length w.earlier) (entry_cells w.earlier) w.earlier refl refl)
+
+  judged_as : (v : Verdict) → v ≡ struct_refusal vector → length bytes ≤ next → entered bytes kind n start ≡ unless v (found (sheet kind n w.earlier) next)
+  judged_as v e h =
+      read ∙ ended_judged bytes kind n w.earlier next h
+      ∙ ap (λ (v : Verdict). unless v (found (sheet kind n w.earlier) next)) (sym (e ∙ ap struct_refusal same ∙ held))
+
+  pub read_left : next < length bytes → Err (at BytesLeft next) ≡ sheet_read (entered bytes kind n start)
+  read_left h = ap sheet_read (sym (read ∙ ended_left bytes kind n w.earlier next h))
+
+  pub read_refused : (why : Refusal) → Err why ≡ struct_refusal vector → length bytes ≤ next → Err why ≡ sheet_read (entered bytes kind n start)
+  read_refused why e h = ap sheet_read (sym (judged_as (Err why) e h))
+
+  pub read_given : Ok tt ≡ struct_refusal vector → length bytes ≤ next → Ok vector ≡ sheet_read (entered bytes kind n start)
+  read_given e h = ap Ok same ∙ ap sheet_read (sym (judged_as (Ok tt) e h))

@@ -79,17 +79,17 @@ accepted_few vector accepted =
     let long : vector.length ≡ length_of vector.kind n = eqb-true vector.length (length_of vector.kind n) (not-false (eqb vector.length (length_of vector.kind n)) c12.0) in
     omega (arith, lengths vector.kind n (leb-true 1 n (and_left (leb 1 n) (leb n 16) parts)) (leb-true n 16 (and_right (leb 1 n) (leb n 16) parts)))
 
-pub lent_all : (vector : Vector) → struct_refusal vector ≡ Ok tt → lent_cells vector.length ≡ vector.length
-lent_all vector accepted = ap (λ (t : Bool). cond t 0 vector.length) (le-ltb most_entries vector.length (accepted_few vector accepted))
+pub lent_inside : (vector : Vector) → vector.length ≤ most_entries → take (lent_cells vector.length) vector.entries ≡ entries_of vector
+lent_inside vector few = ap (λ (t : Bool). take (cond t 0 vector.length) vector.entries) (le-ltb most_entries vector.length few)
 
 pub lent_held : (vector : Vector) → struct_refusal vector ≡ Ok tt → take (lent_cells vector.length) vector.entries ≡ entries_of vector
-lent_held vector accepted = ap (λ (k : ℕ). take k vector.entries) (lent_all vector accepted)
+lent_held vector accepted = lent_inside vector (accepted_few vector accepted)
 
 -- and its entries are an accepted vector
 pub held_same : (vector : Vector) → length vector.entries ≡ most_entries → struct_refusal vector ≡ Ok tt
     → vector_refusal vector.kind vector.n (entries_of vector) ≡ struct_refusal vector
 held_same vector all accepted =
-    ap (λ (k : ℕ). vector_refusal vector.kind vector.n (take k vector.entries)) (sym (lent_all vector accepted)) ∙ lent_judged vector all
+    ap (vector_refusal vector.kind vector.n) (sym (lent_held vector accepted)) ∙ lent_judged vector all
 
 -- ---- a result in spare cells
 

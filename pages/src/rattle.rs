@@ -33,20 +33,27 @@ pub fn read(text: &str) -> Source {
     let mut source = Source::default();
     let lines: Vec<&str> = text.lines().collect();
     let mut owner: Option<String> = None;
+    // of the methods of a trait, which others can call: what the ghost items before them say
+    let mut said: Option<Vec<String>> = None;
     for (at, line) in lines.iter().enumerate() {
         if let Some(rest) = line.strip_prefix("ghost use ") {
             antt::bring(rest, &mut source.clauses);
         } else if let Some((from, name)) = line.strip_prefix("use ").and_then(|rest| rest.trim_end_matches(';').rsplit_once("::")) {
             source.foreign.insert(name.to_string(), from.to_string());
         } else if let Some(rest) = line.strip_prefix("impl ") {
-            owner = rest.split_whitespace().next().map(|name| name.split('<').next().unwrap_or(name).to_string());
+            let own = rest.rsplit(" for ").next().unwrap_or(rest);
+            owner = own.split_whitespace().next().map(|name| name.split('<').next().unwrap_or(name).to_string());
+            said = rest.contains(" for ").then(Vec::new);
         } else if let (Some(owner), Some(rest)) = (&owner, line.trim_start().strip_prefix("pub const ")) {
             source.constants.extend(rest.split(':').next().map(|name| format!("{owner}::{name}")));
+        } else if let (Some(said), Some(rest)) = (&mut said, line.trim_start().strip_prefix("ghost ")) {
+            said.extend(antt::words(rest));
         } else if *line == "}" {
-            owner = None;
+            (owner, said) = (None, None);
         } else if let Some((name, open)) = function(line) {
             let name = owner.as_ref().map_or(name.clone(), |owner| format!("{owner}::{name}"));
-            source.functions.push(Function { name, open, contract: contract(&lines, at) });
+            let words = said.iter().flatten().cloned().chain(contract(&lines, at)).collect();
+            source.functions.push(Function { name, open: open || said.is_some(), contract: words });
         } else if let Some(name) = declared_type(line) {
             let lines = &lines[at..at + length(&lines, at)];
             let words = lines.iter().filter(|line| antt::is_code(line)).flat_map(|line| type_words(line)).collect();
@@ -98,8 +105,8 @@ fn type_words(line: &str) -> Vec<String> {
 mod tests {
     use super::*;
 
-    const TEXT: &str = "use answer::Written;\nghost use M.{f};\npub struct List {\n    pub count: usize,\n}\nimpl List {\n    pub const MOST: usize = 16;\n    \
-        pub fn first(n: usize) -> List\n        ensures { result ≡ f n }\n    {\n        g(n)\n    }\n}\nfn inner(n: usize) -> Written {\n    n\n}\n";
+    const TEXT: &str = "use answer::Refusal;\nghost use M.{f};\npub struct List {\n    pub count: usize,\n}\nimpl List {\n    pub const MOST: usize = 16;\n    \
+        pub fn first(n: usize) -> List\n        ensures { result ≡ f n }\n    {\n        g(n)\n    }\n}\nfn inner(n: usize) -> Refusal {\n    n\n}\n";
 
     #[test]
     fn functions_with_their_contracts() {
@@ -111,10 +118,20 @@ mod tests {
     }
 
     #[test]
+    fn the_methods_of_a_trait_are_open() {
+        let text = "impl TryFrom<u8> for Kind {\n    ghost try_from_gives = { f };\n    fn try_from(n: u8) -> Kind {\n        g(n)\n    }\n}\nfn inner() {\n}\n";
+        let source = read(text);
+        let names: Vec<(&str, bool)> = source.functions.iter().map(|f| (f.name.as_str(), f.open)).collect();
+        assert_eq!(names, [("Kind::try_from", true), ("inner", false)]);
+        assert!(source.functions[0].contract.contains(&String::from("f")));
+        assert!(source.functions[1].contract.is_empty());
+    }
+
+    #[test]
     fn types_and_constants() {
         let source = read(TEXT);
         assert_eq!(source.types["List"].lines, 3);
         assert_eq!(source.constants, ["List::MOST"]);
-        assert_eq!(source.foreign["Written"], "answer");
+        assert_eq!(source.foreign["Refusal"], "answer");
     }
 }

@@ -23,7 +23,7 @@ use Rattle.blocks_checks.specs.Refusals.{blocks_refusal}
 use Rattle.blocks_checks.specs.Accepted.{AcceptedBlocks}
 use Rattle.blocks_checks.proofs.Claims.{blocks_accepted, count_beyond, vector_rises}
 use Rattle.blocks.specs.Whole.{counts_of_blocks}
-use Rattle.blocks.specs.Inside.{rows_of, row_at, BothRows}
+use Rattle.blocks.specs.Inside.{rows_of, row_at, stopped_of, stopped_at, BothRows}
 use Rattle.blocks.proofs.Rows.{rows_row}
 use Rattle.blocks.proofs.Folds.{counts_over, over}
 
@@ -40,7 +40,7 @@ module _ (table sizes : List ℕ) (vectors : List ℤ) (judged : blocks_refusal 
   pub vectors_long : length vectors ≡ start_of sizes (length sizes)
   vectors_long = accepted.long
 
-  module _ (running : List ℕ) (is-running : running ≡ rows_of (length sizes) (block_counts sizes vectors)) where
+  module _ (running : List (List ℕ)) (is-running : running ≡ rows_of (length sizes) (block_counts sizes vectors)) where
     running_row : (b : ℕ) → b < length sizes → (j : ℕ) → row_at running b j ≡ block_counts sizes vectors b j
     running_row b below =
         rows_row (length sizes) (block_counts sizes vectors) blocks_few running is-running b below (λ j h.
@@ -49,7 +49,8 @@ module _ (table sizes : List ℕ) (vectors : List ℤ) (judged : blocks_refusal 
     pub running_most : (b : ℕ) → b < length sizes → (j : ℕ) → row_at running b j ≤ choose (size_at sizes b) j
     running_most b below j = le_trans (le_of_eq (running_row b below j)) ((vector_rises accepted b below).most j)
 
-    pub both_rows : (stopped : List ℕ) → stopped ≡ rows_of (length sizes) (λ b j. choose (size_at sizes b) j - row_at running b j) → BothRows sizes running stopped
+    pub both_rows : (stopped : List (List ℕ)) → stopped ≡ rows_of (length sizes) (stopped_at sizes running) → BothRows sizes running stopped
+    unfolding stopped_at stopped_of
     both_rows stopped is-stopped = record {
       blocks = blocks_few;
       few = accepted.few;

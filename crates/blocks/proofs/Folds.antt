@@ -2,7 +2,7 @@
 -- them by both of its rows. Assumes nothing.
 use mathlib.Core.Path.{◌≡◌, refl, sym, ap, ap₂, ◌∙◌}
 use mathlib.Core.Bool.{Bool}
-use mathlib.Core.List.{List}
+use mathlib.Core.List.{List, []}
 use mathlib.Core.Logic.{◌⊎◌, inl, inr}
 use Prim.Native.Nat.{ℕ, suc, ◌+◌, ◌^◌, ◌≤◌, ◌<◌}
 use native.Mathlib.Nat.{le_trans, lt_of_lt_of_le}
@@ -22,17 +22,17 @@ use Rattle.blocks_checks.specs.Given.{size_at}
 use Rattle.blocks.specs.Inside.{row_at, cells_of, joined_count, BothRows, Joining}
 
 -- the counts of the first r blocks, and their list
-abbrev pub counts_over : List ℕ → List ℕ → ℕ → (ℕ → Bool) → ℕ → ℕ
+abbrev pub counts_over : List ℕ → List (List ℕ) → ℕ → (ℕ → Bool) → ℕ → ℕ
 counts_over sizes running r works = count_of_blocks (size_at sizes) (row_at running) r works
 
-abbrev pub Counted : List ℕ → List ℕ → ℕ → (ℕ → Bool) → List ℕ → Type 0
+abbrev pub Counted : List ℕ → List (List ℕ) → ℕ → (ℕ → Bool) → List ℕ → Type 0
 Counted sizes running r works counts = counts ≡ tabulate 17 (counts_over sizes running r works)
 
 -- the structure of the first blocks, where those in the set above run and no other behind the first ones does
 abbrev pub over : List ℕ → ℕ → ℕ → Bool
 over words above a = in_words words (a + above)
 
-module _ {sizes running stopped : List ℕ} (both : BothRows sizes running stopped) where
+module _ {sizes : List ℕ} {running stopped : List (List ℕ)} (both : BothRows sizes running stopped) where
   size_within : (b : ℕ) → b < length sizes → size_at sizes b ≤ 16
   size_within b below = le_trans (sum_below_term (size_at sizes) b (length sizes) below) both.few
 
@@ -67,9 +67,8 @@ module _ {sizes running stopped : List ℕ} (both : BothRows sizes running stopp
     before : last ≤ length sizes
     before = omega arith
 
-    pub joins_small : Joining (size_at sizes last) last running stopped with without
+    pub joins_small : Joining (size_at sizes last) (get_or running last []) (get_or stopped last []) with without
     joins_small = record {
-      block = omega (arith, both.blocks);
       parts = size_within last below;
       most_running = both.most last below;
       most_stopped = λ i. omega (arith, both.rest last below i);
@@ -77,7 +76,8 @@ module _ {sizes running stopped : List ℕ} (both : BothRows sizes running stopp
       few_without = counts_few last before (over words above) without is-without;
     }
 
-    pub joins_next : (k : ℕ) → joined_count last running stopped with without k ≡ counts_over sizes running (suc last) (over words above) k
+    pub joins_next : (k : ℕ) → joined_count (get_or running last []) (get_or stopped last []) with without k ≡ counts_over sizes running (suc last) (over words above) k
+    unfolding joined_count
     joins_next k =
         ap₂ (λ (u v : ℕ). u + v)
         (product_same _ _ _ _ k (λ i l. refl) (λ i l. counts_at_lem last before (over words aside) with is-with i

@@ -61,7 +61,7 @@ fn write_from_cells(n: usize, m: usize, cells: &[i64], shares: &mut [i64])
 }
 
 // Whose share is worked out: that for k in a group with m of a machine's n parts.
-#[derive(Clone, Copy)]
+#[derive(Drop)]
 struct Place {
     n: usize,
     m: usize,

@@ -1,24 +1,18 @@
--- `blocks::no_block` meets its contract: each of the two rows is what the table of its numbers computes to.
+-- `blocks::no_block` meets its contract: the first number says whether the whole runs, and the others are 0.
 -- Assumes nothing.
-use mathlib.Core.Path.{sym, ap}
-use mathlib.Core.Bool.{Bool, cond}
-use mathlib.Core.List.{List}
+use mathlib.Core.Path.{◌≡◌, refl, ap, ◌∙◌}
+use mathlib.Core.Bool.{Bool, true, false, cond}
 use Prim.Native.Nat.{ℕ}
 use lib.Dec.{eqb}
+use lib.ListN.{set, replicate}
 use Rattle.numbers.specs.Tables.{tabulate}
 use Rattle.theory_sums.specs.Sums.{indicator}
 use Rattle.blocks.proofs.no_block.Goals as goal
 
--- the row where the whole runs, or where it does not
-row_where : Bool → List ℕ
-row_where runs = tabulate 17 (λ j. cond runs (indicator (eqb j 0)) 0)
+first_only : (runs : Bool) → set (replicate 17 0) 0 (indicator runs) ≡ tabulate 17 (λ j. cond runs (indicator (eqb j 0)) 0)
+unfolding tabulate
+first_only true = refl
+first_only false = refl
 
-pub returns-then-runs : goal.returns-then-runs
-unfolding row_where tabulate
-returns-then-runs c =
-    sym (ap row_where c.if-runs.true)
-
-pub returns-else-runs : goal.returns-else-runs
-unfolding row_where tabulate
-returns-else-runs c =
-    sym (ap row_where c.if-runs.false)
+pub returns : goal.returns
+returns c = ap (λ (x : ℕ). set (replicate 17 0) 0 x) c.from.ensures ∙ first_only c.args.runs

@@ -7,7 +7,7 @@ use lib.IntN.{pos}
 use lib.ListN.{length}
 use lib.Pow.{pow_mono}
 use Rattle.numbers.proofs.Tables.{tabulate_same}
-use Rattle.blocks.specs.Inside.{BothRows}
+use Rattle.blocks.specs.Inside.{BothRows, entry_at}
 use Rattle.blocks.proofs.Folds.{over, counts_few, counts_at_lem}
 use Rattle.blocks.proofs.Accepted.{blocks_few, sizes_few, vectors_long, running_most, both_rows, counts_whole}
 use Rattle.blocks.proofs.whole_counts.Goals as goal
@@ -54,6 +54,7 @@ signed-requires c =
     counts_few both (length c.args.sizes.now) (le_refl _) (over c.load-words.result 0) _ c.folded-counts.ensures
 
 pub returns : goal.returns
+unfolding entry_at
 returns c =
     let both : BothRows c.args.sizes.now c.running_counts-running.result c.stopped_counts-stopped.result =
     let a = c.args in

@@ -1,8 +1,9 @@
 -- What a host is handed. A call leaves what the function behind it leaves, with its answer told in this form: number 0 where the call is given,
 -- with the length written or the number asked for; else the refusal's number, with its place.
-use Rattle.std.specs.Prelude.{ℕ, ◌-◌, Ok, Err, Option, Some, None}
+use Rattle.std.specs.Prelude.{ℕ, ◌-◌, Result, Ok, Err, Option, Some, None}
 use Rattle.answer.specs.Refusals.{number_of}
 use Rattle.answer.specs.Outcome.{Numbered, Verdict}
+use Rattle.answer.specs.declared.Refusal.{Refusal}
 use Rattle.record.specs.declared.Contents.{Contents}
 use Rattle.record.specs.declared.Step.{Step}
 use Rattle.nahokipe.specs.declared.Answer.{Answer}
@@ -47,12 +48,7 @@ abbrev pub of_step : Option Step → NextSet
 of_step None = record { given = 0; set = 0; next = 0; left = 0 }
 of_step (Some taken) = record { given = 1; set = taken.set; next = taken.cursor.next; left = taken.cursor.left }
 
--- what reading a sheet hands out: the refusal, or 0 and how many entries were written; the kind's number and n
-abbrev pub of_entries_read : EntriesRead → Sheet
-of_entries_read read =
-    record {
-      number = (of_written read.answer).number;
-      value = (of_written read.answer).value;
-      kind = kind_number read.kind;
-      n = read.n;
-    }
+-- what reading a sheet hands out: 0, how many entries were written, the kind's number and n; of a refused sheet the refusal, kind 1 and n = 0
+abbrev pub of_entries_read : Result EntriesRead Refusal → Sheet
+of_entries_read (Ok read) = record { number = 0; value = read.length; kind = kind_number read.kind; n = read.n }
+of_entries_read (Err r) = record { number = number_of r.reason; value = r.place; kind = 1; n = 0 }

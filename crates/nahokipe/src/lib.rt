@@ -668,16 +668,21 @@ fn of_step(step: Option<Step>) -> NextSet
     }
 }
 
-fn of_entries_read(read: EntriesRead) -> Sheet
+fn of_entries_read(read: Result<EntriesRead, Refusal>) -> Sheet
     ensures { result ≡ of_entries_read read }
 {
-    let written = read.answer;
-    let answer = of_written(written);
-    let kind = read.kind;
-    Sheet {
-        number: answer.number,
-        value: answer.value,
-        kind: kind.number(),
-        n: read.n,
+    match read {
+        Ok(told) => Sheet {
+            number: 0,
+            value: told.length,
+            kind: told.kind.number(),
+            n: told.n,
+        },
+        Err(refusal) => Sheet {
+            number: refusal.reason.number(),
+            value: refusal.place,
+            kind: 1,
+            n: 0,
+        },
     }
 }

@@ -1,4 +1,5 @@
 pub mod Reversal
+pub mod Turning
 pub mod CutWords
 pub mod Walks
 pub mod Claims

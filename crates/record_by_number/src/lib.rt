@@ -14,10 +14,7 @@ pub fn position_of(bytes: &[u8], number: u64) -> Result<usize, Refusal>
     ensures { result ≡ part_position bytes.now number }
 {
     let contents = record_editions::whole_record(bytes);
-    let verdict = contents.verdict;
-    if let Err(refusal) = verdict {
-        return Err(refusal);
-    }
+    contents.verdict?;
     let list = contents.list;
     let numbers = list.numbers;
     let count = list.count;
@@ -28,33 +25,24 @@ pub fn position_of(bytes: &[u8], number: u64) -> Result<usize, Refusal>
 pub fn take_out_part(bytes: &[u8], number: u64, buffer: &mut [u8]) -> Result<usize, Refusal>
     ensures { outcome result buffer.new ≡ changed_there take_out (part_position bytes.now number) bytes.now buffer.old }
 {
-    let there = position_of(bytes, number);
-    match there {
-        Err(refusal) => Err(refusal),
-        Ok(position) => record_changes::take_out(bytes, position, buffer),
-    }
+    let position = position_of(bytes, number)?;
+    record_changes::take_out(bytes, position, buffer)
 }
 
 // Take out the parts that have these numbers, together.
 pub fn take_out_parts(bytes: &[u8], wanted: &[u64], buffer: &mut [u8]) -> Result<usize, Refusal>
     ensures { outcome result buffer.new ≡ changed_there take_out_group (parts_mask bytes.now wanted.now) bytes.now buffer.old }
 {
-    let there = mask_in(bytes, wanted);
-    match there {
-        Err(refusal) => Err(refusal),
-        Ok(group) => record_changes::take_out_group(bytes, group, buffer),
-    }
+    let group = mask_in(bytes, wanted)?;
+    record_changes::take_out_group(bytes, group, buffer)
 }
 
 // Add the path set of the parts that have these numbers.
 pub fn add_set_of_parts(bytes: &[u8], wanted: &[u64], buffer: &mut [u8]) -> Result<usize, Refusal>
     ensures { outcome result buffer.new ≡ changed_there add_set (parts_mask bytes.now wanted.now) bytes.now buffer.old }
 {
-    let there = mask_in(bytes, wanted);
-    match there {
-        Err(refusal) => Err(refusal),
-        Ok(mask) => record_changes::add_set(bytes, mask as u16, buffer),
-    }
+    let mask = mask_in(bytes, wanted)?;
+    record_changes::add_set(bytes, mask as u16, buffer)
 }
 
 // The mask of the parts that have these numbers.
@@ -62,10 +50,7 @@ fn mask_in(bytes: &[u8], wanted: &[u64]) -> Result<usize, Refusal>
     ensures { result ≡ parts_mask bytes.now wanted.now }
 {
     let contents = record_editions::whole_record(bytes);
-    let verdict = contents.verdict;
-    if let Err(refusal) = verdict {
-        return Err(refusal);
-    }
+    contents.verdict?;
     let list = contents.list;
     let numbers = list.numbers;
     let count = list.count;

@@ -47,10 +47,7 @@ pub fn record_of_drawing(text: &[u8], buffer: &mut [u8]) -> Result<usize, Refusa
     ensures { outcome result buffer.new ≡ record_of_drawing text.now buffer.old }
 {
     let drawn = read_drawing(text);
-    let verdict = drawn.verdict;
-    if let Err(refusal) = verdict {
-        return Err(refusal);
-    }
+    drawn.verdict?;
     let sets = drawn.sets;
     let count = drawn.count;
     record_changes::first_record(drawn.parts, &sets[..count], buffer)

@@ -19,10 +19,7 @@ pub fn drawing_of_record(bytes: &[u8], buffer: &mut [u8]) -> Result<usize, Refus
     ensures { outcome result buffer.new ≡ drawing_of_record bytes.now buffer.old }
 {
     let opened = record_opening::open_record(bytes);
-    let verdict = opened.verdict;
-    if let Err(refusal) = verdict {
-        return Err(refusal);
-    }
+    opened.verdict?;
     let list = opened.list;
     let sets = opened.sets;
     let count = opened.count;

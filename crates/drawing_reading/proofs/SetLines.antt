@@ -39,13 +39,16 @@ module _ (place start : ℕ) (result : ℕ) (end : ℕ) where
   abbrev verdicts : Bool → Bool → Bool → Verdict → Verdict
   verdicts a b c later = refuse a WrongLine place (refuse b UnknownPosition place (refuse c RepeatedPosition place later))
 
-  same_reason : {a b : Reason} → line.Refused a ≡ line.Refused b → Err (at b place) ≡ Err (at a place)
-  same_reason e = ap (λ (r : Reason). Err (at r place)) (sym (let same : _ ≡ _ = cc in same))
+  abbrev refused_at : Reason → Verdict
+  refused_at reason = Err (at reason place)
+
+  same_reason : (a b : Reason) → line.Refused a ≡ line.Refused b → refused_at b ≡ refused_at a
+  same_reason a b e = let same : a ≡ b = cc in ap refused_at (sym same)
 
   told_refused : (reason : Reason) (a b c : Bool) (later : Verdict) → line.Refused reason ≡ chain a b c → verdicts a b c later ≡ Err (at reason place)
-  told_refused reason true b c later e = same_reason e
-  told_refused reason false true c later e = same_reason e
-  told_refused reason false false true later e = same_reason e
+  told_refused reason true b c later e = same_reason _ _ e
+  told_refused reason false true c later e = same_reason _ _ e
+  told_refused reason false false true later e = same_reason _ _ e
   told_refused reason false false false later e = let z : ◌≡◌ {A = ℕ} 0 1 = cc in absurd (omega arith)
 
   told_set : (set next : ℕ) (a b c : Bool) → line.Set set next ≡ chain a b c → (a ≡ false) × (b ≡ false) × (c ≡ false) × (set ≡ result) × (next ≡ end)

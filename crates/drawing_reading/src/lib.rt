@@ -3,7 +3,7 @@
 #![tactic(auto)]
 
 ghost use Rattle.std.specs.Prelude.{true, ◌≡◌, [], map, ◌+◌, ◌*◌, ◌^◌, ◌≤◌, ◌<◌, length, get_or, take, drop};
-ghost use Rattle.answer.specs.Outcome.{outcome};
+ghost use Rattle.answer.specs.Outcome.{at, outcome};
 ghost use Rattle.drawing_text.specs.Lines.{lines_of, first_line};
 ghost use Rattle.drawing_text.specs.Forms.{same_bytes};
 ghost use Rattle.drawing_text.specs.Drawings.{set_on, set_lines_refusal, drawing_refusal, drawn_parts, drawn_sets, record_of_drawing};

@@ -24,15 +24,15 @@ pub read_set_line-line-requires : goal.read_set_line-line-requires
 read_set_line-line-requires c =
     record { n_bound = c.requires; start_in_bounds = omega arith }
 
-pub overflow_add-count-in-Err : goal.overflow_add-count-in-Err
-overflow_add-count-in-Err c =
+pub overflow_add-count-in-Refused : goal.overflow_add-count-in-Refused
+overflow_add-count-in-Refused c =
     let few = c.loop-next.invariant.few in omega (arith, few)
 
-pub returns-in-Err : goal.returns-in-Err
-returns-in-Err c =
+pub returns-in-Refused : goal.returns-in-Refused
+returns-in-Refused c =
     let w = c.loop-next.invariant in
-    c.refused-in-Err.ensures
-    ∙ lines_walk_refused w _ (lines_walk_broken w c.loop-next-test.true c.if-count-eq12870.false _ (sym c.in-Err.is ∙ c.read_set_line-line.ensures))
+    c.refused-in-Refused.ensures
+    ∙ lines_walk_refused w _ (lines_walk_broken w c.loop-next-test.true c.if-count-eq12870.false _ (sym c.in-Refused.is ∙ c.read_set_line-line.ensures))
 
 pub offset_bounds-sets-count : goal.offset_bounds-sets-count
 offset_bounds-sets-count c =

@@ -1,15 +1,18 @@
 -- Laws of blocks as they are given: sizes and vectors are accepted exactly if each is, and where a block's vector starts and ends. Assumes nothing.
-use mathlib.Core.Path.{◌≡◌, sym, ap, ap₂, ◌∙◌}
+use mathlib.Core.Path.{◌≡◌, refl, sym, ap, ap₂, ◌∙◌}
 use mathlib.Core.Bool.{true, not, ◌&&◌}
 use mathlib.Core.List.{List}
-use Prim.Native.Nat.{ℕ, ◌+◌, ◌-◌, ◌*◌, ◌≤◌, ◌<◌}
-use native.Mathlib.Nat.{lt_of_lt_of_le, add_assoc}
+use Prim.Native.Nat.{ℕ, zero, suc, ◌+◌, ◌-◌, ◌*◌, ◌≤◌, ◌<◌}
+use native.Mathlib.Nat.{le_of_eq, lt_of_lt_of_le, add_assoc}
 use native.Mathlib.Numerals.{add-one}
 use native.Mathlib.Omega.{arith}
 use lib.Dec.{leb}
 use lib.IntN.{ℤ}
-use lib.ListN.{take, drop}
+use lib.ListN.{length, take, drop}
+use Rattle.std.specs.List.{sum}
 use Rattle.std.specs.Prelude.{Ok, Err}
+use Rattle.std.proofs.lemmas.List.{take_all}
+use Rattle.std.proofs.lemmas.List.Sums.{sum_by_more}
 use Rattle.answer.specs.Outcome.{at}
 use Rattle.answer.specs.declared.Reason.TheVariants.{WrongPartCount}
 use Rattle.answer.specs.declared.Refusal.{Refusal}
@@ -43,6 +46,19 @@ module _ (sizes : List ℕ) where
   parts_few r h b inside =
       let each : (c : ℕ) → c < b → size_at sizes c ≤ 16 * 1 = λ c below. (sizes_right r h c (lt_of_lt_of_le below inside)).1 in
       omega (arith, sum_below_le (size_at sizes) (λ c. 16 * 1) b each, sum_below_mul 16 (λ c. 1) b, sum_below_ones b)
+
+  -- the sum of the list
+  sum_parts : (b : ℕ) → b ≤ length sizes → sum (take b sizes) ≡ parts_in (size_at sizes) b
+  unfolding sum_below
+  sum_parts zero h = refl
+  sum_parts (suc b) h =
+      ap (λ (k : ℕ). sum (take k sizes)) (sym (add-one b)) ∙ sum_by_more (λ x. x) sizes b 0 h
+      ∙ ap (λ (u : ℕ). u + size_at sizes b) (sum_parts b (omega arith))
+
+  pub all_parts : length sizes ≤ 16 → sizes_refusal sizes (length sizes) ≡ Ok tt → (sum sizes ≡ parts_in (size_at sizes) (length sizes)) × (sum sizes ≤ 256)
+  all_parts few h =
+      let all : sum sizes ≡ parts_in (size_at sizes) (length sizes) = ap sum (sym (take_all (length sizes) sizes (le_of_eq refl))) ∙ sum_parts (length sizes) (le_of_eq refl) in
+      (all, omega (arith, all, parts_few (length sizes) h (length sizes) (le_of_eq refl)))
 
   -- ---- starts
 

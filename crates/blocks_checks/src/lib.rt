@@ -11,7 +11,12 @@ use answer::{Reason, Refusal};
 use vector_kind::Kind;
 
 // The verdict on a table over blocks, with their sizes and vectors.
-pub fn blocks_verdict(blocks: usize, table: &[u8], sizes: &[usize], vectors: &[i64]) -> Result<(), Refusal>
+pub fn blocks_verdict(
+    blocks: usize,
+    table: &[u8],
+    sizes: &[usize],
+    vectors: &[i64],
+) -> Result<(), Refusal>
     ensures { result ≡ blocks_refusal blocks table.now sizes.now vectors.now }
 {
     let checked = structure::table_verdict(blocks, table);
@@ -70,11 +75,7 @@ fn parts_in(sizes: &[usize]) -> usize
     requires sizes_value { sizes_refusal sizes.now (length sizes.now) ≡ Ok tt }
     ensures { (result ≡ parts_in (size_at sizes.now) (length sizes.now)) × (result ≤ 256) }
 {
-    let mut parts: usize = 0;
-    for b in 0..sizes.len() {
-        parts += sizes[b];
-    }
-    parts
+    sizes.iter().sum()
 }
 
 // The verdict on the vectors, one after another, each whole before the next.

@@ -1,39 +1,21 @@
--- `blocks_checks::parts_in` meets its contract: each of at most 16 sizes is at most 16, so that no sum on the way is above 256.
+-- `blocks_checks::parts_in` meets its contract: each of at most 16 sizes is at most 16, so that the sum is at most 256.
 -- Assumes nothing.
-use mathlib.Core.Path.{◌≡◌, refl, sym, ap, ◌∙◌}
-use Prim.Native.Nat.{ℕ, ◌+◌}
-use native.Mathlib.Numerals.{add-one}
+use Prim.Native.Nat.{◌^◌, ◌<◌}
+use mathlib.Core.Path.{◌≡◌, ◌∙◌}
 use native.Mathlib.Omega.{arith}
-use lib.ListN.{length}
-use Rattle.theory_sums.specs.Sums.{sum_below}
-use Rattle.theory_blocks.specs.Blocks.{parts_in}
-use Rattle.blocks_checks.specs.Given.{size_at}
-use Rattle.blocks_checks.proofs.Given.{sizes_right, parts_few}
+use Rattle.std.specs.List.{sum}
+use Rattle.std.proofs.Common.{rules}
+use Rattle.std.proofs.iter.runs.Made.{chains}
+use Rattle.blocks_checks.proofs.Given.{all_parts}
 use Rattle.blocks_checks.proofs.parts_in.Goals as goal
 
-pub loop-b-init : goal.loop-b-init
-unfolding sum_below
-loop-b-init c =
-    (omega arith, refl)
-
-pub overflow_add-parts : goal.overflow_add-parts
-overflow_add-parts c =
-    let sizes = c.args.sizes.now in
-    let b = c.loop-b.b in
-    omega (arith, parts_few sizes (length sizes) c.requires.sizes_value b c.loop-b.invariant.0, (sizes_right sizes (length sizes) c.requires.sizes_value b c.loop-b-test.true).1)
-
-pub loop-b-preserved : goal.loop-b-preserved
-unfolding sum_below
-loop-b-preserved c =
-    let sizes = c.args.sizes.now in (
-      omega arith,
-      ap (λ (sum : ℕ). sum + size_at sizes c.loop-b.b) c.loop-b.invariant.1 ∙ ap (parts_in (size_at sizes)) (sym (add-one c.loop-b.b)),
-    )
+pub sum-requires-clause-fits : goal.sum-requires-clause-fits
+sum-requires-clause-fits c =
+    let few : sum c.args.sizes.now < 2 ^ 64 = omega (arith, all_parts c.args.sizes.now c.requires.sizes_len_bound c.requires.sizes_value) in
+    search (rules, chains, few)
 
 pub returns : goal.returns
 returns c =
-    let sizes = c.args.sizes.now in
-    let all : c.loop-b.b ≡ length sizes = omega arith in (
-      c.loop-b.invariant.1 ∙ ap (parts_in (size_at sizes)) all,
-      omega (arith, parts_few sizes (length sizes) c.requires.sizes_value c.loop-b.b c.loop-b.invariant.0),
-    )
+    let parts = all_parts c.args.sizes.now c.requires.sizes_len_bound c.requires.sizes_value in
+    let same : c.sum.result ≡ sum c.args.sizes.now = search (rules, chains) in
+    (same ∙ parts.0, omega arith)

@@ -11,6 +11,7 @@ use lib.Seq.{take-append_seam}
 use Rattle.std.specs.Prelude.{Ok, Err}
 use Rattle.answer.specs.Outcome.{front, Outcome, outcome, delivered, Numbered}
 use Rattle.answer.specs.declared.Refusal.{Refusal}
+use Rattle.answer.specs.Refusals.{number_of}
 use Rattle.answer.proofs.Outcomes.{in_front_delivered}
 use Rattle.codec.specs.Bytes.{Bytes}
 use Rattle.codec.specs.Reads.{Read, found, refused}
@@ -116,7 +117,7 @@ module _ (bytes table text : List ℕ) (small : Bytes bytes) (wide : 8192 ≤ le
       cases (refused other) here =
           let same : o.answer ≡ Err other = nothing_made other here in
           let one : other ≡ why = cc in
-          ap printed_for here ∙ ap refused_line one
+          ap printed_for here ∙ ap (λ (r : Refusal). refused_line (number_of r.reason) r.place) one
       cases (found d next) here =
           let answered : o.answer ≡ Ok (length (report_of d)) = ap (λ (x : Outcome Numbered ReportBuffers). x.answer) (all_made d next here) in
           let z : ◌≡◌ {A = ℕ} 0 1 = cc in

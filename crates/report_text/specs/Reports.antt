@@ -1,6 +1,7 @@
 -- The report of a design record (01, "The report program"), byte for byte. Each figure of an order or a part is the number of failure orders that
 -- 01, "Counting", defines; none is stated by a formula.
 use Rattle.std.specs.Prelude.{List, ◌++◌, ℕ, ◌-◌, ◌^◌, length, get_or}
+use Rattle.answer.specs.Refusals.{number_of}
 use Rattle.theory_sets.specs.Structures.{listed}
 use Rattle.theory_orders.specs.Counting.{count}
 use Rattle.theory_orders.specs.Formulas.{path_count}

@@ -34,13 +34,11 @@ pub fn joint_signature(
 }
 
 // How many cells the square has, where the machines have at most 16 parts; else 0.
+#[tactic(auto, using(crate::proofs::Tails::square_few))]
 fn cells_needed(n: usize) -> usize
     ensures { n ≤ 16 → result ≡ n * n }
 {
-    if 16 < n {
-        return 0;
-    }
-    n * n
+    if n <= 16 { n * n } else { 0 }
 }
 
 // The verdict on a call with two tables that needs so many cells for its result and is lent so many.

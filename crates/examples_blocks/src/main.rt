@@ -2,6 +2,7 @@
 // that they stand for; the file stdout beside this one's folder holds what it must print.
 #![tactic(auto)]
 
+use answer::Refusal;
 use std::io;
 use std::io::Stdout;
 use vector_kind::Kind;
@@ -111,7 +112,7 @@ fn whole(
     let mut cells = [0i64; 8];
     let wrote = blocks::path_counts_of_blocks(blocks, table, sizes, vectors, &mut cells);
     match wrote {
-        Err(refusal) => refused(out, refusal.reason, refusal.place)?,
+        Err(refusal) => refused(out, refusal)?,
         Ok(count) => {
             show_cells(out, &cells, count)?;
             orders_of_front(out, &cells, count)?;
@@ -141,40 +142,20 @@ fn orders(out: Stdout, counts: &[i64]) -> io::Result<()> {
             &mut cells,
         );
         match wrote {
-            Err(refusal) => refused(out, refusal.reason, refusal.place)?,
+            Err(refusal) => refused(out, refusal)?,
             Ok(count) => show_cells(out, &cells, count)?,
         }
     }
     Ok(())
 }
 
-fn refused(out: Stdout, number: u8, place: usize) -> io::Result<()> {
-    say(out, b" refused ")?;
-    print!(out; "{number}")?;
-    say(out, b" at ")?;
-    print!(out; "{place}")
+fn refused(out: Stdout, refusal: Refusal) -> io::Result<()> {
+    print!(out; " refused {} at {}", refusal.reason.number(), refusal.place)
 }
 
 fn show_cells(out: Stdout, cells: &[i64], count: usize) -> io::Result<()> {
-    for i in 0..cells.len() {
-        if i < count {
-            say(out, b" ")?;
-            show_signed(out, cells[i])?;
-        }
-    }
-    Ok(())
-}
-
-fn show_signed(out: Stdout, value: i64) -> io::Result<()> {
-    let mut spelt = [0u8; 21];
-    let end = text::put_signed(&mut spelt, 0, value);
-    say_front(out, &spelt, end)
-}
-
-// Says the text in front of a buffer.
-fn say_front(out: Stdout, text: &[u8], end: usize) -> io::Result<()> {
-    if end <= text.len() {
-        say(out, &text[..end])?;
+    for cell in cells.iter().take(count) {
+        print!(out; " {cell}")?;
     }
     Ok(())
 }

@@ -205,7 +205,7 @@ fn figures_of_list(out: Stdout, name: &[u8], n: usize, masks: &[u16]) -> io::Res
     let mut bytes = [0u8; 32];
     let wrote = structure_forms::table_of_list(n, masks, &mut bytes);
     match wrote {
-        Err(refusal) => refused(out, refusal.reason, refusal.place)?,
+        Err(refusal) => refused(out, refusal)?,
         Ok(length) => figures_of_front(out, n, &bytes, length)?,
     }
     Ok(())
@@ -260,7 +260,7 @@ fn importances_of_table(out: Stdout, n: usize, bytes: &[u8]) -> io::Result<()> {
 fn vector(out: Stdout, name: &[u8], answer: Result<usize, Refusal>, cells: &[i64]) -> io::Result<()> {
     say(out, name)?;
     match answer {
-        Err(refusal) => refused_after(out, refusal.reason, refusal.place)?,
+        Err(refusal) => refused_after(out, refusal)?,
         Ok(count) => show_cells(out, cells, count)?,
     }
     say(out, b"\n")
@@ -269,7 +269,7 @@ fn vector(out: Stdout, name: &[u8], answer: Result<usize, Refusal>, cells: &[i64
 fn importances(out: Stdout, answer: Result<usize, Refusal>, counts: &[u64]) -> io::Result<()> {
     say(out, b"  importances")?;
     match answer {
-        Err(refusal) => refused_after(out, refusal.reason, refusal.place)?,
+        Err(refusal) => refused_after(out, refusal)?,
         Ok(count) => show_counts(out, counts, count)?,
     }
     say(out, b"\n")
@@ -415,7 +415,7 @@ fn table_and_minimal(out: Stdout, n: usize, masks: &[u16]) -> io::Result<()> {
     let mut bytes = [0u8; 4];
     let wrote = structure_forms::table_of_list(n, masks, &mut bytes);
     match wrote {
-        Err(refusal) => refused(out, refusal.reason, refusal.place)?,
+        Err(refusal) => refused(out, refusal)?,
         Ok(length) => {
             show_bytes(out, &bytes, length)?;
             minimal(out, n, &bytes, length)?;
@@ -437,7 +437,7 @@ fn minimal_of_table(out: Stdout, n: usize, bytes: &[u8]) -> io::Result<()> {
     let mut sets = [0u16; 8];
     let wrote = structure_forms::minimal_sets(n, bytes, &mut sets);
     match wrote {
-        Err(refusal) => refused(out, refusal.reason, refusal.place)?,
+        Err(refusal) => refused(out, refusal)?,
         Ok(count) => show_sets(out, &sets, count)?,
     }
     Ok(())
@@ -454,7 +454,7 @@ fn table_cuts_and_dual(out: Stdout, n: usize, masks: &[u16]) -> io::Result<()> {
     let mut bytes = [0u8; 4];
     let wrote = structure_cuts::table_of_cuts(n, masks, &mut bytes);
     match wrote {
-        Err(refusal) => refused(out, refusal.reason, refusal.place)?,
+        Err(refusal) => refused(out, refusal)?,
         Ok(length) => forms_of_table(out, n, &bytes, length)?,
     }
     Ok(())
@@ -474,7 +474,7 @@ fn idle(out: Stdout, name: &[u8], n: usize, bytes: &[u8]) -> io::Result<()> {
     say(out, b": ")?;
     let answer = structure_idle::idle_parts(n, bytes);
     match answer {
-        Err(refusal) => refused(out, refusal.reason, refusal.place)?,
+        Err(refusal) => refused(out, refusal)?,
         Ok(mask) => {
             print!(out; "{mask}")?;
         }
@@ -493,7 +493,7 @@ fn table_of_pattern(out: Stdout, shape: Pattern, n: usize, k: usize) -> io::Resu
     let mut bytes = [0u8; 4];
     let wrote = structure_patterns::table_of_pattern(shape, n, k, &mut bytes);
     match wrote {
-        Err(refusal) => refused(out, refusal.reason, refusal.place)?,
+        Err(refusal) => refused(out, refusal)?,
         Ok(length) => forms_of_table(out, n, &bytes, length)?,
     }
     Ok(())
@@ -519,7 +519,7 @@ fn cuts_of_table(out: Stdout, n: usize, bytes: &[u8]) -> io::Result<()> {
     let mut sets = [0u16; 8];
     let wrote = structure_cuts::minimal_cuts(n, bytes, &mut sets);
     match wrote {
-        Err(refusal) => refused(out, refusal.reason, refusal.place)?,
+        Err(refusal) => refused(out, refusal)?,
         Ok(count) => show_sets(out, &sets, count)?,
     }
     dual_of_table(out, n, bytes)
@@ -530,7 +530,7 @@ fn dual_of_table(out: Stdout, n: usize, bytes: &[u8]) -> io::Result<()> {
     let mut turned = [0u8; 4];
     let wrote = structure_cuts::dual(n, bytes, &mut turned);
     match wrote {
-        Err(refusal) => refused(out, refusal.reason, refusal.place)?,
+        Err(refusal) => refused(out, refusal)?,
         Ok(length) => show_bytes(out, &turned, length)?,
     }
     Ok(())
@@ -541,84 +541,47 @@ fn verdict(out: Stdout, answer: Result<(), Refusal>) -> io::Result<()> {
         Ok(()) => {
             say(out, b"accepted")?;
         }
-        Err(refusal) => refused(out, refusal.reason, refusal.place)?,
+        Err(refusal) => refused(out, refusal)?,
     }
     Ok(())
 }
 
-fn refused_after(out: Stdout, number: u8, place: usize) -> io::Result<()> {
+fn refused_after(out: Stdout, refusal: Refusal) -> io::Result<()> {
     say(out, b" ")?;
-    refused(out, number, place)
+    refused(out, refusal)
 }
 
-fn refused(out: Stdout, number: u8, place: usize) -> io::Result<()> {
-    say(out, b"refused ")?;
-    print!(out; "{number}")?;
-    say(out, b" at ")?;
-    print!(out; "{place}")
+fn refused(out: Stdout, refusal: Refusal) -> io::Result<()> {
+    print!(out; "refused {} at {}", refusal.reason.number(), refusal.place)
 }
 
 fn show_bytes(out: Stdout, bytes: &[u8], count: usize) -> io::Result<()> {
     say(out, b"table")?;
-    for i in 0..bytes.len() {
-        if i < count {
-            say(out, b" ")?;
-            show_byte(out, bytes[i])?;
-        }
+    for byte in bytes.iter().take(count) {
+        print!(out; " {byte:02x}")?;
     }
     Ok(())
 }
 
 fn show_sets(out: Stdout, sets: &[u16], count: usize) -> io::Result<()> {
-    for i in 0..sets.len() {
-        if i < count {
-            say(out, b" ")?;
-            show_set(out, sets[i])?;
-        }
+    for set in sets.iter().take(count) {
+        print!(out; " {set}")?;
     }
     Ok(())
 }
 
 fn show_cells(out: Stdout, cells: &[i64], count: usize) -> io::Result<()> {
-    for i in 0..cells.len() {
-        if i < count {
-            say(out, b" ")?;
-            show_signed(out, cells[i])?;
-        }
+    for cell in cells.iter().take(count) {
+        print!(out; " {cell}")?;
     }
     Ok(())
 }
 
 fn show_counts(out: Stdout, counts: &[u64], count: usize) -> io::Result<()> {
-    for i in 0..counts.len() {
-        if i < count {
-            say(out, b" ")?;
-            print!(out; "{}", counts[i])?;
-        }
+    for cell in counts.iter().take(count) {
+        print!(out; " {cell}")?;
     }
     Ok(())
-}
-
-fn show_signed(out: Stdout, value: i64) -> io::Result<()> {
-    let mut spelt = [0u8; 21];
-    let end = text::put_signed(&mut spelt, 0, value);
-    say_front(out, &spelt, end)
-}
-
-// Says the text in front of a buffer.
-fn say_front(out: Stdout, text: &[u8], end: usize) -> io::Result<()> {
-    if end <= text.len() {
-        say(out, &text[..end])?;
-    }
-    Ok(())
-}
-
-fn show_byte(out: Stdout, byte: u8) -> io::Result<()> {
-    print!(out; "{byte:02x}")
-}
-
-fn show_set(out: Stdout, mask: u16) -> io::Result<()> {
-    print!(out; "{mask}")
 }
 
 fn say(out: Stdout, text: &[u8]) -> io::Result<()> {

@@ -2,6 +2,7 @@
 // stdout beside this one's folder holds what it must print.
 #![tactic(auto)]
 
+use answer::Refusal;
 use std::io;
 use std::io::Stdout;
 
@@ -48,25 +49,19 @@ fn pair(out: Stdout, name: &[u8], n: usize, first: &[u8], second: &[u8]) -> io::
     let mut cells = [0u64; 16];
     let wrote = joint::joint_signature(n, first, second, &mut cells);
     match wrote {
-        Err(refusal) => refused(out, refusal.reason, refusal.place)?,
+        Err(refusal) => refused(out, refusal)?,
         Ok(count) => show_counts(out, &cells, count)?,
     }
     say(out, b"\n")
 }
 
-fn refused(out: Stdout, number: u8, place: usize) -> io::Result<()> {
-    say(out, b" refused ")?;
-    print!(out; "{number}")?;
-    say(out, b" at ")?;
-    print!(out; "{place}")
+fn refused(out: Stdout, refusal: Refusal) -> io::Result<()> {
+    print!(out; " refused {} at {}", refusal.reason.number(), refusal.place)
 }
 
 fn show_counts(out: Stdout, counts: &[u64], count: usize) -> io::Result<()> {
-    for i in 0..counts.len() {
-        if i < count {
-            say(out, b" ")?;
-            print!(out; "{}", counts[i])?;
-        }
+    for cell in counts.iter().take(count) {
+        print!(out; " {cell}")?;
     }
     Ok(())
 }

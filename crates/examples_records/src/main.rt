@@ -2,9 +2,9 @@
 // folder holds what it must print.
 #![tactic(auto)]
 
-use codec::{Field, Found};
+use answer::Refusal;
+use codec::{Field, Standing};
 use record_parts::PartList;
-use record_reader::Found;
 use std::io;
 use std::io::Stdout;
 
@@ -83,8 +83,8 @@ fn number(out: Stdout, name: &[u8], bytes: &[u8], field: Field) -> io::Result<()
     say(out, b": ")?;
     let found = codec::read_number(bytes, 0, field);
     match found {
-        Err(refusal) => refused(out, refusal.reason, refusal.place)?,
-        Ok(Found { value, next: _ }) => {
+        Err(refusal) => refused(out, refusal)?,
+        Ok(Standing { value, next: _ }) => {
             print!(out; "{value}")?;
         }
     }
@@ -97,7 +97,7 @@ fn replayed(out: Stdout) -> io::Result<()> {
     let mut bytes = [0u8; 12];
     let made = record_changes::first_record(3, &[3, 5], &mut bytes);
     match made {
-        Err(refusal) => refused(out, refusal.reason, refusal.place)?,
+        Err(refusal) => refused(out, refusal)?,
         Ok(length) => with_spare_pump(out, &bytes, length)?,
     }
     Ok(())
@@ -115,7 +115,7 @@ fn take_pump_out(out: Stdout, record: &[u8]) -> io::Result<()> {
     let mut bytes = [0u8; 12];
     let made = record_changes::take_out(record, 3, &mut bytes);
     match made {
-        Err(refusal) => refused(out, refusal.reason, refusal.place)?,
+        Err(refusal) => refused(out, refusal)?,
         Ok(length) => without_spare_pump(out, &bytes, length)?,
     }
     Ok(())
@@ -133,7 +133,7 @@ fn add_sensor(out: Stdout, record: &[u8]) -> io::Result<()> {
     let mut bytes = [0u8; 12];
     let made = record_changes::add_part(record, &mut bytes);
     match made {
-        Err(refusal) => refused(out, refusal.reason, refusal.place)?,
+        Err(refusal) => refused(out, refusal)?,
         Ok(length) => with_sensor(out, &bytes, length)?,
     }
     Ok(())
@@ -168,7 +168,7 @@ fn group(out: Stdout, name: &[u8], record: &[u8], group: usize) -> io::Result<()
         Err(refusal) => {
             say(out, name)?;
             say(out, b": ")?;
-            refused(out, refusal.reason, refusal.place)?;
+            refused(out, refusal)?;
             say(out, b"\n")?;
         }
         Ok(length) => group_left(out, name, &bytes, length)?,
@@ -208,7 +208,7 @@ fn drawing(out: Stdout, name: &[u8], text: &[u8]) -> io::Result<()> {
         Err(refusal) => {
             say(out, name)?;
             say(out, b": ")?;
-            refused(out, refusal.reason, refusal.place)?;
+            refused(out, refusal)?;
             say(out, b"\n")?;
         }
         Ok(length) => drawn(out, name, &bytes, length)?,
@@ -228,7 +228,7 @@ fn written_again(out: Stdout, name: &[u8], record: &[u8]) -> io::Result<()> {
     let mut text = [0u8; 80];
     let written = drawing_writing::drawing_of_record(record, &mut text);
     match written {
-        Err(refusal) => refused(out, refusal.reason, refusal.place)?,
+        Err(refusal) => refused(out, refusal)?,
         Ok(length) => show_text(out, &text, length)?,
     }
     Ok(())
@@ -265,39 +265,29 @@ fn show_named(
 ) -> io::Result<()> {
     let mut offset = begin;
     for _ in 0..count {
-        let found = record_reader::read_set(record, offset);
-        match found {
-            Found::End => return Ok(()),
-            Found::Set { set, next } => {
-                say(out, b" {")?;
-                show_parts(out, list, set)?;
-                say(out, b" }")?;
-                offset = next;
-            }
-        }
+        let Some(found) = record_reader::read_set(record, offset) else {
+            return Ok(());
+        };
+        say(out, b" {")?;
+        show_parts(out, list, found.value)?;
+        say(out, b" }")?;
+        offset = found.next;
     }
     Ok(())
 }
 
 // The numbers of the parts that a set names.
 fn show_parts(out: Stdout, list: PartList, set: u64) -> io::Result<()> {
-    let numbers = list.numbers;
-    for i in 0..PartList::MOST_PARTS {
-        if i < list.count {
-            if (set >> i) % 2 == 1 {
-                say(out, b" ")?;
-                print!(out; "{}", numbers[i])?;
-            }
+    for (i, number) in list.numbers.iter().enumerate().take(list.count) {
+        if (set >> i) % 2 == 1 {
+            print!(out; " {number}")?;
         }
     }
     Ok(())
 }
 
-fn refused(out: Stdout, number: u8, place: usize) -> io::Result<()> {
-    say(out, b"refused ")?;
-    print!(out; "{number}")?;
-    say(out, b" at ")?;
-    print!(out; "{place}")
+fn refused(out: Stdout, refusal: Refusal) -> io::Result<()> {
+    print!(out; "refused {} at {}", refusal.reason.number(), refusal.place)
 }
 
 fn say(out: Stdout, text: &[u8]) -> io::Result<()> {

@@ -23,14 +23,11 @@ pub fn judge(mark: u64, numbers: &[u64]) -> Result<(), Refusal>
         return Err(Reason::WrongPartCount.at(0));
     }
     let mut previous = 0;
-    let mut index = 0;
-    while index < count {
-        let number = numbers[index];
+    for (index, &number) in numbers.iter().enumerate() {
         if misnumbered(previous, mark, number) {
             return Err(Reason::WrongPartNumber.at(index));
         }
         previous = number;
-        index += 1;
     }
     if TOP_NUMBER < mark {
         return Err(Reason::WrongPartNumber.at(count));

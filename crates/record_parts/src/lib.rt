@@ -25,14 +25,7 @@ pub struct Listed {
     pub verdict: Result<(), Refusal>,
 }
 
-// The answer of a change: the part number that it issued or took out, or why nothing was changed.
-#[derive(Clone, Copy)]
-pub enum Numbered {
-    Number(u64),
-    Refused(Refusal),
-}
-
-// What a change hands back: the list after it, and its answer.
+// What a change hands back: the list after it, and the part number that it issued or took out, or why nothing was changed.
 #[derive(Clone, Copy)]
 pub struct Changed {
     pub list: PartList,

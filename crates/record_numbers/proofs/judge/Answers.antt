@@ -1,5 +1,5 @@
 -- `record_numbers::judge` meets its contract. The loop's invariant: the numbers passed are right, so what refuses those left, under the last one
--- passed, is what refuses all. The measure is the numbers left.
+-- passed, is what refuses all.
 -- Assumes nothing.
 use mathlib.Core.Path.{sym, ◌∙◌, ap}
 use native.Mathlib.Nat.{pos_of_ne-zero}

@@ -226,8 +226,7 @@ fn mark_sets(bytes: &[u8], start: usize, n: usize, count: usize) -> Marked
     let mut words = [0u64; 1024];
     let mut previous: u64 = 0;
     let mut next = start;
-    let mut read = 0;
-    while read < count {
+    for read in 0..count {
         let set = read_set(bytes, next, n, previous);
         match set {
             Err(refusal) => {
@@ -240,16 +239,15 @@ fn mark_sets(bytes: &[u8], start: usize, n: usize, count: usize) -> Marked
             }
             Ok(Standing { value, next: after }) => {
                 let at = value as usize / 64;
-                words[at] = words[at] | (1 << (value % 64));
+                words[at] |= 1 << (value % 64);
                 previous = value;
                 next = after;
-                read += 1;
             }
         }
     }
     Marked {
         words,
-        read,
+        read: count,
         next,
         verdict: Ok(()),
     }
@@ -260,8 +258,7 @@ fn first_nested(bytes: &[u8], start: usize, count: usize, minimal: &[u64]) -> Re
     ensures { result ≡ nested_at bytes.now (in_words minimal.now) count start }
 {
     let mut next = start;
-    let mut index = 0;
-    while index < count {
+    for index in 0..count {
         let number = codec::read_number(bytes, next, Field::Set);
         let Ok(Standing { value, next: after }) = number else {
             return Ok(());
@@ -270,7 +267,6 @@ fn first_nested(bytes: &[u8], start: usize, count: usize, minimal: &[u64]) -> Re
             return Err(Reason::WrongSet.at(next));
         }
         next = after;
-        index += 1;
     }
     Ok(())
 }

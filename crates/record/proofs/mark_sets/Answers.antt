@@ -1,8 +1,8 @@
 -- `record::mark_sets` meets its contract. The loop's invariant: it walks along the sets (`MarkWalk`), those so far marked. The measure is the
 -- sets left.
 -- Assumes nothing.
-use mathlib.Core.Path.{sym, ◌∙◌}
-use Prim.Native.Nat.{◌<◌}
+use mathlib.Core.Path.{◌≡◌, ap, sym, ◌∙◌}
+use Prim.Native.Nat.{ℕ, ◌<◌}
 use native.Mathlib.Omega.{arith}
 use Rattle.std.specs.Prelude.{Ok}
 use Rattle.codec.proofs.Found.{answer_number, answer_refused}
@@ -27,9 +27,6 @@ pub bounds-words-at : goal.bounds-words-at
 bounds-words-at c =
     omega (arith, mark_walk_below c.loop-read.invariant c.requires _ _ (sym (answer_number _ _ _ (sym c.in-Ok.is ∙ c.read_set-set.ensures))))
 
-pub offset_bounds-words-at-in-Ok : goal.offset_bounds-words-at-in-Ok
-offset_bounds-words-at-in-Ok c = omega (arith, small (goal.at.offset_bounds-words-at-in-Ok c).In-Ok)
-
 pub bounds-words-at-in-Ok : goal.bounds-words-at-in-Ok
 bounds-words-at-in-Ok c = omega (arith, small (goal.at.bounds-words-at-in-Ok c).In-Ok)
 
@@ -39,4 +36,6 @@ loop-read-preserved c =
 
 pub returns : goal.returns
 returns c =
-    marked_of_lem c.loop-read.invariant (Ok tt) (mark_walk_end c.loop-read.invariant c.loop-read-test.false)
+    let all : c.args.count ≡ c.loop-read.read = omega (arith, c.loop-read-test.false) in
+    ap (λ (k : ℕ). record { words = c.loop-read.words; read = k; next = c.loop-read.next; verdict = Ok tt }) all
+    ∙ marked_of_lem c.loop-read.invariant (Ok tt) (mark_walk_end c.loop-read.invariant c.loop-read-test.false)

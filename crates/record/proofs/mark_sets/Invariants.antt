@@ -11,5 +11,3 @@ use Rattle.record.proofs.mark_sets.Given as goal
 abbrev pub invariant-loop-read : goal.invariant-loop-read
 invariant-loop-read l = MarkWalk l.bytes l.n l.count l.start l.words l.previous l.next l.read
 
-abbrev pub decreases-loop-read : goal.decreases-loop-read
-decreases-loop-read l = l.count - l.read

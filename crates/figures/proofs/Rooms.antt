@@ -2,15 +2,14 @@
 use mathlib.Core.Path.{◌≡◌, refl, sym, ap, ap₂, ◌∙◌}
 use mathlib.Core.Bool.{Bool}
 use mathlib.Core.List.{List, ◌++◌}
-use Prim.Native.Nat.{ℕ, suc, ◌+◌, ◌≤◌, ◌<◌}
+use Prim.Native.Nat.{ℕ, suc, ◌+◌, ◌≤◌}
 use native.Mathlib.Nat.{le_trans, le_of_eq}
 use native.Mathlib.Omega.{arith}
 use lib.IntN.{ℤ}
 use lib.ListN.{length, take, length-append}
 use lib.Seq.{take_at}
-use Rattle.std.specs.Prelude.{Ok, Err}
-use Rattle.answer.specs.Outcome.{at, and_then, room, front, outcome, delivered, Numbered}
-use Rattle.answer.specs.declared.Reason.TheVariants.{ShortBuffer}
+use Rattle.std.specs.Prelude.{Ok}
+use Rattle.answer.specs.Outcome.{room, front, outcome, delivered, Numbered}
 use Rattle.answer.proofs.Outcomes as outcomes
 use Rattle.answer.proofs.Outcomes.{then_accepted, then_passed, then_refused, room_short}
 use Rattle.answer.proofs.Deliveries.{delivered_front}
@@ -42,32 +41,10 @@ module _ (n counts signature domination importance : ℕ) where
         for_importance = outcomes.room_accepted n importance c3.1;
       }
 
-  pub short_counts : counts < n + 1 → Err (at ShortBuffer (n + 1)) ≡ room_refusal n counts signature domination importance
-  short_counts h = sym (then_refused _ (room_short (n + 1) counts h))
-
-  module _ (h1 : n + 1 ≤ counts) where
-    after_counts : room_refusal n counts signature domination importance ≡ and_then (room n signature) (and_then (room (n + 1) domination) (room n importance))
-    after_counts = then_passed _ (outcomes.room_enough (n + 1) counts h1)
-
-    pub short_signature : signature < n → Err (at ShortBuffer n) ≡ room_refusal n counts signature domination importance
-    short_signature h = sym (after_counts ∙ then_refused _ (room_short n signature h))
-
-    module _ (h2 : n ≤ signature) where
-      after_signature : room_refusal n counts signature domination importance ≡ and_then (room (n + 1) domination) (room n importance)
-      after_signature = after_counts ∙ then_passed _ (outcomes.room_enough n signature h2)
-
-      pub short_domination : domination < n + 1 → Err (at ShortBuffer (n + 1)) ≡ room_refusal n counts signature domination importance
-      short_domination h = sym (after_signature ∙ then_refused _ (room_short (n + 1) domination h))
-
-      module _ (h3 : n + 1 ≤ domination) where
-        after_domination : room_refusal n counts signature domination importance ≡ room n importance
-        after_domination = after_signature ∙ then_passed _ (outcomes.room_enough (n + 1) domination h3)
-
-        pub short_importance : importance < n → Err (at ShortBuffer n) ≡ room_refusal n counts signature domination importance
-        short_importance h = sym (after_domination ∙ room_short n importance h)
-
-        pub room_enough : n ≤ importance → (Ok tt) ≡ room_refusal n counts signature domination importance
-        room_enough h = sym (after_domination ∙ outcomes.room_enough n importance h)
+  pub room_enough : n + 1 ≤ counts → n ≤ signature → n + 1 ≤ domination → n ≤ importance → Ok tt ≡ room_refusal n counts signature domination importance
+  room_enough h1 h2 h3 h4 =
+      sym (then_passed _ (outcomes.room_enough (n + 1) counts h1) ∙ then_passed _ (outcomes.room_enough n signature h2)
+      ∙ then_passed _ (outcomes.room_enough (n + 1) domination h3) ∙ outcomes.room_enough n importance h4)
 
 -- ---- what is written
 

@@ -11,7 +11,7 @@ ghost use Rattle.vector_conversion.specs.Vectors.{vector_refusal, converted, fig
 ghost use Rattle.figures.specs.All.{buffers_of, room_refusal, all_in_front, all_figures};
 ghost use Rattle.figures.specs.Inside.{part_weight as ways_of, added_sets, taken_sets, Parted, importance_by, Rows, entries_of, sized_in, rows_in, figures_refusal};
 
-use answer::{Reason, Refusal};
+use answer::Refusal;
 use vector_kind::Kind;
 
 // The path counts φ(0) to φ(n), into a lent buffer.
@@ -46,19 +46,15 @@ pub fn domination(n: usize, table: &[u8], cells: &mut [i64]) -> Result<usize, Re
 pub fn importance(n: usize, table: &[u8], cells: &mut [u64]) -> Result<usize, Refusal>
     ensures { outcome result cells.new ≡ delivered (table_refusal n table.now) (importances n (in_table table.now)) cells.old }
 {
-    let checked = structure::table_verdict(n, table);
-    match checked {
-        Err(refusal) => Err(refusal),
-        Ok(()) => {
-            let rows = rows_of(table);
-            let made = part_importances(n, &rows);
-            answer::hand_out(&made[..n], cells)
-        }
-    }
+    structure::table_verdict(n, table)?;
+    let rows = rows_of(table);
+    let made = part_importances(n, &rows);
+    answer::hand_out(&made[..n], cells)
 }
 
 // The path counts, the signature, the domination and the importances into four lent buffers, with one check of the table and one pass
 // over its words.
+#[tactic(auto, unfolding(crate::specs::All::all_figures))]
 pub fn figures(
     n: usize,
     table: &[u8],
@@ -69,35 +65,25 @@ pub fn figures(
 ) -> Result<(), Refusal>
     ensures { outcome result (buffers_of counts.new signature.new domination.new importance.new) ≡ all_figures n table.now (buffers_of counts.old signature.old domination.old importance.old) }
 {
-    let verdict = figures_verdict(
+    figures_verdict(
         n,
         table,
         counts.len(),
         signature.len(),
         domination.len(),
         importance.len(),
-    );
-    match verdict {
-        Err(refusal) => Err(refusal),
-        Ok(()) => {
-            write_figures(n, table, counts, signature, domination, importance);
-            Ok(())
-        }
-    }
+    )?;
+    write_figures(n, table, counts, signature, domination, importance);
+    Ok(())
 }
 
 // A vector of a table, into a lent buffer: its path counts converted.
 fn vector(kind: Kind, n: usize, table: &[u8], cells: &mut [i64]) -> Result<usize, Refusal>
     ensures { outcome result cells.new ≡ delivered (table_refusal n table.now) (figures_of kind n (in_table table.now)) cells.old }
 {
-    let checked = structure::table_verdict(n, table);
-    match checked {
-        Err(refusal) => Err(refusal),
-        Ok(()) => {
-            let entries = entries_of(table);
-            vector_conversion::convert(Kind::PathCounts, n, &entries[..n + 1], kind, cells)
-        }
-    }
+    structure::table_verdict(n, table)?;
+    let entries = entries_of(table);
+    vector_conversion::convert(Kind::PathCounts, n, &entries[..n + 1], kind, cells)
 }
 
 // The path counts of a table as entries.
@@ -142,11 +128,8 @@ fn figures_verdict(
 ) -> Result<(), Refusal>
     ensures { result ≡ figures_refusal n table.now counts signature domination importance }
 {
-    let checked = structure::table_verdict(n, table);
-    match checked {
-        Err(refusal) => Err(refusal),
-        Ok(()) => room_verdict(n, counts, signature, domination, importance),
-    }
+    structure::table_verdict(n, table)?;
+    room_verdict(n, counts, signature, domination, importance)
 }
 
 // Whether four buffers are long enough for the path counts, the signature, the domination and the importances, asked in this order.
@@ -160,19 +143,10 @@ fn room_verdict(
     requires { n ≤ 16 }
     ensures { result ≡ room_refusal n counts signature domination importance }
 {
-    if counts < n + 1 {
-        return Err(Reason::ShortBuffer.at(n + 1));
-    }
-    if signature < n {
-        return Err(Reason::ShortBuffer.at(n));
-    }
-    if domination < n + 1 {
-        return Err(Reason::ShortBuffer.at(n + 1));
-    }
-    if importance < n {
-        return Err(Reason::ShortBuffer.at(n));
-    }
-    Ok(())
+    answer::room(n + 1, counts)?;
+    answer::room(n, signature)?;
+    answer::room(n + 1, domination)?;
+    answer::room(n, importance)
 }
 
 // Writes the figures of an accepted table into four buffers that are long enough.

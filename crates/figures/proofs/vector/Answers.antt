@@ -10,14 +10,13 @@ use lib.ListN.{length, take}
 use lib.Seq.{length-take-le}
 use Rattle.std.specs.Prelude.{Ok}
 use Rattle.answer.specs.Outcome.{delivered, Verdict}
-use Rattle.answer.proofs.Deliveries.{refused_kept}
 use Rattle.numbers.proofs.Tables.{tabulate_length}
 use Rattle.theory_sets.specs.Tables.{in_table}
 use Rattle.structure.specs.Checks.{table_refusal}
 use Rattle.structure.specs.Accepted.{AcceptedTable}
 use Rattle.structure.proofs.Acceptance.{accepted_table}
 use Rattle.vector_kind.specs.declared.Kind.TheVariants.{PathCounts}
-use Rattle.vector_conversion.specs.Vectors.{vector_refusal, converted, figures_of}
+use Rattle.vector_conversion.specs.Vectors.{vector_refusal, converted}
 use Rattle.theory_figures.specs.Figures.{path_counts}
 use Rattle.figures.specs.Inside.{counts_of, entries_of, sized_in}
 use Rattle.figures.proofs.Machines.{table_entries}
@@ -37,25 +36,19 @@ module _ (n : ℕ) (table : List ℕ) (verdict : table_refusal n table ≡ Ok tt
 
 pub overflow_add-entries : goal.overflow_add-entries
 overflow_add-entries c =
-    let accepted = accepted_table c.args.n c.args.table.now (sym c.table_verdict-checked.ensures ∙ c.in-Ok.is) in
+    let accepted = accepted_table c.args.n c.args.table.now (sym c.table_verdict.ensures ∙ c.in_ok-table_verdict.was) in
     record { fits = omega (arith, accepted.few) }
 
 pub slice_bounds-entries-end : goal.slice_bounds-entries-end
-slice_bounds-entries-end c = room _ _ (sym c.table_verdict-checked.ensures ∙ c.in-Ok.is) _ c.entries_of-entries.ensures
+slice_bounds-entries-end c = room _ _ (sym c.table_verdict.ensures ∙ c.in_ok-table_verdict.was) _ c.entries_of-entries.ensures
 
 pub slice_bounds-convert-end : goal.slice_bounds-convert-end
-slice_bounds-convert-end c = sym (length-take-le _ c.entries_of-entries.result (room _ _ (sym c.table_verdict-checked.ensures ∙ c.in-Ok.is) _ c.entries_of-entries.ensures))
+slice_bounds-convert-end c = sym (length-take-le _ c.entries_of-entries.result (room _ _ (sym c.table_verdict.ensures ∙ c.in_ok-table_verdict.was) _ c.entries_of-entries.ensures))
 
-pub returns-in-Err : goal.returns-in-Err
-returns-in-Err c =
-    let a = c.args in
-    refused_kept (table_refusal a.n a.table.now) (figures_of a.kind a.n (in_table a.table.now)) a.cells.now _
-    (sym c.table_verdict-checked.ensures ∙ c.in-Err.is)
-
-pub returns-in-Ok : goal.returns-in-Ok
-returns-in-Ok c =
+pub returns : goal.returns
+returns c =
     let a = c.args in
     c.convert.ensures
     ∙ ap₂ (λ (v : Verdict) (xs : List ℤ). delivered v xs a.cells.now)
-    (ap (vector_refusal PathCounts a.n) (entries _ _ (sym c.table_verdict-checked.ensures ∙ c.in-Ok.is) _ c.entries_of-entries.ensures) ∙ vectors_accepted a.n a.table.now (sym c.table_verdict-checked.ensures ∙ c.in-Ok.is) PathCounts ∙ sym (sym c.table_verdict-checked.ensures ∙ c.in-Ok.is))
-    (ap (converted a.kind PathCounts a.n) (entries _ _ (sym c.table_verdict-checked.ensures ∙ c.in-Ok.is) _ c.entries_of-entries.ensures) ∙ vectors_converted a.n a.table.now (sym c.table_verdict-checked.ensures ∙ c.in-Ok.is) PathCounts a.kind)
+    (ap (vector_refusal PathCounts a.n) (entries _ _ (sym c.table_verdict.ensures ∙ c.in_ok-table_verdict.was) _ c.entries_of-entries.ensures) ∙ vectors_accepted a.n a.table.now (sym c.table_verdict.ensures ∙ c.in_ok-table_verdict.was) PathCounts ∙ sym (sym c.table_verdict.ensures ∙ c.in_ok-table_verdict.was))
+    (ap (converted a.kind PathCounts a.n) (entries _ _ (sym c.table_verdict.ensures ∙ c.in_ok-table_verdict.was) _ c.entries_of-entries.ensures) ∙ vectors_converted a.n a.table.now (sym c.table_verdict.ensures ∙ c.in_ok-table_verdict.was) PathCounts a.kind)

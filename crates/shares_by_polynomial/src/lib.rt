@@ -10,7 +10,7 @@ ghost use Rattle.shares_claim.specs.Inside.{common as common_of, power_weight, B
 ghost use Rattle.shares_claim.specs.Refusals.{shares_refusal};
 ghost use Rattle.shares_by_polynomial.specs.Inside.{above as above_zero, below as below_zero, cell_weight, InRange, share_of_cells};
 
-use answer::{Reason, Refusal};
+use answer::Refusal;
 
 // lcm(1..n) for n from 0 to 16.
 const COMMON: [u64; 17] = [
@@ -23,14 +23,12 @@ pub fn shares_by_reliability(n: usize, table: &[u8], group: usize, shares: &mut 
 {
     let m = masks::size(group);
     let mut cells = [0i64; 289];
-    let found = shares_polynomial::reliability(n, table, group, &mut cells);
-    match found {
-        Err(refusal) => Err(refusal),
-        Ok(count) => write_shares(n, m, &cells, shares),
-    }
+    let count = shares_polynomial::reliability(n, table, group, &mut cells)?;
+    write_shares(n, m, &cells, shares)
 }
 
 // The m shares by the coefficients of h, into a lent buffer.
+#[tactic(auto, using(crate::proofs::ThroughH::from_cells_length))]
 fn write_shares(n: usize, m: usize, cells: &[i64], shares: &mut [i64]) -> Result<usize, Refusal>
     requires n_bound { n ≤ 16 }
     requires m_le_n { m ≤ n }
@@ -38,9 +36,7 @@ fn write_shares(n: usize, m: usize, cells: &[i64], shares: &mut [i64]) -> Result
     requires by_index { (k : ℕ) → 1 ≤ k → k ≤ m → InRange n (share_of_cells n m cells.now k) }
     ensures { outcome result shares.new ≡ delivered (Ok tt) (shares_from_cells n m cells.now) shares.old }
 {
-    if shares.len() < m {
-        return Err(Reason::ShortBuffer.at(m));
-    }
+    answer::room(m, shares.len())?;
     write_from_cells(n, m, cells, shares);
     Ok(m)
 }

@@ -15,18 +15,14 @@ ghost use Rattle.shares_by_sets.specs.Inside.{weight as weight_of, added_by, tak
 use answer::Refusal;
 
 // The m shares of a group, set by set, into a lent buffer.
+#[tactic(auto, using(crate::proofs::Sets::by_sets_length))]
 pub fn shares_by_sets(n: usize, table: &[u8], group: usize, shares: &mut [i64]) -> Result<usize, Refusal>
     ensures { outcome result shares.new ≡ delivered (shares_refusal n table.now group) (shares_by_sets n (in_table table.now) group) shares.old }
 {
     let m = masks::size(group);
-    let judged = shares_group::judge(n, table, group, m, shares.len());
-    match judged {
-        Err(refusal) => Err(refusal),
-        Ok(()) => {
-            write_by_sets(n, table, group, shares);
-            Ok(m)
-        }
-    }
+    shares_group::judge(n, table, group, m, shares.len())?;
+    write_by_sets(n, table, group, shares);
+    Ok(m)
 }
 
 // Writes the shares of a group, set by set.

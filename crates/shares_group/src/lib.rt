@@ -11,22 +11,17 @@ use answer::Refusal;
 pub fn judge(n: usize, table: &[u8], group: usize, needed: usize, lent: usize) -> Result<(), Refusal>
     ensures { result ≡ and_then (shares_refusal n table.now group) (room needed lent) }
 {
-    let checked = group_verdict(n, table, group);
-    match checked {
-        Err(refusal) => Err(refusal),
-        Ok(()) => answer::room(needed, lent),
-    }
+    group_verdict(n, table, group)?;
+    answer::room(needed, lent)
 }
 
 // The verdict on a table and a group.
+#[tactic(auto, unfolding(shares_claim::specs::Refusals::shares_refusal))]
 fn group_verdict(n: usize, table: &[u8], group: usize) -> Result<(), Refusal>
     ensures { result ≡ shares_refusal n table.now group }
 {
-    let checked = structure::table_verdict(n, table);
-    match checked {
-        Err(refusal) => Err(refusal),
-        Ok(()) => masks::group_verdict(n, group),
-    }
+    structure::table_verdict(n, table)?;
+    masks::group_verdict(n, group)
 }
 
 // Adds an amount to the number at an index, modulo 2^64; beyond the last number nothing is done.

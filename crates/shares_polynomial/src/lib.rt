@@ -21,14 +21,9 @@ pub fn reliability(n: usize, table: &[u8], group: usize, cells: &mut [i64]) -> R
     ensures { outcome result cells.new ≡ delivered (shares_refusal n table.now group) (reliability_cells n (in_table table.now) group) cells.old }
 {
     let count = cells_needed(n, group);
-    let judged = shares_group::judge(n, table, group, count, cells.len());
-    match judged {
-        Err(refusal) => Err(refusal),
-        Ok(()) => {
-            write_reliability(n, table, group, cells);
-            Ok(count)
-        }
-    }
+    shares_group::judge(n, table, group, count, cells.len())?;
+    write_reliability(n, table, group, cells);
+    Ok(count)
 }
 
 // How many coefficients h has for a group, where the machine has at most 16 parts and the group no more than these; else 0.

@@ -4,6 +4,7 @@
 use mathlib.Core.Path.{refl, sym, ap₂, ◌∙◌}
 use mathlib.Core.List.{List}
 use native.Mathlib.Nat.{le_trans, le_of_eq}
+use native.Mathlib.Omega.{arith}
 use lib.Count.{ones-le}
 use lib.IntN.{ℤ, pos}
 use lib.ListN.{replicate}
@@ -18,7 +19,7 @@ pub write_shares-requires : goal.write_shares-requires
 write_shares-requires c =
     let a = c.args in
     let works = in_table a.table.now in
-    let found = found_given a.n a.table.now a.group (replicate 289 (pos 0)) _ c.reliability-found.result refl c.reliability-found.ensures _ c.in-Ok.is in
+    let found = found_given a.n a.table.now a.group (replicate 289 (pos 0)) _ c.reliability.result refl c.reliability.ensures _ c.in_ok-count.was in
     let group = accepted_group a.n a.table.now a.group found.accepted in
     record {
       n_bound = group.few;
@@ -27,17 +28,18 @@ write_shares-requires c =
       by_index = shares_in_range a.n works a.group group.within _ _ found.stands c.size-m.result c.size-m.ensures group.coherent;
     }
 
-pub returns-in-Err : goal.returns-in-Err
-returns-in-Err c =
+pub returns-in_err-count : goal.returns-in_err-count
+returns-in_err-count c =
     let a = c.args in
-    found_refused a.n a.table.now a.group (replicate 289 (pos 0)) _ c.reliability-found.result refl c.reliability-found.ensures _ c.in-Err.is
-    (shares_by_reliability a.n (in_table a.table.now) a.group) a.shares.now
+    let kept = found_refused a.n a.table.now a.group (replicate 289 (pos 0)) _ c.reliability.result refl c.reliability.ensures _ c.in_err-count.was
+    (shares_by_reliability a.n (in_table a.table.now) a.group) a.shares.now in
+    grind (arith, kept)
 
-pub returns-in-Ok : goal.returns-in-Ok
-returns-in-Ok c =
+pub returns : goal.returns
+returns c =
     let a = c.args in
     let works = in_table a.table.now in
-    let found = found_given a.n a.table.now a.group (replicate 289 (pos 0)) _ c.reliability-found.result refl c.reliability-found.ensures _ c.in-Ok.is in
+    let found = found_given a.n a.table.now a.group (replicate 289 (pos 0)) _ c.reliability.result refl c.reliability.ensures _ c.in_ok-count.was in
     let group = accepted_group a.n a.table.now a.group found.accepted in
     c.write_shares.ensures
     ∙ ap₂ (λ (v : Verdict) (xs : List ℤ). delivered v xs a.shares.now) (sym found.accepted)

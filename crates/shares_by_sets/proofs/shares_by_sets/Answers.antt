@@ -19,7 +19,7 @@ pub write_by_sets-requires : goal.write_by_sets-requires
 write_by_sets-requires c =
     -- nothing is refused, and there is room
     let passed : and_then (shares_refusal c.args.n c.args.table.now c.args.group) (room c.size-m.result (length c.args.shares.now)) ≡ Ok tt =
-    sym c.judge-judged.ensures ∙ c.in-Ok.is in
+    sym c.judge.ensures ∙ c.in_ok-judge.was in
     let a = c.args in
     let both = then_accepted (shares_refusal a.n a.table.now a.group) _ passed in
     let group = accepted_group a.n a.table.now a.group both.0 in
@@ -29,25 +29,15 @@ write_by_sets-requires c =
       group_in_bounds = subst (λ (m : ℕ). m ≤ length a.shares.now) c.size-m.ensures (room_accepted c.size-m.result (length a.shares.now) both.1);
     }
 
-pub returns-in-Err : goal.returns-in-Err
-returns-in-Err c =
-    -- the cells needed are the shares
-    let long : c.size-m.result ≡ length (shares_by_sets c.args.n (in_table c.args.table.now) c.args.group) =
-    let a = c.args in
-    c.size-m.ensures ∙ sym (by_sets_length a.n (in_table a.table.now) a.group) in
-    let a = c.args in
-    checked_refused (shares_refusal a.n a.table.now a.group) (shares_by_sets a.n (in_table a.table.now) a.group) a.shares.now
-    c.size-m.result (λ e. long) (sym c.judge-judged.ensures ∙ c.in-Err.is)
-
-pub returns-in-Ok : goal.returns-in-Ok
-returns-in-Ok c =
+pub returns : goal.returns
+returns c =
     -- the cells needed are the shares
     let long : c.size-m.result ≡ length (shares_by_sets c.args.n (in_table c.args.table.now) c.args.group) =
     let a = c.args in
     c.size-m.ensures ∙ sym (by_sets_length a.n (in_table a.table.now) a.group) in
     -- nothing is refused, and there is room
     let passed : and_then (shares_refusal c.args.n c.args.table.now c.args.group) (room c.size-m.result (length c.args.shares.now)) ≡ Ok tt =
-    sym c.judge-judged.ensures ∙ c.in-Ok.is in
+    sym c.judge.ensures ∙ c.in_ok-judge.was in
     let a = c.args in
     let result = shares_by_sets a.n (in_table a.table.now) a.group in
     checked_whole (shares_refusal a.n a.table.now a.group) result a.shares.now c.size-m.result (λ e. long) passed _

@@ -24,7 +24,7 @@ ghost use Rattle.record_changes.specs.Inside.{retired_numbers, second_bytes};
 
 use answer::{Reason, Refusal};
 use record_editions::Edition;
-use record_parts::{Numbered, PartList};
+use record_parts::PartList;
 use record_retired::Retired;
 
 // Add part: position n+1, part number mark+1, in no set.

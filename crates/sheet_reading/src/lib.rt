@@ -37,9 +37,9 @@ fn read_entries(bytes: &[u8], kind: Kind, n: usize, start: usize) -> Result<Vect
     let length = kind.entries(n);
     let mut entries = [0i64; 17];
     let mut next = start;
-    for index in 0..length {
+    for entry in &mut entries[..length] {
         let number = codec::read_number(bytes, next, Field::Sheet)?;
-        entries[index] = decode(kind, number.value);
+        *entry = decode(kind, number.value);
         next = number.next;
     }
     if next < bytes.len() {

@@ -1,7 +1,7 @@
 // A group's shares by both routes, set by set and through h(x,z): by either they are the counts of failure orders (01, "Counting").
 #![tactic(auto)]
 
-ghost use Rattle.std.specs.Prelude.{◌≡◌, min};
+ghost use Rattle.std.specs.Prelude.{◌≡◌};
 ghost use Rattle.answer.specs.Outcome.{outcome};
 ghost use Rattle.theory_sets.specs.Tables.{in_table};
 ghost use Rattle.shares_claim.specs.Claim.{group_counts};
@@ -21,21 +21,14 @@ pub fn shares_by_both_routes(
     ensures { outcome result (both first.new second.new) ≡ both_delivered (shares_refusal n table.now group) (group_counts n (in_table table.now) group) first.old second.old }
 {
     let m = masks::size(group);
-    let room = smaller(first.len(), second.len());
+    let room = first.len().min(second.len());
     let judged = shares_group::judge(n, table, group, m, room);
     match judged {
         Err(refusal) => Err(refusal),
         Ok(()) => {
-            shares_by_sets::shares_by_sets(n, table, group, first);
-            shares_by_polynomial::shares_by_reliability(n, table, group, second);
+            let _ = shares_by_sets::shares_by_sets(n, table, group, first);
+            let _ = shares_by_polynomial::shares_by_reliability(n, table, group, second);
             Ok(m)
         }
     }
-}
-
-// The smaller of two lengths.
-fn smaller(first: usize, second: usize) -> usize
-    ensures { result ≡ min first second }
-{
-    if first < second { first } else { second }
 }

@@ -25,7 +25,7 @@ returns-in-Err c =
     c.size-m.ensures ∙ sym (counts_length a.n (in_table a.table.now) a.group) in
     let a = c.args in
     both_unwritten (shares_refusal a.n a.table.now a.group) (group_counts a.n (in_table a.table.now) a.group) c.size-m.result long
-    a.first.now a.second.now c.smaller-room.result c.smaller-room.ensures
+    a.first.now a.second.now c.min-room.result c.min-room.ensures
     (sym c.judge-judged.ensures ∙ c.in-Err.is)
 
 pub returns-in-Ok : goal.returns-in-Ok
@@ -39,15 +39,15 @@ returns-in-Ok c =
     let refusal = shares_refusal a.n a.table.now a.group in
     let result = group_counts a.n works a.group in
     let needed = c.size-m.result in
-    let lent = c.smaller-room.result in
+    let lent = c.min-room.result in
     let passed : and_then refusal (room needed lent) ≡ Ok tt = sym c.judge-judged.ensures ∙ c.in-Ok.is in
     let checked = then_accepted refusal (room needed lent) passed in
     let fits : needed ≤ lent = room_accepted needed lent checked.1 in
-    let first_fits : needed ≤ length a.first.now = omega (arith, c.smaller-room.ensures) in
-    let second_fits : needed ≤ length a.second.now = omega (arith, c.smaller-room.ensures) in
+    let first_fits : needed ≤ length a.first.now = omega (arith, c.min-room.ensures) in
+    let second_fits : needed ≤ length a.second.now = omega (arith, c.min-room.ensures) in
     let claim = shares_are_counts a.n a.table.now a.group a.first.now a.second.now checked.0
     (rw c.size-m.ensures at first_fits) (rw c.size-m.ensures at second_fits) in
-    both_written refusal result needed long a.first.now a.second.now lent c.smaller-room.ensures passed _ _
+    both_written refusal result needed long a.first.now a.second.now lent c.min-room.ensures passed _ _
     (route_written refusal result needed long (shares_by_sets a.n works a.group) a.first.now _ c.shares_by_sets.result
     (given_counts a.n works a.group refusal _ a.first.now claim.0) checked.0 first_fits c.shares_by_sets.ensures)
     (route_written refusal result needed long (shares_by_reliability a.n works a.group) a.second.now _ c.shares_by_reliability.result

@@ -20,14 +20,10 @@ abbrev pub of_verdict : Verdict → Answer
 of_verdict (Ok _) = answer 0 0
 of_verdict (Err r) = answer (number_of r.reason) r.place
 
-abbrev pub of_written : Numbered → Answer
-of_written (Ok n) = answer 0 n
-of_written (Err r) = answer (number_of r.reason) r.place
-
--- of a call that gives a number: the number in the place of the length
-abbrev pub of_value : Numbered → Answer
-of_value (Ok n) = answer 0 n
-of_value (Err r) = answer (number_of r.reason) r.place
+-- of a call that gives a number, or the length that it wrote
+abbrev pub of_number : Numbered → Answer
+of_number (Ok n) = answer 0 n
+of_number (Err r) = answer (number_of r.reason) r.place
 
 -- what reading a record hands out: the refusal, or 0; the part list; the sets; the stretch of their bytes as offset and length
 abbrev pub of_contents : Contents → Record

@@ -37,7 +37,7 @@ ghost use Rattle.sheet.specs.Sheets.{sheet_of};
 ghost use Rattle.sheet_entries.specs.Answers.{entries_delivered};
 ghost use Rattle.report_lines.specs.Lines.{refused_line};
 ghost use Rattle.report_text.specs.Reporting.{report_buffers, reported};
-ghost use Rattle.nahokipe.specs.Answers.{of_verdict, of_written, of_value, of_contents, of_step, of_entries_read};
+ghost use Rattle.nahokipe.specs.Answers.{of_verdict, of_number, of_contents, of_step, of_entries_read};
 
 use answer::Refusal;
 use record::{Contents, Cursor, Step};
@@ -106,113 +106,113 @@ pub extern "C" fn nahokipe_table_verdict(n: usize, table: &[u8]) -> Answer
 // The table of a list of sets.
 #[unsafe(no_mangle)]
 pub extern "C" fn nahokipe_table_of_list(n: usize, list: &[u16], table: &mut [u8]) -> Answer
-    ensures { outcome result table.new ≡ retold of_written (delivered (list_refusal n list.now) (table_of n (listed list.now)) table.old) }
+    ensures { outcome result table.new ≡ retold of_number (delivered (list_refusal n list.now) (table_of n (listed list.now)) table.old) }
 {
-    of_written(structure_forms::table_of_list(n, list, table))
+    of_number(structure_forms::table_of_list(n, list, table))
 }
 
 // The minimal path sets of a table.
 #[unsafe(no_mangle)]
 pub extern "C" fn nahokipe_minimal_sets(n: usize, table: &[u8], sets: &mut [u16]) -> Answer
-    ensures { outcome result sets.new ≡ retold of_written (delivered (table_refusal n table.now) (minimal_sets n (in_table table.now)) sets.old) }
+    ensures { outcome result sets.new ≡ retold of_number (delivered (table_refusal n table.now) (minimal_sets n (in_table table.now)) sets.old) }
 {
-    of_written(structure_forms::minimal_sets(n, table, sets))
+    of_number(structure_forms::minimal_sets(n, table, sets))
 }
 
 // The table of a list of cut sets.
 #[unsafe(no_mangle)]
 pub extern "C" fn nahokipe_table_of_cuts(n: usize, cuts: &[u16], table: &mut [u8]) -> Answer
-    ensures { outcome result table.new ≡ retold of_written (delivered (list_refusal n cuts.now) (table_of n (by_cuts n cuts.now)) table.old) }
+    ensures { outcome result table.new ≡ retold of_number (delivered (list_refusal n cuts.now) (table_of n (by_cuts n cuts.now)) table.old) }
 {
-    of_written(structure_cuts::table_of_cuts(n, cuts, table))
+    of_number(structure_cuts::table_of_cuts(n, cuts, table))
 }
 
 // The minimal cut sets of a table.
 #[unsafe(no_mangle)]
 pub extern "C" fn nahokipe_minimal_cuts(n: usize, table: &[u8], cuts: &mut [u16]) -> Answer
-    ensures { outcome result cuts.new ≡ retold of_written (delivered (table_refusal n table.now) (minimal_cuts n (in_table table.now)) cuts.old) }
+    ensures { outcome result cuts.new ≡ retold of_number (delivered (table_refusal n table.now) (minimal_cuts n (in_table table.now)) cuts.old) }
 {
-    of_written(structure_cuts::minimal_cuts(n, table, cuts))
+    of_number(structure_cuts::minimal_cuts(n, table, cuts))
 }
 
 // The dual of a table.
 #[unsafe(no_mangle)]
 pub extern "C" fn nahokipe_dual(n: usize, table: &[u8], buffer: &mut [u8]) -> Answer
-    ensures { outcome result buffer.new ≡ retold of_written (delivered (table_refusal n table.now) (dual_table n table.now) buffer.old) }
+    ensures { outcome result buffer.new ≡ retold of_number (delivered (table_refusal n table.now) (dual_table n table.now) buffer.old) }
 {
-    of_written(structure_cuts::dual(n, table, buffer))
+    of_number(structure_cuts::dual(n, table, buffer))
 }
 
 // The mask of the idle parts of a table.
 #[unsafe(no_mangle)]
 pub extern "C" fn nahokipe_idle_parts(n: usize, table: &[u8]) -> Answer
-    ensures { result ≡ of_value (valued (table_refusal n table.now) (idle_parts n (in_table table.now))) }
+    ensures { result ≡ of_number (valued (table_refusal n table.now) (idle_parts n (in_table table.now))) }
 {
-    of_value(structure_idle::idle_parts(n, table))
+    of_number(structure_idle::idle_parts(n, table))
 }
 
 // The table of the machine that runs exactly if at least k of n parts work.
 #[unsafe(no_mangle)]
 pub extern "C" fn nahokipe_table_at_least(n: usize, k: usize, table: &mut [u8]) -> Answer
-    ensures { outcome result table.new ≡ retold of_written (delivered (pattern_refusal n k) (table_of n (patterned Pattern.AtLeast n k)) table.old) }
+    ensures { outcome result table.new ≡ retold of_number (delivered (pattern_refusal n k) (table_of n (patterned Pattern.AtLeast n k)) table.old) }
 {
-    of_written(structure_patterns::table_of_pattern(Pattern::AtLeast, n, k, table))
+    of_number(structure_patterns::table_of_pattern(Pattern::AtLeast, n, k, table))
 }
 
 // The table of the machine that is stopped exactly by k failed neighbours in a row.
 #[unsafe(no_mangle)]
 pub extern "C" fn nahokipe_table_of_row(n: usize, k: usize, table: &mut [u8]) -> Answer
-    ensures { outcome result table.new ≡ retold of_written (delivered (pattern_refusal n k) (table_of n (patterned Pattern.Row n k)) table.old) }
+    ensures { outcome result table.new ≡ retold of_number (delivered (pattern_refusal n k) (table_of n (patterned Pattern.Row n k)) table.old) }
 {
-    of_written(structure_patterns::table_of_pattern(Pattern::Row, n, k, table))
+    of_number(structure_patterns::table_of_pattern(Pattern::Row, n, k, table))
 }
 
 // The same in a ring.
 #[unsafe(no_mangle)]
 pub extern "C" fn nahokipe_table_of_ring(n: usize, k: usize, table: &mut [u8]) -> Answer
-    ensures { outcome result table.new ≡ retold of_written (delivered (pattern_refusal n k) (table_of n (patterned Pattern.Ring n k)) table.old) }
+    ensures { outcome result table.new ≡ retold of_number (delivered (pattern_refusal n k) (table_of n (patterned Pattern.Ring n k)) table.old) }
 {
-    of_written(structure_patterns::table_of_pattern(Pattern::Ring, n, k, table))
+    of_number(structure_patterns::table_of_pattern(Pattern::Ring, n, k, table))
 }
 
 // The path counts φ(0) to φ(n) of a table.
 #[unsafe(no_mangle)]
 pub extern "C" fn nahokipe_path_counts(n: usize, table: &[u8], cells: &mut [i64]) -> Answer
-    ensures { outcome result cells.new ≡ retold of_written (delivered (table_refusal n table.now) (path_counts n (in_table table.now)) cells.old) }
+    ensures { outcome result cells.new ≡ retold of_number (delivered (table_refusal n table.now) (path_counts n (in_table table.now)) cells.old) }
 {
-    of_written(figures::path_counts(n, table, cells))
+    of_number(figures::path_counts(n, table, cells))
 }
 
 // The tail T(0) to T(n) of a table.
 #[unsafe(no_mangle)]
 pub extern "C" fn nahokipe_tail(n: usize, table: &[u8], cells: &mut [i64]) -> Answer
-    ensures { outcome result cells.new ≡ retold of_written (delivered (table_refusal n table.now) (tails n (in_table table.now)) cells.old) }
+    ensures { outcome result cells.new ≡ retold of_number (delivered (table_refusal n table.now) (tails n (in_table table.now)) cells.old) }
 {
-    of_written(figures::tail(n, table, cells))
+    of_number(figures::tail(n, table, cells))
 }
 
 // The signature N(1) to N(n) of a table.
 #[unsafe(no_mangle)]
 pub extern "C" fn nahokipe_signature(n: usize, table: &[u8], cells: &mut [i64]) -> Answer
-    ensures { outcome result cells.new ≡ retold of_written (delivered (table_refusal n table.now) (signatures n (in_table table.now)) cells.old) }
+    ensures { outcome result cells.new ≡ retold of_number (delivered (table_refusal n table.now) (signatures n (in_table table.now)) cells.old) }
 {
-    of_written(figures::signature(n, table, cells))
+    of_number(figures::signature(n, table, cells))
 }
 
 // The domination d(0) to d(n) of a table.
 #[unsafe(no_mangle)]
 pub extern "C" fn nahokipe_domination(n: usize, table: &[u8], cells: &mut [i64]) -> Answer
-    ensures { outcome result cells.new ≡ retold of_written (delivered (table_refusal n table.now) (dominations n (in_table table.now)) cells.old) }
+    ensures { outcome result cells.new ≡ retold of_number (delivered (table_refusal n table.now) (dominations n (in_table table.now)) cells.old) }
 {
-    of_written(figures::domination(n, table, cells))
+    of_number(figures::domination(n, table, cells))
 }
 
 // The Barlow-Proschan counts of all parts, by position.
 #[unsafe(no_mangle)]
 pub extern "C" fn nahokipe_importance(n: usize, table: &[u8], cells: &mut [u64]) -> Answer
-    ensures { outcome result cells.new ≡ retold of_written (delivered (table_refusal n table.now) (importances n (in_table table.now)) cells.old) }
+    ensures { outcome result cells.new ≡ retold of_number (delivered (table_refusal n table.now) (importances n (in_table table.now)) cells.old) }
 {
-    of_written(figures::importance(n, table, cells))
+    of_number(figures::importance(n, table, cells))
 }
 
 // The path counts, the signature, the domination and the importances of a table at once.
@@ -238,9 +238,9 @@ pub extern "C" fn nahokipe_shares_by_sets(
     group: usize,
     cells: &mut [i64],
 ) -> Answer
-    ensures { outcome result cells.new ≡ retold of_written (delivered (shares_refusal n table.now group) (shares_by_sets n (in_table table.now) group) cells.old) }
+    ensures { outcome result cells.new ≡ retold of_number (delivered (shares_refusal n table.now group) (shares_by_sets n (in_table table.now) group) cells.old) }
 {
-    of_written(shares_by_sets::shares_by_sets(n, table, group, cells))
+    of_number(shares_by_sets::shares_by_sets(n, table, group, cells))
 }
 
 // The shares of a group through h(x,z).
@@ -251,9 +251,9 @@ pub extern "C" fn nahokipe_shares_by_reliability(
     group: usize,
     cells: &mut [i64],
 ) -> Answer
-    ensures { outcome result cells.new ≡ retold of_written (delivered (shares_refusal n table.now group) (shares_by_reliability n (in_table table.now) group) cells.old) }
+    ensures { outcome result cells.new ≡ retold of_number (delivered (shares_refusal n table.now group) (shares_by_reliability n (in_table table.now) group) cells.old) }
 {
-    of_written(shares_by_polynomial::shares_by_reliability(n, table, group, cells))
+    of_number(shares_by_polynomial::shares_by_reliability(n, table, group, cells))
 }
 
 // The coefficients of h(x,z), where x stands for the parts of the group.
@@ -264,9 +264,9 @@ pub extern "C" fn nahokipe_reliability(
     group: usize,
     cells: &mut [i64],
 ) -> Answer
-    ensures { outcome result cells.new ≡ retold of_written (delivered (shares_refusal n table.now group) (reliability_cells n (in_table table.now) group) cells.old) }
+    ensures { outcome result cells.new ≡ retold of_number (delivered (shares_refusal n table.now group) (reliability_cells n (in_table table.now) group) cells.old) }
 {
-    of_written(shares_polynomial::reliability(n, table, group, cells))
+    of_number(shares_polynomial::reliability(n, table, group, cells))
 }
 
 // The shares of a group by both routes: the counts of failure orders, twice.
@@ -278,9 +278,9 @@ pub extern "C" fn nahokipe_shares_by_both_routes(
     first: &mut [i64],
     second: &mut [i64],
 ) -> Answer
-    ensures { outcome result (both first.new second.new) ≡ retold of_written (both_delivered (shares_refusal n table.now group) (group_counts n (in_table table.now) group) first.old second.old) }
+    ensures { outcome result (both first.new second.new) ≡ retold of_number (both_delivered (shares_refusal n table.now group) (group_counts n (in_table table.now) group) first.old second.old) }
 {
-    of_written(shares::shares_by_both_routes(n, table, group, first, second))
+    of_number(shares::shares_by_both_routes(n, table, group, first, second))
 }
 
 // The square of counts of two machines with the same parts: in how many failure orders which failure stops the first, and which the second.
@@ -291,9 +291,9 @@ pub extern "C" fn nahokipe_joint_signature(
     second: &[u8],
     cells: &mut [u64],
 ) -> Answer
-    ensures { outcome result cells.new ≡ retold of_written (delivered (joint_refusal n first.now second.now) (joint_square n (in_table first.now) (in_table second.now)) cells.old) }
+    ensures { outcome result cells.new ≡ retold of_number (delivered (joint_refusal n first.now second.now) (joint_square n (in_table first.now) (in_table second.now)) cells.old) }
 {
-    of_written(joint::joint_signature(n, first, second, cells))
+    of_number(joint::joint_signature(n, first, second, cells))
 }
 
 // The path counts of a machine made of blocks.
@@ -305,9 +305,9 @@ pub extern "C" fn nahokipe_path_counts_of_blocks(
     vectors: &[i64],
     cells: &mut [i64],
 ) -> Answer
-    ensures { outcome result cells.new ≡ retold of_written (delivered (blocks_refusal blocks table.now sizes.now vectors.now) (counts_of_blocks blocks table.now sizes.now vectors.now) cells.old) }
+    ensures { outcome result cells.new ≡ retold of_number (delivered (blocks_refusal blocks table.now sizes.now vectors.now) (counts_of_blocks blocks table.now sizes.now vectors.now) cells.old) }
 {
-    of_written(blocks::path_counts_of_blocks(blocks, table, sizes, vectors, cells))
+    of_number(blocks::path_counts_of_blocks(blocks, table, sizes, vectors, cells))
 }
 
 // The verdict on a vector, whose kind comes as a number.
@@ -327,9 +327,9 @@ pub extern "C" fn nahokipe_convert(
     target: u8,
     cells: &mut [i64],
 ) -> Answer
-    ensures { outcome result cells.new ≡ retold of_written (delivered (kind_refusal kind (kind_refusal target (vector_refusal (kind_of kind) n entries.now))) (converted (kind_of target) (kind_of kind) n entries.now) cells.old) }
+    ensures { outcome result cells.new ≡ retold of_number (delivered (kind_refusal kind (kind_refusal target (vector_refusal (kind_of kind) n entries.now))) (converted (kind_of target) (kind_of kind) n entries.now) cells.old) }
 {
-    of_written(vector::convert_numbered(kind, n, entries, target, cells))
+    of_number(vector::convert_numbered(kind, n, entries, target, cells))
 }
 
 // A vector saved as a sheet, a tail as the signature; its kind comes as a number.
@@ -340,9 +340,9 @@ pub extern "C" fn nahokipe_save_sheet(
     entries: &[i64],
     buffer: &mut [u8],
 ) -> Answer
-    ensures { outcome result buffer.new ≡ retold of_written (delivered (kind_refusal kind (vector_refusal (kind_of kind) n entries.now)) (saved_sheet (kind_of kind) n entries.now) buffer.old) }
+    ensures { outcome result buffer.new ≡ retold of_number (delivered (kind_refusal kind (vector_refusal (kind_of kind) n entries.now)) (saved_sheet (kind_of kind) n entries.now) buffer.old) }
 {
-    of_written(sheet::save_sheet_numbered(kind, n, entries, buffer))
+    of_number(sheet::save_sheet_numbered(kind, n, entries, buffer))
 }
 
 // A vector saved as a sheet of the kind that is named; both kinds come as numbers.
@@ -354,9 +354,9 @@ pub extern "C" fn nahokipe_save_sheet_as(
     target: u8,
     buffer: &mut [u8],
 ) -> Answer
-    ensures { outcome result buffer.new ≡ retold of_written (delivered (tail_sheet_refusal target (kind_refusal kind (kind_refusal target (vector_refusal (kind_of kind) n entries.now)))) (sheet_as (kind_of target) (kind_of kind) n entries.now) buffer.old) }
+    ensures { outcome result buffer.new ≡ retold of_number (delivered (tail_sheet_refusal target (kind_refusal kind (kind_refusal target (vector_refusal (kind_of kind) n entries.now)))) (sheet_as (kind_of target) (kind_of kind) n entries.now) buffer.old) }
 {
-    of_written(sheet::save_sheet_as_numbered(kind, n, entries, target, buffer))
+    of_number(sheet::save_sheet_as_numbered(kind, n, entries, target, buffer))
 }
 
 // The entries of a sheet.
@@ -395,57 +395,57 @@ pub extern "C" fn nahokipe_next_set(bytes: &[u8], next: usize, left: usize) -> N
 // The table of a record.
 #[unsafe(no_mangle)]
 pub extern "C" fn nahokipe_table_of_record(bytes: &[u8], table: &mut [u8]) -> Answer
-    ensures { outcome result table.new ≡ retold of_written (delivered (record_refusal bytes.now) (table_of (design_in bytes.now).parts.count (listed (design_in bytes.now).sets)) table.old) }
+    ensures { outcome result table.new ≡ retold of_number (delivered (record_refusal bytes.now) (table_of (design_in bytes.now).parts.count (listed (design_in bytes.now).sets)) table.old) }
 {
-    of_written(record_editions::table_of_record(bytes, table))
+    of_number(record_editions::table_of_record(bytes, table))
 }
 
 // The position after the record that stands at a position.
 #[unsafe(no_mangle)]
 pub extern "C" fn nahokipe_record_end(bytes: &[u8], start: usize) -> Answer
-    ensures { result ≡ of_value (end_given bytes.now start) }
+    ensures { result ≡ of_number (end_given bytes.now start) }
 {
-    of_value(record_editions::record_end(bytes, start))
+    of_number(record_editions::record_end(bytes, start))
 }
 
 // The edition of a record: 1 or 2.
 #[unsafe(no_mangle)]
 pub extern "C" fn nahokipe_edition(bytes: &[u8]) -> Answer
-    ensures { result ≡ of_value (edition_given bytes.now) }
+    ensures { result ≡ of_number (edition_given bytes.now) }
 {
-    of_value(record_editions::edition_of(bytes))
+    of_number(record_editions::edition_of(bytes))
 }
 
 // The retired numbers of a record.
 #[unsafe(no_mangle)]
 pub extern "C" fn nahokipe_retired(bytes: &[u8], numbers: &mut [u64]) -> Answer
-    ensures { outcome result numbers.new ≡ retold of_written (retired_given bytes.now numbers.old) }
+    ensures { outcome result numbers.new ≡ retold of_number (retired_given bytes.now numbers.old) }
 {
-    of_written(record_editions::retired_of(bytes, numbers))
+    of_number(record_editions::retired_of(bytes, numbers))
 }
 
 // A record in edition 1.
 #[unsafe(no_mangle)]
 pub extern "C" fn nahokipe_to_edition_1(bytes: &[u8], buffer: &mut [u8]) -> Answer
-    ensures { outcome result buffer.new ≡ retold of_written (changed_record (convert First) bytes.now buffer.old) }
+    ensures { outcome result buffer.new ≡ retold of_number (changed_record (convert First) bytes.now buffer.old) }
 {
-    of_written(record_changes::to_edition_1(bytes, buffer))
+    of_number(record_changes::to_edition_1(bytes, buffer))
 }
 
 // A record in edition 2.
 #[unsafe(no_mangle)]
 pub extern "C" fn nahokipe_to_edition_2(bytes: &[u8], buffer: &mut [u8]) -> Answer
-    ensures { outcome result buffer.new ≡ retold of_written (changed_record (convert Second) bytes.now buffer.old) }
+    ensures { outcome result buffer.new ≡ retold of_number (changed_record (convert Second) bytes.now buffer.old) }
 {
-    of_written(record_changes::to_edition_2(bytes, buffer))
+    of_number(record_changes::to_edition_2(bytes, buffer))
 }
 
 // A first record, of a list of sets.
 #[unsafe(no_mangle)]
 pub extern "C" fn nahokipe_first_record(n: usize, list: &[u16], buffer: &mut [u8]) -> Answer
-    ensures { outcome result buffer.new ≡ retold of_written (first_record n list.now buffer.old) }
+    ensures { outcome result buffer.new ≡ retold of_number (first_record n list.now buffer.old) }
 {
-    of_written(record_changes::first_record(n, list, buffer))
+    of_number(record_changes::first_record(n, list, buffer))
 }
 
 // A record of parts that already have numbers.
@@ -456,81 +456,81 @@ pub extern "C" fn nahokipe_entered_record(
     list: &[u16],
     buffer: &mut [u8],
 ) -> Answer
-    ensures { outcome result buffer.new ≡ retold of_written (entered_record mark numbers.now list.now buffer.old) }
+    ensures { outcome result buffer.new ≡ retold of_number (entered_record mark numbers.now list.now buffer.old) }
 {
-    of_written(record_changes::entered_record(mark, numbers, list, buffer))
+    of_number(record_changes::entered_record(mark, numbers, list, buffer))
 }
 
 // The position of the part with a number, in a record.
 #[unsafe(no_mangle)]
 pub extern "C" fn nahokipe_position_of(bytes: &[u8], number: u64) -> Answer
-    ensures { result ≡ of_value (part_position bytes.now number) }
+    ensures { result ≡ of_number (part_position bytes.now number) }
 {
-    of_value(record_by_number::position_of(bytes, number))
+    of_number(record_by_number::position_of(bytes, number))
 }
 
 // The mask of the parts with some numbers, of a part list.
 #[unsafe(no_mangle)]
 pub extern "C" fn nahokipe_mask_of(numbers: &[u64], wanted: &[u64]) -> Answer
-    ensures { result ≡ of_value (found_mask numbers.now wanted.now) }
+    ensures { result ≡ of_number (found_mask numbers.now wanted.now) }
 {
-    of_value(record_naming::mask_of(numbers, wanted))
+    of_number(record_naming::mask_of(numbers, wanted))
 }
 
 // The numbers of the parts of a mask, of a part list.
 #[unsafe(no_mangle)]
 pub extern "C" fn nahokipe_numbers_of(numbers: &[u64], mask: usize, cells: &mut [u64]) -> Answer
-    ensures { outcome result cells.new ≡ retold of_written (delivered (named_refusal numbers.now mask) (named numbers.now mask) cells.old) }
+    ensures { outcome result cells.new ≡ retold of_number (delivered (named_refusal numbers.now mask) (named numbers.now mask) cells.old) }
 {
-    of_written(record_naming::numbers_of(numbers, mask, cells))
+    of_number(record_naming::numbers_of(numbers, mask, cells))
 }
 
 // A record with one part more.
 #[unsafe(no_mangle)]
 pub extern "C" fn nahokipe_add_part(bytes: &[u8], buffer: &mut [u8]) -> Answer
-    ensures { outcome result buffer.new ≡ retold of_written (changed_record add_part bytes.now buffer.old) }
+    ensures { outcome result buffer.new ≡ retold of_number (changed_record add_part bytes.now buffer.old) }
 {
-    of_written(record_changes::add_part(bytes, buffer))
+    of_number(record_changes::add_part(bytes, buffer))
 }
 
 // A record without the part at a position.
 #[unsafe(no_mangle)]
 pub extern "C" fn nahokipe_take_out(bytes: &[u8], position: usize, buffer: &mut [u8]) -> Answer
-    ensures { outcome result buffer.new ≡ retold of_written (changed_record (take_out position) bytes.now buffer.old) }
+    ensures { outcome result buffer.new ≡ retold of_number (changed_record (take_out position) bytes.now buffer.old) }
 {
-    of_written(record_changes::take_out(bytes, position, buffer))
+    of_number(record_changes::take_out(bytes, position, buffer))
 }
 
 // A record without the parts of a group.
 #[unsafe(no_mangle)]
 pub extern "C" fn nahokipe_take_out_group(bytes: &[u8], group: usize, buffer: &mut [u8]) -> Answer
-    ensures { outcome result buffer.new ≡ retold of_written (changed_record (take_out_group group) bytes.now buffer.old) }
+    ensures { outcome result buffer.new ≡ retold of_number (changed_record (take_out_group group) bytes.now buffer.old) }
 {
-    of_written(record_changes::take_out_group(bytes, group, buffer))
+    of_number(record_changes::take_out_group(bytes, group, buffer))
 }
 
 // A record with one path set more.
 #[unsafe(no_mangle)]
 pub extern "C" fn nahokipe_add_set(bytes: &[u8], set: u16, buffer: &mut [u8]) -> Answer
-    ensures { outcome result buffer.new ≡ retold of_written (changed_record (add_set set) bytes.now buffer.old) }
+    ensures { outcome result buffer.new ≡ retold of_number (changed_record (add_set set) bytes.now buffer.old) }
 {
-    of_written(record_changes::add_set(bytes, set, buffer))
+    of_number(record_changes::add_set(bytes, set, buffer))
 }
 
 // A record without the part that has a number.
 #[unsafe(no_mangle)]
 pub extern "C" fn nahokipe_take_out_part(bytes: &[u8], number: u64, buffer: &mut [u8]) -> Answer
-    ensures { outcome result buffer.new ≡ retold of_written (changed_there take_out (part_position bytes.now number) bytes.now buffer.old) }
+    ensures { outcome result buffer.new ≡ retold of_number (changed_there take_out (part_position bytes.now number) bytes.now buffer.old) }
 {
-    of_written(record_by_number::take_out_part(bytes, number, buffer))
+    of_number(record_by_number::take_out_part(bytes, number, buffer))
 }
 
 // A record without the parts that have some numbers.
 #[unsafe(no_mangle)]
 pub extern "C" fn nahokipe_take_out_parts(bytes: &[u8], wanted: &[u64], buffer: &mut [u8]) -> Answer
-    ensures { outcome result buffer.new ≡ retold of_written (changed_there take_out_group (parts_mask bytes.now wanted.now) bytes.now buffer.old) }
+    ensures { outcome result buffer.new ≡ retold of_number (changed_there take_out_group (parts_mask bytes.now wanted.now) bytes.now buffer.old) }
 {
-    of_written(record_by_number::take_out_parts(bytes, wanted, buffer))
+    of_number(record_by_number::take_out_parts(bytes, wanted, buffer))
 }
 
 // A record with the path set of the parts that have some numbers.
@@ -540,41 +540,41 @@ pub extern "C" fn nahokipe_add_set_of_parts(
     wanted: &[u64],
     buffer: &mut [u8],
 ) -> Answer
-    ensures { outcome result buffer.new ≡ retold of_written (changed_there add_set (parts_mask bytes.now wanted.now) bytes.now buffer.old) }
+    ensures { outcome result buffer.new ≡ retold of_number (changed_there add_set (parts_mask bytes.now wanted.now) bytes.now buffer.old) }
 {
-    of_written(record_by_number::add_set_of_parts(bytes, wanted, buffer))
+    of_number(record_by_number::add_set_of_parts(bytes, wanted, buffer))
 }
 
 // The record of a drawing's text.
 #[unsafe(no_mangle)]
 pub extern "C" fn nahokipe_record_of_drawing(text: &[u8], buffer: &mut [u8]) -> Answer
-    ensures { outcome result buffer.new ≡ retold of_written (record_of_drawing text.now buffer.old) }
+    ensures { outcome result buffer.new ≡ retold of_number (record_of_drawing text.now buffer.old) }
 {
-    of_written(drawing_reading::record_of_drawing(text, buffer))
+    of_number(drawing_reading::record_of_drawing(text, buffer))
 }
 
 // The drawing's text of a record.
 #[unsafe(no_mangle)]
 pub extern "C" fn nahokipe_drawing_of_record(bytes: &[u8], buffer: &mut [u8]) -> Answer
-    ensures { outcome result buffer.new ≡ retold of_written (drawing_of_record bytes.now buffer.old) }
+    ensures { outcome result buffer.new ≡ retold of_number (drawing_of_record bytes.now buffer.old) }
 {
-    of_written(drawing_writing::drawing_of_record(bytes, buffer))
+    of_number(drawing_writing::drawing_of_record(bytes, buffer))
 }
 
 // The report of a record, and the record's table.
 #[unsafe(no_mangle)]
 pub extern "C" fn nahokipe_report(bytes: &[u8], table: &mut [u8], text: &mut [u8]) -> Answer
-    ensures { outcome result (report_buffers table.new text.new) ≡ retold of_written (reported bytes.now table.old text.old) }
+    ensures { outcome result (report_buffers table.new text.new) ≡ retold of_number (reported bytes.now table.old text.old) }
 {
-    of_written(report_text::report(bytes, table, text))
+    of_number(report_text::report(bytes, table, text))
 }
 
 // The one line of a refusal.
 #[unsafe(no_mangle)]
 pub extern "C" fn nahokipe_refused_line(number: u8, place: usize, text: &mut [u8]) -> Answer
-    ensures { outcome result text.new ≡ retold of_written (delivered (Ok tt) (refused_line number place) text.old) }
+    ensures { outcome result text.new ≡ retold of_number (delivered (Ok tt) (refused_line number place) text.old) }
 {
-    of_written(report_lines::refused_line(number, place, text))
+    of_number(report_lines::refused_line(number, place, text))
 }
 
 fn of_verdict(verdict: Result<(), Refusal>) -> Answer
@@ -592,29 +592,11 @@ fn of_verdict(verdict: Result<(), Refusal>) -> Answer
     }
 }
 
-fn of_written(written: Result<usize, Refusal>) -> Answer
-    ensures { result ≡ of_written written }
+fn of_number(given: Result<usize, Refusal>) -> Answer
+    ensures { result ≡ of_number given }
 {
-    match written {
-        Ok(length) => Answer {
-            number: 0,
-            value: length,
-        },
-        Err(refusal) => Answer {
-            number: refusal.reason.number(),
-            value: refusal.place,
-        },
-    }
-}
-
-fn of_value(value: Result<usize, Refusal>) -> Answer
-    ensures { result ≡ of_value value }
-{
-    match value {
-        Ok(given) => Answer {
-            number: 0,
-            value: given,
-        },
+    match given {
+        Ok(value) => Answer { number: 0, value },
         Err(refusal) => Answer {
             number: refusal.reason.number(),
             value: refusal.place,

@@ -1,8 +1,8 @@
 -- `nahokipe::nahokipe_edition` meets its contract: it hands out the number that the function behind it gives.
 -- Assumes nothing.
 use mathlib.Core.Path.{ap, ◌∙◌}
-use Rattle.nahokipe.specs.Answers.{of_value}
+use Rattle.nahokipe.specs.Answers.{of_number}
 use Rattle.nahokipe.proofs.nahokipe_edition.Goals as goal
 
 pub returns : goal.returns
-returns c = c.of_value.ensures ∙ ap of_value c.edition_of.ensures
+returns c = c.of_number.ensures ∙ ap of_number c.edition_of.ensures

@@ -1,8 +1,8 @@
 -- `nahokipe::nahokipe_mask_of` meets its contract: it hands out the number that the function behind it gives.
 -- Assumes nothing.
 use mathlib.Core.Path.{ap, ◌∙◌}
-use Rattle.nahokipe.specs.Answers.{of_value}
+use Rattle.nahokipe.specs.Answers.{of_number}
 use Rattle.nahokipe.proofs.nahokipe_mask_of.Goals as goal
 
 pub returns : goal.returns
-returns c = c.of_value.ensures ∙ ap of_value c.mask_of.ensures
+returns c = c.of_number.ensures ∙ ap of_number c.mask_of.ensures

@@ -1,8 +1,8 @@
 -- `nahokipe::nahokipe_minimal_sets` meets its contract: it hands out the answer of the function behind it and leaves its buffer.
 -- Assumes nothing.
-use Rattle.nahokipe.specs.Answers.{of_written}
+use Rattle.nahokipe.specs.Answers.{of_number}
 use Rattle.nahokipe.proofs.Handing.{handed_on}
 use Rattle.nahokipe.proofs.nahokipe_minimal_sets.Goals as goal
 
 pub returns : goal.returns
-returns c = handed_on of_written c.minimal_sets.ensures c.of_written.ensures
+returns c = handed_on of_number c.minimal_sets.ensures c.of_number.ensures

@@ -1,8 +1,8 @@
 -- `nahokipe::nahokipe_shares_by_reliability` meets its contract: it hands out the answer of the function behind it and leaves its buffer.
 -- Assumes nothing.
-use Rattle.nahokipe.specs.Answers.{of_written}
+use Rattle.nahokipe.specs.Answers.{of_number}
 use Rattle.nahokipe.proofs.Handing.{handed_on}
 use Rattle.nahokipe.proofs.nahokipe_shares_by_reliability.Goals as goal
 
 pub returns : goal.returns
-returns c = handed_on of_written c.shares_by_reliability.ensures c.of_written.ensures
+returns c = handed_on of_number c.shares_by_reliability.ensures c.of_number.ensures

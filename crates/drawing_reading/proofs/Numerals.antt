@@ -11,6 +11,7 @@ use native.Mathlib.Numerals.{add-one}
 use native.Mathlib.Omega.{arith}
 use lib.ListN.{length, get_or, drop, length-append, get_or-eq_default}
 use lib.Seq.{drop-cons, get_or-drop}
+use Rattle.std.specs.Prelude.{None}
 use Rattle.numbers.proofs.Bools.{false_of}
 use Rattle.numbers.proofs.Bounds.{below_or_above}
 use Rattle.text.specs.Texts.{decimal}
@@ -18,9 +19,7 @@ use Rattle.text.proofs.Decimals.{decimal_small}
 use Rattle.drawing_text.specs.Forms.{digit, value_from, same_bytes}
 use Rattle.drawing_text.proofs.Numerals.{Digits, NoDigit, digit_bounds, digits_append, value_more, Begun, decimal_begun, digits_decimal}
 use Rattle.drawing_text.proofs.Forms.{same_bytes_lem, bytes_same}
-use Rattle.drawing_reading.specs.declared.Numeral.{Numeral}
-use Rattle.drawing_reading.specs.declared.Numeral.TheVariants.{Number, Malformed}
-use Rattle.drawing_reading.specs.Inside.{digit_at, digits_in, held, pick_numeral, numeral_at}
+use Rattle.drawing_reading.specs.Inside.{digit_at, digits_in, held, pick_numeral, numeral_at, numeral, Numeral}
 
 -- ---- one byte
 
@@ -111,12 +110,12 @@ module _ {text : List ℕ} {start value next : ℕ} (w : DigitWalk text start va
     front : digits_in (drop start text) ≡ w.digits
     front = ap digits_in w.stands ∙ run_found w.digits (drop next text) w.all digit_walk_behind
 
-    judged : (t : Bool) → same_bytes w.digits (decimal (value_from 0 w.digits)) ≡ t → pick_numeral t (Number value next) ≡ numeral_at (drop start text) start
+    judged : (t : Bool) → same_bytes w.digits (decimal (value_from 0 w.digits)) ≡ t → pick_numeral t (numeral value next) ≡ numeral_at (drop start text) start
     unfolding numeral_at
     judged t e =
         ap₂ (λ (s : Bool) (number : Numeral). pick_numeral s number)
         (sym e ∙ ap (λ (l : List ℕ). same_bytes l (decimal (value_from 0 l))) (sym front))
-        (ap₂ Number (w.holds ∙ ap (λ (l : List ℕ). held (value_from 0 l)) (sym front)) (w.ends ∙ ap (λ (l : List ℕ). start + length l) (sym front)))
+        (ap₂ numeral (w.holds ∙ ap (λ (l : List ℕ). held (value_from 0 l)) (sym front)) (w.ends ∙ ap (λ (l : List ℕ). start + length l) (sym front)))
 
     -- the byte at the start is the first digit
     first_byte : (byte : ℕ) (digits : List ℕ) → w.digits ≡ byte ∷ digits → get_or text start 0 ≡ byte
@@ -130,7 +129,7 @@ module _ {text : List ℕ} {start value next : ℕ} (w : DigitWalk text start va
         (is, ap (λ (b : ℕ). cond (digit b) (b - 48) 10) (first_byte byte digits e) ∙ ap (λ (t : Bool). cond t (byte - 48) 10) is)
 
     -- no digit: no number
-    pub numeral_none : next ≡ start → Malformed ≡ numeral_at (drop start text) start
+    pub numeral_none : next ≡ start → None ≡ numeral_at (drop start text) start
     numeral_none e = judged false (empty w.digits (omega (arith, w.ends)))
       where
         empty : (digits : List ℕ) → length digits ≡ 0 → same_bytes digits (decimal (value_from 0 digits)) ≡ false
@@ -138,7 +137,7 @@ module _ {text : List ℕ} {start value next : ℕ} (w : DigitWalk text start va
         empty (byte ∷ digits) h = absurd (omega (arith, h))
 
     -- a 0 in front of other digits: no number
-    pub numeral_zero : digit_at text start ≡ 0 → start + 1 < next → Malformed ≡ numeral_at (drop start text) start
+    pub numeral_zero : digit_at text start ≡ 0 → start + 1 < next → None ≡ numeral_at (drop start text) start
     numeral_zero zeroed longer = judged false (cases w.digits refl)
       where
         never : (byte second : ℕ) (more : List ℕ) (n : ℕ) → byte ≡ 48 → byte ∷ (second ∷ more) ≡ decimal n → ⊥
@@ -163,7 +162,7 @@ module _ {text : List ℕ} {start value next : ℕ} (w : DigitWalk text start va
             never byte second more (value_from 0 w.digits) low (sym e ∙ same_bytes_lem w.digits (decimal (value_from 0 w.digits)) same))
 
     -- one digit, or digits of which the first is not 0: the number that they stand for
-    pub numeral_given : (next ≡ start → ⊥) → (digit_at text start ≡ 0 → ⊥) ⊎ (next ≤ start + 1) → Number value next ≡ numeral_at (drop start text) start
+    pub numeral_given : (next ≡ start → ⊥) → (digit_at text start ≡ 0 → ⊥) ⊎ (next ≤ start + 1) → numeral value next ≡ numeral_at (drop start text) start
     unfolding value_from
     numeral_given some right = judged true (cases w.digits refl right)
       where

@@ -10,6 +10,7 @@ use native.Mathlib.Omega.{arith}
 use lib.Dec.{eqb}
 use lib.Pow.{pow_mono, pow_pos}
 use borrow.Author.Tests.{le-leb, lt-leb, eqb-true, eq-eqb, ne_eqb}
+use Rattle.std.specs.Prelude.{Err}
 use Rattle.numbers.proofs.Bools.{or_false, or_true, clash}
 use Rattle.numbers.proofs.Bounds.{below_or_above}
 use Rattle.answer.specs.declared.Reason.TheVariants.{UnknownPosition, RepeatedPosition}
@@ -24,8 +25,7 @@ use Rattle.record_numbers.specs.Numbering.{names}
 use Rattle.drawing_text.specs.Sets.{set_of, within}
 use Rattle.drawing_text.proofs.Sets.{within_bounds}
 use Rattle.drawing_reading.specs.declared.Gathered.{Gathered}
-use Rattle.drawing_reading.specs.declared.Line.TheVariants as line
-use Rattle.drawing_reading.specs.Inside.{held, pick_gathered, with_position, refuse_line, gathered_line}
+use Rattle.drawing_reading.specs.Inside.{held, pick_gathered, with_position, refuse_line, gathered_line, line_read}
 
 -- ---- one position
 
@@ -192,13 +192,13 @@ module _ {n : ℕ} {positions : List ℕ} {g : Gathered} (few : n ≤ 16) (w : G
 
   -- the line is refused, or has its set, as the positions say
   pub gathers_line : (next : ℕ) → gathered_line g next
-      ≡ refuse_line (not (every (within n) positions)) UnknownPosition (refuse_line (repeated positions) RepeatedPosition (line.Set (set_of positions) next))
+      ≡ refuse_line (not (every (within n) positions)) UnknownPosition (refuse_line (repeated positions) RepeatedPosition (line_read (set_of positions) next))
   gathers_line next =
-      ap (λ (t : Bool). refuse_line t UnknownPosition (refuse_line g.repeated RepeatedPosition (line.Set g.set next))) w.unknown
+      ap (λ (t : Bool). refuse_line t UnknownPosition (refuse_line g.repeated RepeatedPosition (line_read g.set next))) w.unknown
       ∙ rest (not (every (within n) positions)) (λ e. (w.repeats (w.unknown ∙ e), gathers_set (w.unknown ∙ e)))
     where
       rest : (t : Bool) → (t ≡ false → (g.repeated ≡ repeated positions) × (g.set ≡ set_of positions))
-          → refuse_line t UnknownPosition (refuse_line g.repeated RepeatedPosition (line.Set g.set next))
-          ≡ refuse_line t UnknownPosition (refuse_line (repeated positions) RepeatedPosition (line.Set (set_of positions) next))
+          → refuse_line t UnknownPosition (refuse_line g.repeated RepeatedPosition (line_read g.set next))
+          ≡ refuse_line t UnknownPosition (refuse_line (repeated positions) RepeatedPosition (line_read (set_of positions) next))
       rest true h = refl
-      rest false h = ap₂ (λ (t : Bool) (set : ℕ). refuse_line t RepeatedPosition (line.Set set next)) (h refl).0 (h refl).1
+      rest false h = ap₂ (λ (t : Bool) (set : ℕ). refuse_line t RepeatedPosition (line_read set next)) (h refl).0 (h refl).1

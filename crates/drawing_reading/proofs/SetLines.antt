@@ -24,17 +24,16 @@ use Rattle.drawing_text.specs.Drawings.{set_on, set_lines_refusal}
 use Rattle.drawing_text.proofs.Forms.{set_line_exactly}
 use Rattle.drawing_text.proofs.Drawings.{line_over}
 use Rattle.drawing_text.proofs.Lines.{FirstLine, first_line_lem}
+use Rattle.codec.specs.declared.Standing.{Standing}
 use Rattle.drawing_reading.specs.declared.Drawn.{Drawn}
-use Rattle.drawing_reading.specs.declared.Line.{Line}
-use Rattle.drawing_reading.specs.declared.Line.TheVariants as line
-use Rattle.drawing_reading.specs.Inside.{refuse_line, set_line_of, drawn_or}
+use Rattle.drawing_reading.specs.Inside.{refuse_line, set_line_of, drawn_or, line_read, Line}
 
 -- ---- one line
 
 -- what a line is refused for, and what it gives where nothing refuses it
 module _ (place start : ℕ) (result : ℕ) (end : ℕ) where
   abbrev chain : Bool → Bool → Bool → Line
-  chain a b c = refuse_line a WrongLine (refuse_line b UnknownPosition (refuse_line c RepeatedPosition (line.Set result end)))
+  chain a b c = refuse_line a WrongLine (refuse_line b UnknownPosition (refuse_line c RepeatedPosition (line_read result end)))
 
   abbrev verdicts : Bool → Bool → Bool → Verdict → Verdict
   verdicts a b c later = refuse a WrongLine place (refuse b UnknownPosition place (refuse c RepeatedPosition place later))
@@ -42,31 +41,33 @@ module _ (place start : ℕ) (result : ℕ) (end : ℕ) where
   abbrev refused_at : Reason → Verdict
   refused_at reason = Err (at reason place)
 
-  same_reason : (a b : Reason) → line.Refused a ≡ line.Refused b → refused_at b ≡ refused_at a
-  same_reason a b e = let same : a ≡ b = cc in ap refused_at (sym same)
+  same_reason : (a b : Reason) → ◌≡◌ {A = Line} (Err a) (Err b) → refused_at b ≡ refused_at a
+  same_reason a b e = let same : a ≡ b = cc e in ap refused_at (sym same)
 
-  told_refused : (reason : Reason) (a b c : Bool) (later : Verdict) → line.Refused reason ≡ chain a b c → verdicts a b c later ≡ Err (at reason place)
+  told_refused : (reason : Reason) (a b c : Bool) (later : Verdict) → Err reason ≡ chain a b c → verdicts a b c later ≡ Err (at reason place)
   told_refused reason true b c later e = same_reason _ _ e
   told_refused reason false true c later e = same_reason _ _ e
   told_refused reason false false true later e = same_reason _ _ e
   told_refused reason false false false later e = let z : ◌≡◌ {A = ℕ} 0 1 = cc in absurd (omega arith)
 
-  told_set : (set next : ℕ) (a b c : Bool) → line.Set set next ≡ chain a b c → (a ≡ false) × (b ≡ false) × (c ≡ false) × (set ≡ result) × (next ≡ end)
+  told_set : (set next : ℕ) (a b c : Bool) → line_read set next ≡ chain a b c → (a ≡ false) × (b ≡ false) × (c ≡ false) × (set ≡ result) × (next ≡ end)
   told_set set next true b c e = let z : ◌≡◌ {A = ℕ} 0 1 = cc in absurd (omega arith)
   told_set set next false true c e = let z : ◌≡◌ {A = ℕ} 0 1 = cc in absurd (omega arith)
   told_set set next false false true e = let z : ◌≡◌ {A = ℕ} 0 1 = cc in absurd (omega arith)
-  told_set set next false false false e = (refl, refl, refl, (cc), (cc))
+  told_set set next false false false e =
+      let both : record { value = set; next = next } ≡ record { value = result; next = end } = cc e in
+      (refl, refl, refl, ap (λ (x : Standing ℕ). x.value) both, ap (λ (x : Standing ℕ). x.next) both)
 
 module _ (n place : ℕ) (bytes : List ℕ) (lines : List (List ℕ)) (start : ℕ) where
   module _ (other : place ≡ 12872 → ⊥) where
-    pub line_refused : (reason : Reason) → line.Refused reason ≡ set_line_of n bytes start → set_lines_refusal n place (bytes ∷ lines) ≡ Err (at reason place)
+    pub line_refused : (reason : Reason) → Err reason ≡ set_line_of n bytes start → set_lines_refusal n place (bytes ∷ lines) ≡ Err (at reason place)
     unfolding set_lines_refusal
     line_refused reason e =
         refuse_passed (eqb place 12872) LongList place _ (ne_eqb place 12872 other)
         ∙ told_refused place start (set_of (numbers_in bytes)) (start + length bytes) reason (not (is_set_line bytes)) (not (every (within n) (numbers_in bytes))) (repeated (numbers_in bytes))
         (set_lines_refusal n (suc place) lines) e
 
-    module _ (set next : ℕ) (e : line.Set set next ≡ set_line_of n bytes start) where
+    module _ (set next : ℕ) (e : line_read set next ≡ set_line_of n bytes start) where
       told : (not (is_set_line bytes) ≡ false) × (not (every (within n) (numbers_in bytes)) ≡ false) × (repeated (numbers_in bytes) ≡ false) × (set ≡ set_of (numbers_in bytes)) × (next ≡ start + length bytes)
       told =
           told_set place start (set_of (numbers_in bytes)) (start + length bytes) set next (not (is_set_line bytes)) (not (every (within n) (numbers_in bytes))) (repeated (numbers_in bytes)) e
@@ -154,14 +155,14 @@ module _ {text : List ℕ} {start n : ℕ} {sets : List ℕ} {count next : ℕ} 
       fewer : count + 2 ≡ 12872 → ⊥
       fewer e = other (omega arith)
 
-      pub lines_walk_broken : (reason : Reason) → line.Refused reason ≡ set_line_of n (first_line (drop next text)) next
+      pub lines_walk_broken : (reason : Reason) → Err reason ≡ set_line_of n (first_line (drop next text)) next
           → set_lines_refusal n (count + 2) (lines_of (drop next text)) ≡ Err (at reason (count + 2))
       lines_walk_broken reason e =
           ap (set_lines_refusal n (count + 2)) here.lines
           ∙ line_refused n (count + 2) here.line (lines_of here.behind) next fewer reason (e ∙ ap (λ (l : List ℕ). set_line_of n l next) this)
 
-      module _ (value after : ℕ) (e : line.Set value after ≡ set_line_of n (first_line (drop next text)) next) where
-        read : line.Set value after ≡ set_line_of n here.line next
+      module _ (value after : ℕ) (e : line_read value after ≡ set_line_of n (first_line (drop next text)) next) where
+        read : line_read value after ≡ set_line_of n here.line next
         read = e ∙ ap (λ (l : List ℕ). set_line_of n l next) this
 
         pub lines_walk_on : next < after

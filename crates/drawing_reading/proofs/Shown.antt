@@ -11,6 +11,7 @@ use native.Mathlib.Numerals.{add-one}
 use native.Mathlib.Omega.{arith}
 use lib.ListN.{length, get_or, take, drop, length-append, length-take, length-drop, get_or-eq_default, take-append-drop}
 use lib.Seq.{drop-cons, drop-drop, drop-append_seam, take-append_seam, get_or-drop}
+use Rattle.std.specs.Prelude.{None}
 use Rattle.numbers.proofs.Bools.{clash}
 use Rattle.numbers.proofs.Bounds.{below_or_above}
 use Rattle.text.specs.Texts.{decimal}
@@ -18,8 +19,8 @@ use Rattle.drawing_text.specs.Lines.{line_feed}
 use Rattle.drawing_text.specs.Forms.{space, digit, value_from, same_bytes, spaced}
 use Rattle.drawing_text.proofs.Numerals.{Digits, NoDigit, decimal_digits, decimal_value, run_same}
 use Rattle.drawing_text.proofs.Forms.{same_bytes_lem, bytes_same, spaced_more, Behind, spaced_behind}
-use Rattle.drawing_reading.specs.declared.Numeral.TheVariants.{Number, Malformed}
-use Rattle.drawing_reading.specs.Inside.{digits_in, held, pick_numeral, numeral_at}
+use Rattle.codec.specs.declared.Standing.{Standing}
+use Rattle.drawing_reading.specs.Inside.{digits_in, held, pick_numeral, numeral_at, numeral}
 
 -- ---- one byte
 
@@ -87,7 +88,7 @@ module _ (text : List ℕ) (start : ℕ) where
   abbrev run : List ℕ
   run = digits_in bytes
 
-  pub numeral_read : (value next : ℕ) → Number value next ≡ numeral_at bytes start → NumeralRead text start value next
+  pub numeral_read : (value next : ℕ) → numeral value next ≡ numeral_at bytes start → NumeralRead text start value next
   unfolding numeral_at
   numeral_read value next e = cases (same_bytes run (decimal (value_from 0 run))) refl
     where
@@ -95,10 +96,11 @@ module _ (text : List ℕ) (start : ℕ) where
       cases true h =
           let s = split bytes in
           let same : run ≡ decimal (value_from 0 run) = same_bytes_lem run (decimal (value_from 0 run)) h in
-          let given : Number value next ≡ Number (held (value_from 0 run)) (start + length run) =
-          e ∙ ap (λ (t : Bool). pick_numeral t (Number (held (value_from 0 run)) (start + length run))) h in
-          let holds : value ≡ held (value_from 0 run) = cc in
-          let ends : next ≡ start + length run = cc in
+          let given : numeral value next ≡ numeral (held (value_from 0 run)) (start + length run) =
+          e ∙ ap (λ (t : Bool). pick_numeral t (numeral (held (value_from 0 run)) (start + length run))) h in
+          let both : record { value = value; next = next } ≡ record { value = held (value_from 0 run); next = start + length run } = cc given in
+          let holds : value ≡ held (value_from 0 run) = ap (λ (x : Standing ℕ). x.value) both in
+          let ends : next ≡ start + length run = ap (λ (x : Standing ℕ). x.next) both in
           let rest : drop next text ≡ s.rest =
           ap (λ (k : ℕ). drop k text) ends ∙ sym (drop-drop (length run) start text) ∙ ap (drop (length run)) s.whole ∙ drop-append_seam run s.rest in
           record {
@@ -109,12 +111,12 @@ module _ (text : List ℕ) (start : ℕ) where
             ends = ends ∙ ap (λ (l : List ℕ). start + length l) same;
           }
       cases false h =
-          let given : Number value next ≡ Malformed = e ∙ ap (λ (t : Bool). pick_numeral t (Number (held (value_from 0 run)) (start + length run))) h in
+          let given : numeral value next ≡ None = e ∙ ap (λ (t : Bool). pick_numeral t (numeral (held (value_from 0 run)) (start + length run))) h in
           let z : ◌≡◌ {A = ℕ} 0 1 = cc in
           absurd (omega arith)
 
   -- where none was read, no number stands there
-  pub numeral_missing : Malformed ≡ numeral_at bytes start → (number : ℕ) (rest : List ℕ) → NoDigit rest → bytes ≡ decimal number ++ rest → ⊥
+  pub numeral_missing : None ≡ numeral_at bytes start → (number : ℕ) (rest : List ℕ) → NoDigit rest → bytes ≡ decimal number ++ rest → ⊥
   unfolding numeral_at
   numeral_missing e number rest behind whole =
       let s = split bytes in
@@ -123,8 +125,8 @@ module _ (text : List ℕ) (start : ℕ) where
       let value : value_from 0 run ≡ number = ap (value_from 0) same ∙ decimal_value number in
       let passes : same_bytes run (decimal (value_from 0 run)) ≡ true =
       subst (λ (l : List ℕ). same_bytes run l ≡ true) (same ∙ ap decimal (sym value)) (bytes_same run) in
-      let given : Malformed ≡ Number (held (value_from 0 run)) (start + length run) =
-      e ∙ ap (λ (t : Bool). pick_numeral t (Number (held (value_from 0 run)) (start + length run))) passes in
+      let given : None ≡ numeral (held (value_from 0 run)) (start + length run) =
+      e ∙ ap (λ (t : Bool). pick_numeral t (numeral (held (value_from 0 run)) (start + length run))) passes in
       let z : ◌≡◌ {A = ℕ} 0 1 = cc in
       omega arith
 

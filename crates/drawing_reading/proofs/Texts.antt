@@ -9,7 +9,7 @@ use borrow.Author.Tests.{ne_eqb}
 use lib.Dec.{eqb}
 use lib.ListN.{length, get_or, drop, length-drop}
 use lib.Seq.{drop-append_seam, drop-cons}
-use Rattle.std.specs.Prelude.{Err}
+use Rattle.std.specs.Prelude.{Err, None}
 use Rattle.answer.specs.declared.Reason.TheVariants.{WrongPartCount, EmptyList, WrongLine}
 use Rattle.answer.specs.Outcome.{at, refuse, Verdict}
 use Rattle.answer.specs.Checks.{part_count_refusal}
@@ -19,10 +19,9 @@ use Rattle.drawing_text.specs.Lines.{lines_of, first_line}
 use Rattle.drawing_text.specs.Forms.{line_of, is_parts_line}
 use Rattle.drawing_text.specs.Drawings.{set_on, number_on, set_lines_refusal, lines_refusal, drawing_refusal, drawn_parts, drawn_sets}
 use Rattle.drawing_text.proofs.Lines.{FirstLine, first_line_lem}
+use Rattle.codec.specs.declared.Standing.{Standing}
 use Rattle.drawing_reading.specs.declared.Drawn.{Drawn}
-use Rattle.drawing_reading.specs.declared.Numeral.{Numeral}
-use Rattle.drawing_reading.specs.declared.Numeral.TheVariants.{Number, Malformed}
-use Rattle.drawing_reading.specs.Inside.{held, pick_numeral, parts_at, drawn_or}
+use Rattle.drawing_reading.specs.Inside.{held, pick_numeral, parts_at, drawn_or, numeral, Numeral}
 
 -- no bytes are no line
 empty : is_parts_line (first_line []) ≡ true → ⊥
@@ -34,7 +33,7 @@ module _ (text : List ℕ) where
   whole = drawn_or (drawing_refusal text) (drawn_parts text) (drawn_sets text)
 
   abbrev shown : Numeral
-  shown = Number (held (number_on (first_line text))) (length (first_line text))
+  shown = numeral (held (number_on (first_line text))) (length (first_line text))
 
   -- a refused text has no parts and no sets
   refused_text : (why : Verdict) → drawing_refusal text ≡ why → drawn_or why (drawn_parts text) (drawn_sets text) ≡ whole
@@ -42,14 +41,14 @@ module _ (text : List ℕ) where
 
   -- ---- a first line of another form
 
-  pub text_malformed : Malformed ≡ parts_at text → drawn_or (Err (at WrongLine 1)) 0 [] ≡ whole
+  pub text_malformed : None ≡ parts_at text → drawn_or (Err (at WrongLine 1)) 0 [] ≡ whole
   unfolding parts_at drawing_refusal lines_of
   text_malformed e = refused_text (Err (at WrongLine 1)) (cases text (other (is_parts_line (first_line text)) refl))
     where
       other : (t : Bool) → is_parts_line (first_line text) ≡ t → is_parts_line (first_line text) ≡ false
       other false h = h
       other true h =
-          let given : Malformed ≡ shown = e ∙ ap (λ (t : Bool). pick_numeral t shown) h in
+          let given : None ≡ shown = e ∙ ap (λ (t : Bool). pick_numeral t shown) h in
           let z : ◌≡◌ {A = ℕ} 0 1 = cc in
           absurd (omega arith)
 
@@ -70,7 +69,7 @@ module _ (text : List ℕ) where
     lines : lines_of text ≡ first_line text ∷ lines_of (drop next text)
     judged : drawing_refusal text ≡ part_count_refusal 1 number (refuse (eqb (length (lines_of (drop next text))) 0) EmptyList 1 (set_lines_refusal number 2 (lines_of (drop next text))))
 
-  module _ (value next : ℕ) (e : Number value next ≡ parts_at text) where
+  module _ (value next : ℕ) (e : numeral value next ≡ parts_at text) where
     first_read_lem : FirstRead value next
     unfolding parts_at drawing_refusal
     first_read_lem = cases (is_parts_line (first_line text)) refl
@@ -81,14 +80,15 @@ module _ (text : List ℕ) where
 
         cases : (t : Bool) → is_parts_line (first_line text) ≡ t → FirstRead value next
         cases false h =
-            let given : Number value next ≡ Malformed = e ∙ ap (λ (t : Bool). pick_numeral t shown) h in
+            let given : numeral value next ≡ None = e ∙ ap (λ (t : Bool). pick_numeral t shown) h in
             let z : ◌≡◌ {A = ℕ} 0 1 = cc in
             absurd (omega arith)
         cases true h =
             let f = opened text refl h in
-            let given : Number value next ≡ shown = e ∙ ap (λ (t : Bool). pick_numeral t shown) h in
-            let holds : value ≡ held (number_on (first_line text)) = cc in
-            let ends : next ≡ length (first_line text) = cc in
+            let given : numeral value next ≡ shown = e ∙ ap (λ (t : Bool). pick_numeral t shown) h in
+            let both : record { value = value; next = next } ≡ record { value = held (number_on (first_line text)); next = length (first_line text) } = cc given in
+            let holds : value ≡ held (number_on (first_line text)) = ap (λ (x : Standing ℕ). x.value) both in
+            let ends : next ≡ length (first_line text) = ap (λ (x : Standing ℕ). x.next) both in
             let first : first_line text ≡ f.line = ap (λ (lines : List (List ℕ)). get_or lines 0 []) f.lines in
             let behind : drop next text ≡ f.behind =
             ap₂ drop (ends ∙ ap length first) f.same ∙ drop-append_seam f.line f.behind in

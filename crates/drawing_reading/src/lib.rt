@@ -10,13 +10,7 @@ ghost use Rattle.drawing_text.specs.Drawings.{set_on, set_lines_refusal, drawing
 ghost use Rattle.drawing_reading.specs.Inside.{digit_at, held, numeral_at, parts_at, with_position, gathered_line, set_line_of, drawn_or};
 
 use answer::{Reason, Refusal};
-
-// A number of a text: its value, which is held at 100 from there on, and the position after it; or none stands there as numbers are written.
-#[derive(Drop)]
-enum Numeral {
-    Number { value: usize, next: usize },
-    Malformed,
-}
+use codec::Standing;
 
 // The positions of a set line so far: their set, whether one is no position of the machine, and whether one of the machine's stood twice.
 #[derive(Drop)]
@@ -24,13 +18,6 @@ struct Gathered {
     set: u16,
     unknown: bool,
     repeated: bool,
-}
-
-// A set line: its set and the position behind it, or the number that refuses it.
-#[derive(Drop)]
-enum Line {
-    Set { set: u16, next: usize },
-    Refused(Reason),
 }
 
 // What a text says: the number of parts, and the sets, one a line, in front of an array. Of a refused text: no parts and no sets.
@@ -57,22 +44,21 @@ pub fn record_of_drawing(text: &[u8], buffer: &mut [u8]) -> Result<usize, Refusa
 fn read_drawing(text: &[u8]) -> Drawn
     ensures { result ≡ drawn_or (drawing_refusal text.now) (drawn_parts text.now) (drawn_sets text.now) }
 {
-    let first = read_parts_line(text);
-    match first {
-        Numeral::Malformed => refused(Reason::WrongLine, 1),
-        Numeral::Number { value, next } => {
-            if value == 0 {
-                return refused(Reason::WrongPartCount, 1);
-            }
-            if 16 < value {
-                return refused(Reason::WrongPartCount, 1);
-            }
-            if text.len() <= next {
-                return refused(Reason::EmptyList, 1);
-            }
-            read_set_lines(text, next, value)
-        }
+    let Some(parts) = read_parts_line(text) else {
+        return refused(Reason::WrongLine, 1);
+    };
+    let n = parts.value;
+    if n == 0 {
+        return refused(Reason::WrongPartCount, 1);
     }
+    if 16 < n {
+        return refused(Reason::WrongPartCount, 1);
+    }
+    let next = parts.next;
+    if text.len() <= next {
+        return refused(Reason::EmptyList, 1);
+    }
+    read_set_lines(text, next, n)
 }
 
 // The set lines from a position on, the first of which is line 2.
@@ -89,13 +75,13 @@ fn read_set_lines(text: &[u8], start: usize, n: usize) -> Drawn
         }
         let line = read_set_line(text, next, n);
         match line {
-            Line::Refused(reason) => {
+            Err(reason) => {
                 return refused(reason, count + 2);
             }
-            Line::Set { set, next: behind } => {
-                sets[count] = set;
+            Ok(read) => {
+                sets[count] = read.value;
                 count += 1;
-                next = behind;
+                next = read.next;
             }
         }
     }
@@ -119,40 +105,35 @@ fn refused(reason: Reason, line: usize) -> Drawn
     }
 }
 
-// The first line: the keyword `parts`, a space, a number and a line feed.
-fn read_parts_line(text: &[u8]) -> Numeral
+// The number on the first line and the position behind it: the keyword `parts`, a space, a number and a line feed; none for another form.
+fn read_parts_line(text: &[u8]) -> Option<Standing<usize>>
     ensures { result ≡ parts_at text.now }
 {
     if !stands(text, 0, b"parts") {
-        return Numeral::Malformed;
+        return None;
     }
     if byte_at(text, 5) != b' ' {
-        return Numeral::Malformed;
+        return None;
     }
-    let number = read_numeral(text, 6);
-    match number {
-        Numeral::Malformed => Numeral::Malformed,
-        Numeral::Number { value, next: end } => {
-            if byte_at(text, end) != b'\n' {
-                return Numeral::Malformed;
-            }
-            let behind = end + 1;
-            Numeral::Number {
-                value,
-                next: behind,
-            }
-        }
+    let number = read_numeral(text, 6)?;
+    if byte_at(text, number.next) != b'\n' {
+        return None;
     }
+    Some(Standing {
+        value: number.value,
+        next: number.next + 1,
+    })
 }
 
-// A set line at a position: the keyword `set`, a space and a number for each position, and a line feed.
-fn read_set_line(text: &[u8], start: usize, n: usize) -> Line
+// A set line at a position, its set and the position behind it: the keyword `set`, a space and a number for each position, and a line feed; or
+// why it is refused.
+fn read_set_line(text: &[u8], start: usize, n: usize) -> Result<Standing<u16>, Reason>
     requires n_bound { n ≤ 16 }
     requires start_in_bounds { start ≤ length text.now }
     ensures { result ≡ set_line_of n (first_line (drop start text.now)) start }
 {
     if !stands(text, start, b"set") {
-        return Line::Refused(Reason::WrongLine);
+        return Err(Reason::WrongLine);
     }
     let first = start + 3;
     let mut next = first;
@@ -162,22 +143,17 @@ fn read_set_line(text: &[u8], start: usize, n: usize) -> Line
         repeated: false,
     };
     while byte_at(text, next) == b' ' {
-        let number = read_numeral(text, next + 1);
-        let Numeral::Number {
-            value,
-            next: behind,
-        } = number
-        else {
-            return Line::Refused(Reason::WrongLine);
+        let Some(number) = read_numeral(text, next + 1) else {
+            return Err(Reason::WrongLine);
         };
-        gathered = gathered.with(value, n);
-        next = behind;
+        gathered = gathered.with(number.value, n);
+        next = number.next;
     }
     if next == first {
-        return Line::Refused(Reason::WrongLine);
+        return Err(Reason::WrongLine);
     }
     if byte_at(text, next) != b'\n' {
-        return Line::Refused(Reason::WrongLine);
+        return Err(Reason::WrongLine);
     }
     gathered.line(next + 1)
 }
@@ -224,24 +200,24 @@ impl Gathered {
     }
 
     // The line on which these are all positions: 17 before 28.
-    fn line(self, next: usize) -> Line
+    fn line(self, next: usize) -> Result<Standing<u16>, Reason>
         ensures { result ≡ gathered_line self next }
     {
         if self.unknown {
-            return Line::Refused(Reason::UnknownPosition);
+            return Err(Reason::UnknownPosition);
         }
         if self.repeated {
-            return Line::Refused(Reason::RepeatedPosition);
+            return Err(Reason::RepeatedPosition);
         }
-        Line::Set {
-            set: self.set,
+        Ok(Standing {
+            value: self.set,
             next,
-        }
+        })
     }
 }
 
-// The number at a position: at least one digit, and no 0 in front of others.
-fn read_numeral(text: &[u8], start: usize) -> Numeral
+// The number at a position, held at 100 from there on, and the position after it: at least one digit, and no 0 in front of others.
+fn read_numeral(text: &[u8], start: usize) -> Option<Standing<usize>>
     ensures { result ≡ numeral_at (drop start text.now) start }
 {
     let mut value = 0;
@@ -253,14 +229,14 @@ fn read_numeral(text: &[u8], start: usize) -> Numeral
         digit = digit_at(text, next);
     }
     if next == start {
-        return Numeral::Malformed;
+        return None;
     }
     if digit_at(text, start) == 0 {
         if start + 1 < next {
-            return Numeral::Malformed;
+            return None;
         }
     }
-    Numeral::Number { value, next }
+    Some(Standing { value, next })
 }
 
 // A number with one digit more, held at 100.

@@ -32,32 +32,32 @@ returns-then-byte_at-ne10 c =
     let spaced-here : get_or c.args.text.now 5 0 ≡ space =
     sym c.byte_at.ensures ∙ c.if-byte_at-ne32.false in
     -- and a number behind that
-    let read_number : NumeralRead c.args.text.now 6 c.in-Number.value c.in-Number.end =
-    numeral_read c.args.text.now 6 _ _ (sym c.in-Number.is ∙ c.read_numeral-number.ensures) in
-    let numbered : Shown parts_word c.args.text.now 0 c.in-Number.end (read_number.number ∷ []) =
+    let read_number : NumeralRead c.args.text.now 6 c.in_ok-number.number.value c.in_ok-number.number.next =
+    numeral_read c.args.text.now 6 _ _ (sym c.in_ok-number.was ∙ c.read_numeral.ensures) in
+    let numbered : Shown parts_word c.args.text.now 0 c.in_ok-number.number.next (read_number.number ∷ []) =
     shown_more parts_word c.args.text.now 0 keyword spaced-here _ _ read_number in
-    parts_no_end c.args.text.now numbered (λ same. c.if-byte_at-ne10.true (c.byte_at-in-Number.ensures ∙ same))
+    parts_no_end c.args.text.now numbered (λ same. c.if-byte_at-ne10.true (c.byte_at-2.ensures ∙ same))
 
-pub overflow_add-behind : goal.overflow_add-behind
-overflow_add-behind c =
+pub overflow_add-result : goal.overflow_add-result
+overflow_add-result c =
     -- and a line feed behind the number
-    let ended : (c.in-Number.end < length c.args.text.now) × (drop c.in-Number.end c.args.text.now ≡ line_feed ∷ drop (c.in-Number.end + 1) c.args.text.now) =
-    byte_here c.args.text.now c.in-Number.end line_feed (omega arith)
-    (sym c.byte_at-in-Number.ensures ∙ c.if-byte_at-ne10.false) in
+    let ended : (c.in_ok-number.number.next < length c.args.text.now) × (drop c.in_ok-number.number.next c.args.text.now ≡ line_feed ∷ drop (c.in_ok-number.number.next + 1) c.args.text.now) =
+    byte_here c.args.text.now c.in_ok-number.number.next line_feed (omega arith)
+    (sym c.byte_at-2.ensures ∙ c.if-byte_at-ne10.false) in
     omega (arith, ended.0)
 
-pub returns-in-Malformed : goal.returns-in-Malformed
-returns-in-Malformed c =
+pub returns-in_err-number : goal.returns-in_err-number
+returns-in_err-number c =
     -- the keyword stands in front
     let keyword : Shown parts_word c.args.text.now 0 5 [] =
     shown_none parts_word c.args.text.now 0 (sym c.stands.ensures ∙ c.if-not-stands.false) in
     -- a space stands behind it
     let spaced-here : get_or c.args.text.now 5 0 ≡ space =
     sym c.byte_at.ensures ∙ c.if-byte_at-ne32.false in
-    parts_no_number c.args.text.now keyword spaced-here (sym c.in-Malformed.is ∙ c.read_numeral-number.ensures)
+    rw c.from_residual.ensures (parts_no_number c.args.text.now keyword spaced-here (sym c.in_err-number.was ∙ c.read_numeral.ensures))
 
-pub returns-else-byte_at-ne10 : goal.returns-else-byte_at-ne10
-returns-else-byte_at-ne10 c =
+pub returns : goal.returns
+returns c =
     -- the keyword stands in front
     let keyword : Shown parts_word c.args.text.now 0 5 [] =
     shown_none parts_word c.args.text.now 0 (sym c.stands.ensures ∙ c.if-not-stands.false) in
@@ -65,8 +65,8 @@ returns-else-byte_at-ne10 c =
     let spaced-here : get_or c.args.text.now 5 0 ≡ space =
     sym c.byte_at.ensures ∙ c.if-byte_at-ne32.false in
     -- and a number behind that
-    let read_number : NumeralRead c.args.text.now 6 c.in-Number.value c.in-Number.end =
-    numeral_read c.args.text.now 6 _ _ (sym c.in-Number.is ∙ c.read_numeral-number.ensures) in
-    let numbered : Shown parts_word c.args.text.now 0 c.in-Number.end (read_number.number ∷ []) =
+    let read_number : NumeralRead c.args.text.now 6 c.in_ok-number.number.value c.in_ok-number.number.next =
+    numeral_read c.args.text.now 6 _ _ (sym c.in_ok-number.was ∙ c.read_numeral.ensures) in
+    let numbered : Shown parts_word c.args.text.now 0 c.in_ok-number.number.next (read_number.number ∷ []) =
     shown_more parts_word c.args.text.now 0 keyword spaced-here _ _ read_number in
-    parts_read c.args.text.now numbered _ read_number.holds (sym c.byte_at-in-Number.ensures ∙ c.if-byte_at-ne10.false)
+    parts_read c.args.text.now numbered _ read_number.holds (sym c.byte_at-2.ensures ∙ c.if-byte_at-ne10.false)

@@ -16,8 +16,8 @@ pub record SetWalk (text : List ℕ) (start n next : ℕ) (gathered : Gathered) 
   pub shown : Shown set_word text start next positions
   pub gathers : Gathers n positions gathered
 
-abbrev pub invariant-loop-number : goal.invariant-loop-number
-invariant-loop-number l = SetWalk l.text l.start l.n l.next l.gathered
+abbrev pub invariant-loop-next : goal.invariant-loop-next
+invariant-loop-next l = SetWalk l.text l.start l.n l.next l.gathered
 
-abbrev pub decreases-loop-number : goal.decreases-loop-number
-decreases-loop-number l = length l.text - l.next
+abbrev pub decreases-loop-next : goal.decreases-loop-next
+decreases-loop-next l = length l.text - l.next

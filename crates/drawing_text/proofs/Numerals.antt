@@ -2,13 +2,13 @@
 -- for, and where a run of digits ends is decided by the bytes alone.
 -- Assumes nothing.
 use mathlib.Core.Path.{◌≡◌, refl, sym, ap, ap₂, ◌∙◌, subst}
-use mathlib.Core.Bool.{Bool, true, false, ◌&&◌}
+use mathlib.Core.Bool.{true, false}
 use mathlib.Core.List.{List, [], ◌∷◌, ◌++◌, append_assoc, append-nil}
 use mathlib.Core.Logic.{⊎_elim}
 use Prim.Native.Nat.{ℕ, zero, suc, ◌+◌, ◌-◌, ◌*◌, ◌/◌, ◌%◌, ◌≤◌, ◌<◌}
 use native.Mathlib.Nat.{le_refl}
 use native.Mathlib.Omega.{arith}
-use borrow.Author.Tests.{leb-true, le-leb, lt-leb}
+use borrow.Author.Tests.{leb-true, le-leb}
 use lib.Dec.{leb}
 use Rattle.numbers.proofs.Bools.{and_left, and_right, and_both, clash}
 use Rattle.numbers.proofs.Bounds.{below_or_above}
@@ -24,13 +24,6 @@ digit_bounds byte h =
 
 pub digit_of : (byte : ℕ) → 48 ≤ byte → byte ≤ 57 → digit byte ≡ true
 digit_of byte low high = and_both (le-leb 48 byte low) (le-leb byte 57 high)
-
-pub no_digit_low : (byte : ℕ) → byte < 48 → digit byte ≡ false
-no_digit_low byte h = ap (λ (t : Bool). t && leb byte 57) (lt-leb 48 byte h)
-
-pub no_digit_high : (byte : ℕ) → 57 < byte → digit byte ≡ false
-no_digit_high byte h =
-    ap₂ (λ (s t : Bool). s && t) (le-leb 48 byte (let low : 48 ≤ byte = omega arith in low)) (lt-leb byte 57 h)
 
 -- ---- runs of digits
 

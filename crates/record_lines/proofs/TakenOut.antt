@@ -5,7 +5,7 @@ use mathlib.Core.Path.{◌≡◌, refl, sym, ap, ◌∙◌}
 use mathlib.Core.Bool.{Bool, true, false, not, cond}
 use mathlib.Core.List.Memᴰ
 use mathlib.Core.List.{List, [], ◌∷◌, ◌++◌, append-nil, map, Memᴰ}
-use Prim.Native.Nat.{ℕ, suc, ◌+◌, ◌^◌, ◌≤◌, ◌<◌}
+use Prim.Native.Nat.{ℕ, suc, ◌^◌, ◌≤◌, ◌<◌}
 use native.Mathlib.Nat.{lt_of_lt_of_le}
 use native.Mathlib.Omega.{arith}
 use borrow.Author.Tests.{not-true}
@@ -111,10 +111,6 @@ module _ (group i : ℕ) (sets : List ℕ) (h : i < length sets) where
   pub without_kept : meets group (get_or sets i 0) ≡ false → sets_without group (take (suc i) sets) ≡ sets_without group (take i sets) ++ (squeezed most_parts group (get_or sets i 0) ∷ [])
   unfolding sets_without
   without_kept lacks = one_more ∙ simp lacks
-
-  -- and counted
-  pub without_longer : meets group (get_or sets i 0) ≡ false → length (sets_without group (take (suc i) sets)) ≡ length (sets_without group (take i sets)) + 1
-  without_longer lacks = ap length (without_kept lacks) ∙ length-append (sets_without group (take i sets)) (squeezed most_parts group (get_or sets i 0) ∷ [])
 
   -- one that shares a part with it is not
   pub without_gone : meets group (get_or sets i 0) ≡ true → sets_without group (take (suc i) sets) ≡ sets_without group (take i sets)

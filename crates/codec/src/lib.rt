@@ -109,7 +109,13 @@ pub fn write_number(buffer: &mut [u8], at: usize, value: u64) -> usize
 }
 
 // The answer for a number whose last byte is read: 22 where it is below the least number of as many groups, or over its top value.
-fn ended(value: u64, least: u64, top: u64, start: usize, next: usize) -> Result<Standing<u64>, Refusal>
+fn ended(
+    value: u64,
+    least: u64,
+    top: u64,
+    start: usize,
+    next: usize,
+) -> Result<Standing<u64>, Refusal>
     ensures { result ≡ reading_of (ended value least top start next) }
 {
     if value < least {

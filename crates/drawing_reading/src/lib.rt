@@ -101,7 +101,10 @@ fn refused(reason: Reason, line: usize) -> Drawn
         parts: 0,
         count: 0,
         sets: [0u16; 12870],
-        verdict: Err(Refusal { reason, place: line }),
+        verdict: Err(Refusal {
+            reason,
+            place: line,
+        }),
     }
 }
 

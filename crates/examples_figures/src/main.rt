@@ -257,7 +257,12 @@ fn importances_of_table(out: Stdout, n: usize, bytes: &[u8]) -> io::Result<()> {
     importances(out, weighed, &counts)
 }
 
-fn vector(out: Stdout, name: &[u8], answer: Result<usize, Refusal>, cells: &[i64]) -> io::Result<()> {
+fn vector(
+    out: Stdout,
+    name: &[u8],
+    answer: Result<usize, Refusal>,
+    cells: &[i64],
+) -> io::Result<()> {
     say(out, name)?;
     match answer {
         Err(refusal) => refused_after(out, refusal)?,

@@ -128,7 +128,12 @@ pub fn to_edition_2(bytes: &[u8], buffer: &mut [u8]) -> Result<usize, Refusal>
 
 // A record of parts that already have numbers, from these and the mark, which is the highest number ever issued, and a list of sets over the
 // positions of the numbers: these numbers, this mark, the minimal sets.
-pub fn entered_record(mark: u64, numbers: &[u64], list: &[u16], buffer: &mut [u8]) -> Result<usize, Refusal>
+pub fn entered_record(
+    mark: u64,
+    numbers: &[u64],
+    list: &[u16],
+    buffer: &mut [u8],
+) -> Result<usize, Refusal>
     ensures { outcome result buffer.new ≡ entered_record mark numbers.now list.now buffer.old }
 {
     let mut sets = [0u16; 12870];
@@ -246,7 +251,12 @@ fn fresh_counts(n: usize, sets: &[u16]) -> [u64; 17]
 }
 
 // Writes the record with this mark, these part numbers and these sets into a lent buffer, or says how many bytes it needs.
-fn write_record(mark: u64, numbers: &[u64], sets: &[u16], buffer: &mut [u8]) -> Result<usize, Refusal>
+fn write_record(
+    mark: u64,
+    numbers: &[u64],
+    sets: &[u16],
+    buffer: &mut [u8],
+) -> Result<usize, Refusal>
     requires numbers_len_bound { length numbers.now ≤ most_parts }
     requires sets_len_bound { length sets.now ≤ most_sets }
     ensures { outcome result buffer.new ≡ delivered (Ok tt) (record_bytes (design (list_of mark numbers.now) sets.now)) buffer.old }

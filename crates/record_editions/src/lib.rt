@@ -217,10 +217,7 @@ fn second_edition(bytes: &[u8], body: WithWords) -> StoredRead
         &counts[..n + 1],
     );
     match tail {
-        Err(refusal) => first_edition(record::refused_with_words(
-            refusal.reason,
-            refusal.place,
-        )),
+        Err(refusal) => first_edition(record::refused_with_words(refusal.reason, refusal.place)),
         Ok(behind) => {
             let whole = Contents {
                 list,

@@ -44,7 +44,12 @@ fn read_parts(bytes: &[u8], start: usize) -> Result<Standing<PartList>, Refusal>
 }
 
 // So many part numbers under a mark, as a part list.
-fn read_part_numbers(bytes: &[u8], start: usize, count: usize, mark: u64) -> Result<Standing<PartList>, Refusal>
+fn read_part_numbers(
+    bytes: &[u8],
+    start: usize,
+    count: usize,
+    mark: u64,
+) -> Result<Standing<PartList>, Refusal>
     requires { count ≤ most_parts }
     ensures { result ≡ reading_of (then (numbers_at bytes.now mark count [] start) (λ numbers end. found (list_of mark numbers) end)) }
 {
@@ -79,7 +84,12 @@ fn read_part_count(bytes: &[u8], start: usize) -> Result<Standing<u64>, Refusal>
 }
 
 // A part number, after the one before it and under the mark.
-fn read_part_number(bytes: &[u8], start: usize, previous: u64, mark: u64) -> Result<Standing<u64>, Refusal>
+fn read_part_number(
+    bytes: &[u8],
+    start: usize,
+    previous: u64,
+    mark: u64,
+) -> Result<Standing<u64>, Refusal>
     ensures { result ≡ reading_of (field_at bytes.now start Field.PartNumber (part_number_refusal mark previous start)) }
 {
     let number = codec::read_number(bytes, start, Field::PartNumber)?;

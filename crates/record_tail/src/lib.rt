@@ -33,7 +33,12 @@ pub fn read_tail(
 }
 
 // A count and that many retired numbers.
-fn read_retired(bytes: &[u8], start: usize, mark: u64, numbers: &[u64]) -> Result<Standing<Retired>, Refusal>
+fn read_retired(
+    bytes: &[u8],
+    start: usize,
+    mark: u64,
+    numbers: &[u64],
+) -> Result<Standing<Retired>, Refusal>
     ensures { result ≡ tail_of (retired_at bytes.now mark numbers.now start) }
 {
     let count = read_retired_count(bytes, start)?;

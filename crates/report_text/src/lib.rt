@@ -24,7 +24,12 @@ pub fn report(bytes: &[u8], table: &mut [u8], text: &mut [u8]) -> Result<usize, 
     let read = record_editions::whole_with_words(bytes);
     let contents = read.contents;
     let size = record::store_table(read, &mut own_table)?;
-    let end = put_table(&mut own_text, contents.list, contents.sets, &own_table[..size]);
+    let end = put_table(
+        &mut own_text,
+        contents.list,
+        contents.sets,
+        &own_table[..size],
+    );
     hand_out_both(&own_table[..size], &own_text[..end], table, text)
 }
 
@@ -52,7 +57,12 @@ fn put_table(text: &mut [u8], list: PartList, sets: usize, table: &[u8]) -> usiz
 }
 
 // A table and a text into two lent buffers.
-fn hand_out_both(own_table: &[u8], own_text: &[u8], table: &mut [u8], text: &mut [u8]) -> Result<usize, Refusal>
+fn hand_out_both(
+    own_table: &[u8],
+    own_text: &[u8],
+    table: &mut [u8],
+    text: &mut [u8],
+) -> Result<usize, Refusal>
     ensures { outcome result (report_buffers table.new text.new) ≡ handed_out own_table.now own_text.now table.old text.old }
 {
     answer::room(own_table.len(), table.len())?;

@@ -18,7 +18,12 @@ const COMMON: [u64; 17] = [
 ];
 
 // The m shares of a group through h(x,z), into a lent buffer.
-pub fn shares_by_reliability(n: usize, table: &[u8], group: usize, shares: &mut [i64]) -> Result<usize, Refusal>
+pub fn shares_by_reliability(
+    n: usize,
+    table: &[u8],
+    group: usize,
+    shares: &mut [i64],
+) -> Result<usize, Refusal>
     ensures { outcome result shares.new ≡ delivered (shares_refusal n table.now group) (shares_by_reliability n (in_table table.now) group) shares.old }
 {
     let m = masks::size(group);

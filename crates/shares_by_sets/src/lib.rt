@@ -16,7 +16,12 @@ use answer::Refusal;
 
 // The m shares of a group, set by set, into a lent buffer.
 #[tactic(auto, using(crate::proofs::Sets::by_sets_length))]
-pub fn shares_by_sets(n: usize, table: &[u8], group: usize, shares: &mut [i64]) -> Result<usize, Refusal>
+pub fn shares_by_sets(
+    n: usize,
+    table: &[u8],
+    group: usize,
+    shares: &mut [i64],
+) -> Result<usize, Refusal>
     ensures { outcome result shares.new ≡ delivered (shares_refusal n table.now group) (shares_by_sets n (in_table table.now) group) shares.old }
 {
     let m = masks::size(group);

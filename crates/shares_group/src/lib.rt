@@ -8,7 +8,13 @@ ghost use Rattle.shares_claim.specs.Refusals.{shares_refusal};
 use answer::Refusal;
 
 // The verdict on a call with a table and a group that needs so many cells for its result and is lent so many.
-pub fn judge(n: usize, table: &[u8], group: usize, needed: usize, lent: usize) -> Result<(), Refusal>
+pub fn judge(
+    n: usize,
+    table: &[u8],
+    group: usize,
+    needed: usize,
+    lent: usize,
+) -> Result<(), Refusal>
     ensures { result ≡ and_then (shares_refusal n table.now group) (room needed lent) }
 {
     group_verdict(n, table, group)?;

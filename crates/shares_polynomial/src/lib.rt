@@ -17,7 +17,12 @@ use answer::Refusal;
 
 // The (m+1)(n-m+1) coefficients of h(x,z), where x stands for the parts in the group, into a lent buffer: that of x^i z^j in cell
 // i × (n-m+1) + j.
-pub fn reliability(n: usize, table: &[u8], group: usize, cells: &mut [i64]) -> Result<usize, Refusal>
+pub fn reliability(
+    n: usize,
+    table: &[u8],
+    group: usize,
+    cells: &mut [i64],
+) -> Result<usize, Refusal>
     ensures { outcome result cells.new ≡ delivered (shares_refusal n table.now group) (reliability_cells n (in_table table.now) group) cells.old }
 {
     let count = cells_needed(n, group);

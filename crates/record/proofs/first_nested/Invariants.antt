@@ -10,4 +10,3 @@ use Rattle.record.proofs.first_nested.Given as goal
 -- Assumes nothing.
 abbrev pub invariant-loop-index : goal.invariant-loop-index
 invariant-loop-index l = (l.index ≤ l.count) × (nested_at l.bytes (in_words l.minimal) (l.count - l.index) l.next ≡ nested_at l.bytes (in_words l.minimal) l.count l.start)
-

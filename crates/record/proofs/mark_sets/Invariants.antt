@@ -10,4 +10,3 @@ use Rattle.record.proofs.mark_sets.Given as goal
 -- Assumes nothing.
 abbrev pub invariant-loop-read : goal.invariant-loop-read
 invariant-loop-read l = MarkWalk l.bytes l.n l.count l.start l.words l.previous l.next l.read
-

@@ -12,4 +12,3 @@ use Rattle.record_numbers.proofs.judge.Given as goal
 -- Assumes nothing.
 abbrev pub invariant-loop-index : goal.invariant-loop-index
 invariant-loop-index l = (l.index ≤ length l.numbers) × (numbers_refusal l.previous l.mark l.index (drop l.index l.numbers) ≡ part_list_refusal (length l.numbers) l.mark l.numbers)
-

@@ -27,16 +27,10 @@ pub fn path_counts_of_blocks(
 ) -> Result<usize, Refusal>
     ensures { outcome result cells.new ≡ delivered (blocks_refusal blocks table.now sizes.now vectors.now) (counts_of_blocks blocks table.now sizes.now vectors.now) cells.old }
 {
-    let judged = blocks_checks::blocks_verdict(blocks, table, sizes, vectors);
-    match judged {
-        Err(refusal) => Err(refusal),
-        Ok(()) => {
-            let parts = vectors.len() - blocks;
-            let counts = whole_counts(table, sizes, vectors, parts);
-            let end = parts + 1;
-            answer::hand_out(&counts[..end], cells)
-        }
-    }
+    blocks_checks::blocks_verdict(blocks, table, sizes, vectors)?;
+    let parts = vectors.len() - blocks;
+    let counts = whole_counts(table, sizes, vectors, parts);
+    answer::hand_out(&counts[..parts + 1], cells)
 }
 
 // The path counts of blocks that are accepted, signed as entries of a vector are; those beyond the parts are 0.

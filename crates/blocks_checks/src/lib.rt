@@ -11,6 +11,7 @@ use answer::{Reason, Refusal};
 use vector_kind::Kind;
 
 // The verdict on a table over blocks, with their sizes and vectors.
+#[tactic(auto, unfolding(crate::specs::Refusals::blocks_refusal))]
 pub fn blocks_verdict(
     blocks: usize,
     table: &[u8],
@@ -19,28 +20,20 @@ pub fn blocks_verdict(
 ) -> Result<(), Refusal>
     ensures { result ≡ blocks_refusal blocks table.now sizes.now vectors.now }
 {
-    let checked = structure::table_verdict(blocks, table);
-    match checked {
-        Err(refusal) => Err(refusal),
-        Ok(()) => {
-            if sizes.len() != blocks {
-                return Err(Reason::WrongVectorLength.at(0));
-            }
-            let sized = sizes_verdict(sizes);
-            match sized {
-                Err(refusal) => Err(refusal),
-                Ok(()) => counts_verdict(sizes, vectors),
-            }
-        }
+    structure::table_verdict(blocks, table)?;
+    if sizes.len() != blocks {
+        return Err(Reason::WrongVectorLength.at(0));
     }
+    sizes_verdict(sizes)?;
+    counts_verdict(sizes, vectors)
 }
 
 // The verdict on the sizes: each 1 to 16.
 fn sizes_verdict(sizes: &[usize]) -> Result<(), Refusal>
     ensures { result ≡ sizes_refusal sizes.now (length sizes.now) }
 {
-    for b in 0..sizes.len() {
-        if !numbers::in_range(sizes[b], 16) {
+    for &size in sizes {
+        if !numbers::in_range(size, 16) {
             return Err(Reason::WrongPartCount.at(0));
         }
     }
@@ -48,6 +41,7 @@ fn sizes_verdict(sizes: &[usize]) -> Result<(), Refusal>
 }
 
 // The verdict on the vectors of blocks whose sizes are right, and on all their parts together.
+#[tactic(auto, using(crate::proofs::Given::start_parts), unfolding(crate::specs::Refusals::block_counts_refusal))]
 fn counts_verdict(sizes: &[usize], vectors: &[i64]) -> Result<(), Refusal>
     requires sizes_len_bound { length sizes.now ≤ 16 }
     requires sizes_value { sizes_refusal sizes.now (length sizes.now) ≡ Ok tt }
@@ -57,16 +51,11 @@ fn counts_verdict(sizes: &[usize], vectors: &[i64]) -> Result<(), Refusal>
     if vectors.len() != parts + sizes.len() {
         return Err(Reason::WrongVectorLength.at(0));
     }
-    let judged = vectors_verdict(sizes, vectors);
-    match judged {
-        Err(refusal) => Err(refusal),
-        Ok(()) => {
-            if 16 < parts {
-                return Err(Reason::ManyParts.at(0));
-            }
-            Ok(())
-        }
+    vectors_verdict(sizes, vectors)?;
+    if 16 < parts {
+        return Err(Reason::ManyParts.at(0));
     }
+    Ok(())
 }
 
 // How many parts the blocks have in all: up to 256.
@@ -84,18 +73,10 @@ fn vectors_verdict(sizes: &[usize], vectors: &[i64]) -> Result<(), Refusal>
     ensures { result ≡ vectors_refusal sizes.now vectors.now (length sizes.now) }
 {
     let mut start: usize = 0;
-    for b in 0..sizes.len() {
-        let size = sizes[b];
+    for &size in sizes {
         let end = start + size + 1;
-        let judged = vector_conversion::judge(Kind::PathCounts, size, &vectors[start..end]);
-        match judged {
-            Err(refusal) => {
-                return Err(refusal);
-            }
-            Ok(()) => {
-                start = end;
-            }
-        }
+        vector_conversion::judge(Kind::PathCounts, size, &vectors[start..end])?;
+        start = end;
     }
     Ok(())
 }

@@ -23,14 +23,9 @@ pub fn joint_signature(
     ensures { outcome result cells.new ≡ delivered (joint_refusal n first.now second.now) (joint_square n (in_table first.now) (in_table second.now)) cells.old }
 {
     let count = cells_needed(n);
-    let judged = judge(n, first, second, count, cells.len());
-    match judged {
-        Err(refusal) => Err(refusal),
-        Ok(()) => {
-            write_square(n, first, second, cells);
-            Ok(count)
-        }
-    }
+    judge(n, first, second, count, cells.len())?;
+    write_square(n, first, second, cells);
+    Ok(count)
 }
 
 // How many cells the square has, where the machines have at most 16 parts; else 0.
@@ -45,22 +40,17 @@ fn cells_needed(n: usize) -> usize
 fn judge(n: usize, first: &[u8], second: &[u8], needed: usize, lent: usize) -> Result<(), Refusal>
     ensures { result ≡ and_then (joint_refusal n first.now second.now) (room needed lent) }
 {
-    let checked = tables_verdict(n, first, second);
-    match checked {
-        Err(refusal) => Err(refusal),
-        Ok(()) => answer::room(needed, lent),
-    }
+    tables_verdict(n, first, second)?;
+    answer::room(needed, lent)
 }
 
 // The verdict on two tables, the first before the second.
+#[tactic(auto, unfolding(crate::specs::Refusals::joint_refusal))]
 fn tables_verdict(n: usize, first: &[u8], second: &[u8]) -> Result<(), Refusal>
     ensures { result ≡ joint_refusal n first.now second.now }
 {
-    let checked = structure::table_verdict(n, first);
-    match checked {
-        Err(refusal) => Err(refusal),
-        Ok(()) => structure::table_verdict(n, second),
-    }
+    structure::table_verdict(n, first)?;
+    structure::table_verdict(n, second)
 }
 
 // Writes the square of two accepted tables.

@@ -22,13 +22,8 @@ pub fn shares_by_both_routes(
 {
     let m = masks::size(group);
     let room = first.len().min(second.len());
-    let judged = shares_group::judge(n, table, group, m, room);
-    match judged {
-        Err(refusal) => Err(refusal),
-        Ok(()) => {
-            let _ = shares_by_sets::shares_by_sets(n, table, group, first);
-            let _ = shares_by_polynomial::shares_by_reliability(n, table, group, second);
-            Ok(m)
-        }
-    }
+    shares_group::judge(n, table, group, m, room)?;
+    let _ = shares_by_sets::shares_by_sets(n, table, group, first);
+    let _ = shares_by_polynomial::shares_by_reliability(n, table, group, second);
+    Ok(m)
 }

@@ -11,7 +11,6 @@ use lib.Seq.{length-take-le}
 use Rattle.std.specs.Prelude.{Ok}
 use Rattle.numbers.proofs.Tables.{tabulate_length}
 use Rattle.answer.specs.Outcome.{delivered, Verdict}
-use Rattle.answer.proofs.Deliveries.{refused_kept}
 use Rattle.theory_blocks.specs.Blocks.{parts_in}
 use Rattle.blocks_checks.specs.Given.{size_at}
 use Rattle.blocks_checks.specs.Accepted.{AcceptedBlocks}
@@ -25,10 +24,10 @@ use Rattle.blocks.proofs.path_counts_of_blocks.Goals as goal
 pub overflow_sub-parts : goal.overflow_sub-parts
 overflow_sub-parts c =
     -- what the blocks were judged to be
-    let said : let a = c.args in blocks_refusal a.blocks a.table.now a.sizes.now a.vectors.now ≡ c.blocks_verdict-judged.result =
-    sym c.blocks_verdict-judged.ensures in
+    let said : let a = c.args in blocks_refusal a.blocks a.table.now a.sizes.now a.vectors.now ≡ c.blocks_verdict.result =
+    sym c.blocks_verdict.ensures in
     let passed : let a = c.args in blocks_refusal a.blocks a.table.now a.sizes.now a.vectors.now ≡ Ok tt =
-    said ∙ c.in-Ok.is in
+    said ∙ c.in_ok-blocks_verdict.was in
     let accepted : let a = c.args in AcceptedBlocks a.blocks a.table.now a.sizes.now a.vectors.now =
     let a = c.args in blocks_accepted a.blocks a.table.now a.sizes.now a.vectors.now passed in
     -- each vector has one entry more than its block has parts
@@ -39,10 +38,10 @@ overflow_sub-parts c =
 pub whole_counts-counts-requires : goal.whole_counts-counts-requires
 whole_counts-counts-requires c =
     -- what the blocks were judged to be
-    let said : let a = c.args in blocks_refusal a.blocks a.table.now a.sizes.now a.vectors.now ≡ c.blocks_verdict-judged.result =
-    sym c.blocks_verdict-judged.ensures in
+    let said : let a = c.args in blocks_refusal a.blocks a.table.now a.sizes.now a.vectors.now ≡ c.blocks_verdict.result =
+    sym c.blocks_verdict.ensures in
     let passed : let a = c.args in blocks_refusal a.blocks a.table.now a.sizes.now a.vectors.now ≡ Ok tt =
-    said ∙ c.in-Ok.is in
+    said ∙ c.in_ok-blocks_verdict.was in
     let accepted : let a = c.args in AcceptedBlocks a.blocks a.table.now a.sizes.now a.vectors.now =
     let a = c.args in blocks_accepted a.blocks a.table.now a.sizes.now a.vectors.now passed in
     -- each vector has one entry more than its block has parts
@@ -59,10 +58,10 @@ whole_counts-counts-requires c =
 pub slice_bounds-counts-end : goal.slice_bounds-counts-end
 slice_bounds-counts-end c =
     -- what the blocks were judged to be
-    let said : let a = c.args in blocks_refusal a.blocks a.table.now a.sizes.now a.vectors.now ≡ c.blocks_verdict-judged.result =
-    sym c.blocks_verdict-judged.ensures in
+    let said : let a = c.args in blocks_refusal a.blocks a.table.now a.sizes.now a.vectors.now ≡ c.blocks_verdict.result =
+    sym c.blocks_verdict.ensures in
     let passed : let a = c.args in blocks_refusal a.blocks a.table.now a.sizes.now a.vectors.now ≡ Ok tt =
-    said ∙ c.in-Ok.is in
+    said ∙ c.in_ok-blocks_verdict.was in
     let accepted : let a = c.args in AcceptedBlocks a.blocks a.table.now a.sizes.now a.vectors.now =
     let a = c.args in blocks_accepted a.blocks a.table.now a.sizes.now a.vectors.now passed in
     -- each vector has one entry more than its block has parts
@@ -75,10 +74,10 @@ slice_bounds-counts-end c =
 pub slice_bounds-hand_out-end : goal.slice_bounds-hand_out-end
 slice_bounds-hand_out-end c =
     -- what the blocks were judged to be
-    let said : let a = c.args in blocks_refusal a.blocks a.table.now a.sizes.now a.vectors.now ≡ c.blocks_verdict-judged.result =
-    sym c.blocks_verdict-judged.ensures in
+    let said : let a = c.args in blocks_refusal a.blocks a.table.now a.sizes.now a.vectors.now ≡ c.blocks_verdict.result =
+    sym c.blocks_verdict.ensures in
     let passed : let a = c.args in blocks_refusal a.blocks a.table.now a.sizes.now a.vectors.now ≡ Ok tt =
-    said ∙ c.in-Ok.is in
+    said ∙ c.in_ok-blocks_verdict.was in
     let accepted : let a = c.args in AcceptedBlocks a.blocks a.table.now a.sizes.now a.vectors.now =
     let a = c.args in blocks_accepted a.blocks a.table.now a.sizes.now a.vectors.now passed in
     -- each vector has one entry more than its block has parts
@@ -88,21 +87,13 @@ slice_bounds-hand_out-end c =
     omega (arith, entries, accepted.few) in
     sym (length-take-le _ c.whole_counts-counts.result (le_trans few (le_of_eq (sym (ap length c.whole_counts-counts.ensures ∙ tabulate_length 17 _)))))
 
-pub returns-in-Err : goal.returns-in-Err
-returns-in-Err c =
+pub returns : goal.returns
+returns c =
     -- what the blocks were judged to be
-    let said : let a = c.args in blocks_refusal a.blocks a.table.now a.sizes.now a.vectors.now ≡ c.blocks_verdict-judged.result =
-    sym c.blocks_verdict-judged.ensures in
-    let a = c.args in
-    refused_kept _ (counts_of_blocks a.blocks a.table.now a.sizes.now a.vectors.now) a.cells.now _ (said ∙ c.in-Err.is)
-
-pub returns-in-Ok : goal.returns-in-Ok
-returns-in-Ok c =
-    -- what the blocks were judged to be
-    let said : let a = c.args in blocks_refusal a.blocks a.table.now a.sizes.now a.vectors.now ≡ c.blocks_verdict-judged.result =
-    sym c.blocks_verdict-judged.ensures in
+    let said : let a = c.args in blocks_refusal a.blocks a.table.now a.sizes.now a.vectors.now ≡ c.blocks_verdict.result =
+    sym c.blocks_verdict.ensures in
     let passed : let a = c.args in blocks_refusal a.blocks a.table.now a.sizes.now a.vectors.now ≡ Ok tt =
-    said ∙ c.in-Ok.is in
+    said ∙ c.in_ok-blocks_verdict.was in
     let accepted : let a = c.args in AcceptedBlocks a.blocks a.table.now a.sizes.now a.vectors.now =
     let a = c.args in blocks_accepted a.blocks a.table.now a.sizes.now a.vectors.now passed in
     -- each vector has one entry more than its block has parts

@@ -12,28 +12,26 @@ use Rattle.blocks_checks.specs.Refusals.{first_refusal, sizes_refusal}
 use Rattle.blocks_checks.proofs.Given.{sizes_refused}
 use Rattle.blocks_checks.proofs.sizes_verdict.Goals as goal
 
-pub loop-b-init : goal.loop-b-init
+pub loop-size-init : goal.loop-size-init
 unfolding first_refusal
-loop-b-init c =
-    (omega arith, refl)
+loop-size-init c =
+    refl
 
 pub returns-then-not-in_range : goal.returns-then-not-in_range
 returns-then-not-in_range c =
     let sizes = c.args.sizes.now in
     let wrong = ap not (sym c.in_range.ensures ∙ c.if-not-in_range.true) in
-    (ap Err c.at.ensures) ∙ sym (sizes_refused sizes c.loop-b.b c.loop-b.invariant.1 wrong (length sizes) c.loop-b-test.true)
+    (ap Err c.at.ensures) ∙ sym (sizes_refused sizes c.loop-size.size-index c.loop-size.invariant wrong (length sizes) c.loop-size-test.true)
 
-pub loop-b-preserved : goal.loop-b-preserved
+pub loop-size-preserved : goal.loop-size-preserved
 unfolding first_refusal
-loop-b-preserved c =
-    let right = ap not (sym c.in_range.ensures ∙ c.if-not-in_range.false) in (
-      omega arith,
-      ap (sizes_refusal c.args.sizes.now) (add-one c.loop-b.b) ∙ then_passed _ c.loop-b.invariant.1
-          ∙ refuse_passed _ WrongPartCount 0 (Ok tt) right,
-    )
+loop-size-preserved c =
+    let right = ap not (sym c.in_range.ensures ∙ c.if-not-in_range.false) in
+    ap (sizes_refusal c.args.sizes.now) (add-one c.loop-size.size-index) ∙ then_passed _ c.loop-size.invariant
+    ∙ refuse_passed _ WrongPartCount 0 (Ok tt) right
 
 pub returns : goal.returns
 returns c =
     let sizes = c.args.sizes.now in
-    let all : c.loop-b.b ≡ length sizes = omega arith in
-    sym c.loop-b.invariant.1 ∙ ap (sizes_refusal sizes) all
+    let all : c.loop-size.size-index ≡ length sizes = omega arith in
+    sym c.loop-size.invariant ∙ ap (sizes_refusal sizes) all

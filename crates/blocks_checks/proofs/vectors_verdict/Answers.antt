@@ -2,7 +2,6 @@
 -- next one starts where it ends.
 -- Assumes nothing.
 use mathlib.Core.Path.{◌≡◌, refl, sym, ap, ◌∙◌}
-use Prim.Native.Nat.{◌+◌, ◌≤◌}
 use native.Mathlib.Numerals.{add-one}
 use native.Mathlib.Omega.{arith}
 use lib.ListN.{length}
@@ -15,75 +14,51 @@ use Rattle.blocks_checks.specs.Refusals.{first_refusal, block_refusal, vectors_r
 use Rattle.blocks_checks.proofs.Given.{start_next, start_inside, part_vector, vectors_refused}
 use Rattle.blocks_checks.proofs.vectors_verdict.Goals as goal
 
-pub loop-b-init : goal.loop-b-init
+pub loop-size-init : goal.loop-size-init
 unfolding first_refusal start_of sum_below
-loop-b-init c =
-    (omega arith, (refl, refl))
+loop-size-init c =
+    (refl, refl)
 
+-- the block's vector ends in the list
 pub overflow_add-end : goal.overflow_add-end
-overflow_add-end c =
-    -- the block's vector ends in the list
-    let inside : c.loop-b.start + size_at c.args.sizes.now c.loop-b.b + 1 ≤ length c.args.vectors.now =
-    let sizes = c.args.sizes.now in
-    omega (arith, start_inside sizes c.loop-b.b (length sizes) c.loop-b-test.true, c.loop-b.invariant.1.0, c.requires) in
-    omega (arith, inside)
+overflow_add-end c = omega (arith, start_inside c.args.sizes.now c.loop-size.size-index (length c.args.sizes.now) c.loop-size-test.true, c.loop-size.invariant.0, c.requires)
 
-pub overflow_add-end-in-loop-b : goal.overflow_add-end-in-loop-b
-overflow_add-end-in-loop-b c =
-    -- the block's vector ends in the list
-    let inside : c.loop-b.start + size_at c.args.sizes.now c.loop-b.b + 1 ≤ length c.args.vectors.now =
-    let sizes = c.args.sizes.now in
-    omega (arith, start_inside sizes c.loop-b.b (length sizes) c.loop-b-test.true, c.loop-b.invariant.1.0, c.requires) in
-    omega (arith, inside)
+pub overflow_add-end-in-loop-size : goal.overflow_add-end-in-loop-size
+overflow_add-end-in-loop-size c = omega (arith, start_inside c.args.sizes.now c.loop-size.size-index (length c.args.sizes.now) c.loop-size-test.true, c.loop-size.invariant.0, c.requires)
 
 pub offset_bounds-vectors-start : goal.offset_bounds-vectors-start
-offset_bounds-vectors-start c =
-    -- the block's vector ends in the list
-    let inside : c.loop-b.start + size_at c.args.sizes.now c.loop-b.b + 1 ≤ length c.args.vectors.now =
-    let sizes = c.args.sizes.now in
-    omega (arith, start_inside sizes c.loop-b.b (length sizes) c.loop-b-test.true, c.loop-b.invariant.1.0, c.requires) in
-    omega (arith, inside)
+offset_bounds-vectors-start c = omega (arith, start_inside c.args.sizes.now c.loop-size.size-index (length c.args.sizes.now) c.loop-size-test.true, c.loop-size.invariant.0, c.requires)
 
 pub slice_bounds-judge-end : goal.slice_bounds-judge-end
-slice_bounds-judge-end c =
-    -- the block's vector ends in the list
-    let inside : c.loop-b.start + size_at c.args.sizes.now c.loop-b.b + 1 ≤ length c.args.vectors.now =
-    let sizes = c.args.sizes.now in
-    omega (arith, start_inside sizes c.loop-b.b (length sizes) c.loop-b-test.true, c.loop-b.invariant.1.0, c.requires) in
-    omega (arith, inside)
+slice_bounds-judge-end c = omega (arith, start_inside c.args.sizes.now c.loop-size.size-index (length c.args.sizes.now) c.loop-size-test.true, c.loop-size.invariant.0, c.requires)
 
-pub returns-in-Err : goal.returns-in-Err
-returns-in-Err c =
-    -- what the block's vector was judged to be
-    let judged_is : let sizes = c.args.sizes.now in block_refusal sizes c.args.vectors.now c.loop-b.b ≡ c.judge-judged.result =
+pub returns-in_err-judge : goal.returns-in_err-judge
+returns-in_err-judge c =
     let a = c.args in
-    let b = c.loop-b.b in
-    ap (vector_refusal PathCounts (size_at a.sizes.now b)) (sym (part_vector a.sizes.now a.vectors.now b c.loop-b.start c.loop-b.invariant.1.0))
-    ∙ sym c.judge-judged.ensures in
-    let sizes = c.args.sizes.now in
-    sym (vectors_refused sizes c.args.vectors.now c.loop-b.b c.loop-b.invariant.1.1 (judged_is ∙ c.in-Err.is)
-    (length sizes) c.loop-b-test.true)
+    let b = c.loop-size.size-index in
+    -- what the block's vector was judged to be
+    let judged_is : block_refusal a.sizes.now a.vectors.now b ≡ c.judge.result =
+    ap (vector_refusal PathCounts (size_at a.sizes.now b)) (sym (part_vector a.sizes.now a.vectors.now b c.loop-size.start c.loop-size.invariant.0)) ∙ sym c.judge.ensures in
+    let first = vectors_refused a.sizes.now a.vectors.now b c.loop-size.invariant.1 (judged_is ∙ c.in_err-judge.was) (length a.sizes.now) c.loop-size-test.true in
+    grind (arith, first)
 
-pub loop-b-preserved : goal.loop-b-preserved
+pub loop-size-preserved : goal.loop-size-preserved
 unfolding first_refusal
-loop-b-preserved c =
+loop-size-preserved c =
     -- what the block's vector was judged to be
-    let judged_is : let sizes = c.args.sizes.now in block_refusal sizes c.args.vectors.now c.loop-b.b ≡ c.judge-judged.result =
+    let judged_is : let sizes = c.args.sizes.now in block_refusal sizes c.args.vectors.now c.loop-size.size-index ≡ c.judge.result =
     let a = c.args in
-    let b = c.loop-b.b in
-    ap (vector_refusal PathCounts (size_at a.sizes.now b)) (sym (part_vector a.sizes.now a.vectors.now b c.loop-b.start c.loop-b.invariant.1.0))
-    ∙ sym c.judge-judged.ensures in
+    let b = c.loop-size.size-index in
+    ap (vector_refusal PathCounts (size_at a.sizes.now b)) (sym (part_vector a.sizes.now a.vectors.now b c.loop-size.start c.loop-size.invariant.0))
+    ∙ sym c.judge.ensures in
     let a = c.args in
-    let b = c.loop-b.b in (
-      omega arith,
-      (
-        omega (arith, c.loop-b.invariant.1.0, start_next a.sizes.now b),
-        ap (vectors_refusal a.sizes.now a.vectors.now) (add-one b) ∙ then_passed _ c.loop-b.invariant.1.1 ∙ judged_is ∙ c.in-Ok.is,
-      ),
+    let b = c.loop-size.size-index in (
+      omega (arith, c.loop-size.invariant.0, start_next a.sizes.now b),
+      ap (vectors_refusal a.sizes.now a.vectors.now) (add-one b) ∙ then_passed _ c.loop-size.invariant.1 ∙ judged_is ∙ c.in_ok-judge.was,
     )
 
 pub returns : goal.returns
 returns c =
     let a = c.args in
-    let all : c.loop-b.b ≡ length a.sizes.now = omega arith in
-    sym c.loop-b.invariant.1.1 ∙ ap (vectors_refusal a.sizes.now a.vectors.now) all
+    let all : c.loop-size.size-index ≡ length a.sizes.now = omega arith in
+    sym c.loop-size.invariant.1 ∙ ap (vectors_refusal a.sizes.now a.vectors.now) all

@@ -3,6 +3,7 @@
 use mathlib.Core.Path.{◌≡◌, sym, ap, ◌∙◌, subst}
 use mathlib.Core.List.{◌++◌}
 use Prim.Native.Nat.{ℕ, ◌*◌, ◌≤◌}
+use native.Mathlib.Omega.{arith}
 use lib.ListN.{length, drop}
 use Rattle.std.specs.Prelude.{Ok}
 use Rattle.answer.specs.Outcome.{and_then, room}
@@ -21,7 +22,7 @@ write_square-requires c =
     c.cells_needed-count.ensures (tables_accepted a.n a.first.now a.second.now accepted).0.few in
     -- nothing is refused, and there is room
     let passed : and_then (joint_refusal c.args.n c.args.first.now c.args.second.now) (room c.cells_needed-count.result (length c.args.cells.now)) ≡ Ok tt =
-    sym c.judge-judged.ensures ∙ c.in-Ok.is in
+    sym c.judge.ensures ∙ c.in_ok-judge.was in
     let a = c.args in
     let both = then_accepted (joint_refusal a.n a.first.now a.second.now) _ passed in
     record {
@@ -29,20 +30,18 @@ write_square-requires c =
       n_in_bounds = subst (λ (x : ℕ). x ≤ length a.cells.now) (count both.0) (room_accepted c.cells_needed-count.result (length a.cells.now) both.1);
     }
 
-pub returns-in-Err : goal.returns-in-Err
-returns-in-Err c =
-    let count : (accepted : joint_refusal c.args.n c.args.first.now c.args.second.now ≡ Ok tt) → c.cells_needed-count.result ≡ c.args.n * c.args.n =
-    λ accepted. let a = c.args in
-    c.cells_needed-count.ensures (tables_accepted a.n a.first.now a.second.now accepted).0.few in
-    let long : (accepted : joint_refusal c.args.n c.args.first.now c.args.second.now ≡ Ok tt) → c.cells_needed-count.result ≡ length (joint_square c.args.n (in_table c.args.first.now) (in_table c.args.second.now)) =
-    λ accepted. let a = c.args in
-    (count accepted) ∙ sym (square_length a.n (in_table a.first.now) (in_table a.second.now)) in
+pub returns-in_err-judge : goal.returns-in_err-judge
+returns-in_err-judge c =
     let a = c.args in
-    checked_refused (joint_refusal a.n a.first.now a.second.now) (joint_square a.n (in_table a.first.now) (in_table a.second.now)) a.cells.now
-    c.cells_needed-count.result long (sym c.judge-judged.ensures ∙ c.in-Err.is)
+    let long : joint_refusal a.n a.first.now a.second.now ≡ Ok tt → c.cells_needed-count.result ≡ length (joint_square a.n (in_table a.first.now) (in_table a.second.now)) =
+    λ (accepted : joint_refusal a.n a.first.now a.second.now ≡ Ok tt).
+    c.cells_needed-count.ensures (tables_accepted a.n a.first.now a.second.now accepted).0.few ∙ sym (square_length a.n (in_table a.first.now) (in_table a.second.now)) in
+    let kept = checked_refused (joint_refusal a.n a.first.now a.second.now) (joint_square a.n (in_table a.first.now) (in_table a.second.now)) a.cells.now
+    c.cells_needed-count.result long (sym c.judge.ensures ∙ c.in_err-judge.was) in
+    grind (arith, kept)
 
-pub returns-in-Ok : goal.returns-in-Ok
-returns-in-Ok c =
+pub returns : goal.returns
+returns c =
     let count : (accepted : joint_refusal c.args.n c.args.first.now c.args.second.now ≡ Ok tt) → c.cells_needed-count.result ≡ c.args.n * c.args.n =
     λ accepted. let a = c.args in
     c.cells_needed-count.ensures (tables_accepted a.n a.first.now a.second.now accepted).0.few in
@@ -51,7 +50,7 @@ returns-in-Ok c =
     (count accepted) ∙ sym (square_length a.n (in_table a.first.now) (in_table a.second.now)) in
     -- nothing is refused, and there is room
     let passed : and_then (joint_refusal c.args.n c.args.first.now c.args.second.now) (room c.cells_needed-count.result (length c.args.cells.now)) ≡ Ok tt =
-    sym c.judge-judged.ensures ∙ c.in-Ok.is in
+    sym c.judge.ensures ∙ c.in_ok-judge.was in
     let a = c.args in
     let refusal = joint_refusal a.n a.first.now a.second.now in
     let result = joint_square a.n (in_table a.first.now) (in_table a.second.now) in

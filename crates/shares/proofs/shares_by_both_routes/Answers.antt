@@ -17,19 +17,17 @@ use Rattle.shares_claim.proofs.Claim.{counts_length, given_counts, shares_are_co
 use Rattle.shares.proofs.TwoBuffers.{route_written, both_unwritten, both_written}
 use Rattle.shares.proofs.shares_by_both_routes.Goals as goal
 
-pub returns-in-Err : goal.returns-in-Err
-returns-in-Err c =
-    -- the cells needed are the counts
-    let long : c.size-m.result ≡ length (group_counts c.args.n (in_table c.args.table.now) c.args.group) =
+pub returns-in_err-judge : goal.returns-in_err-judge
+returns-in_err-judge c =
     let a = c.args in
-    c.size-m.ensures ∙ sym (counts_length a.n (in_table a.table.now) a.group) in
-    let a = c.args in
-    both_unwritten (shares_refusal a.n a.table.now a.group) (group_counts a.n (in_table a.table.now) a.group) c.size-m.result long
+    let kept = both_unwritten (shares_refusal a.n a.table.now a.group) (group_counts a.n (in_table a.table.now) a.group) c.size-m.result
+    (c.size-m.ensures ∙ sym (counts_length a.n (in_table a.table.now) a.group))
     a.first.now a.second.now c.min-room.result c.min-room.ensures
-    (sym c.judge-judged.ensures ∙ c.in-Err.is)
+    (sym c.judge.ensures ∙ c.in_err-judge.was) in
+    grind (arith, kept)
 
-pub returns-in-Ok : goal.returns-in-Ok
-returns-in-Ok c =
+pub returns : goal.returns
+returns c =
     -- the cells needed are the counts
     let long : c.size-m.result ≡ length (group_counts c.args.n (in_table c.args.table.now) c.args.group) =
     let a = c.args in
@@ -40,7 +38,7 @@ returns-in-Ok c =
     let result = group_counts a.n works a.group in
     let needed = c.size-m.result in
     let lent = c.min-room.result in
-    let passed : and_then refusal (room needed lent) ≡ Ok tt = sym c.judge-judged.ensures ∙ c.in-Ok.is in
+    let passed : and_then refusal (room needed lent) ≡ Ok tt = sym c.judge.ensures ∙ c.in_ok-judge.was in
     let checked = then_accepted refusal (room needed lent) passed in
     let fits : needed ≤ lent = room_accepted needed lent checked.1 in
     let first_fits : needed ≤ length a.first.now = omega (arith, c.min-room.ensures) in

@@ -7,7 +7,7 @@ use lib.ListN.{length, drop}
 use Rattle.std.specs.Prelude.{Ok}
 use Rattle.answer.specs.Outcome.{and_then, room}
 use Rattle.answer.proofs.Outcomes.{then_accepted, room_accepted}
-use Rattle.answer.proofs.Deliveries.{checked_refused, checked_whole}
+use Rattle.answer.proofs.Deliveries.{checked_whole}
 use Rattle.theory_sets.specs.Tables.{in_table}
 use Rattle.shares_claim.specs.SetBySet.{shares_by_sets}
 use Rattle.shares_claim.specs.Refusals.{shares_refusal}

@@ -14,8 +14,7 @@ use Rattle.answer.specs.Placed.{placed}
 use Rattle.answer.proofs.Forms.{first_fits, placed_next, placed_length, placed_more, wrote_none}
 use Rattle.theory_sets.specs.Masks.{has}
 use Rattle.drawing_text.specs.Lines.{line_feed}
-use Rattle.drawing_text.specs.Forms.{space, set_word, spaced, line_of, set_lines}
-use Rattle.text.specs.Texts.{decimal}
+use Rattle.drawing_text.specs.Forms.{set_word, spaced, line_of, set_lines}
 use Rattle.drawing_text.specs.Sets.{positions_of}
 use Rattle.drawing_text.specs.Writing.{lines_of_sets}
 use Rattle.drawing_text.proofs.Lengths.{spaced_append, positions_below, positions_none, positions_all, positions_next, positions_part, set_lines_next, set_lines_part}
@@ -31,16 +30,6 @@ room_behind buffer start form more both entry position wrote =
       placed_next buffer start form fits entry position wrote,
       placed_length buffer start form fits entry position wrote,
     )
-
--- ---- a number
-
-pub number_put : (number : ℕ) (text : List ℕ) (start : ℕ) → start + length (spaced (number ∷ [])) ≤ length text
-    → (entry : List ℕ) (here : ℕ) → outcome here entry ≡ placed text start (space ∷ [])
-    → (exit : List ℕ) (next : ℕ) → outcome next exit ≡ placed entry here (decimal number) → outcome next exit ≡ placed text start (spaced (number ∷ []))
-unfolding spaced
-number_put number text start room entry here first exit next second =
-    let one : space ∷ (decimal number ++ []) ≡ space ∷ decimal number = ap (λ (l : List ℕ). space ∷ l) (append-nil (decimal number)) in
-    placed_more text start (space ∷ []) entry here (decimal number) exit next (omega (arith, ap length one)) first second ∙ ap (placed text start) (sym one)
 
 -- ---- the positions of a set
 
@@ -69,9 +58,6 @@ module _ (set : ℕ) (text : List ℕ) (start : ℕ) (room : start + length (spa
         omega (arith, ap length one_more, positions_part set (position + 1) (17 - (position + 1)), ap (λ (l : List ℕ). length (spaced l)) all)
 
     module _ (entry : List ℕ) (here : ℕ) (before : outcome here entry ≡ placed text start (spaced (positions_below set position))) where
-      pub position_room : here + length (spaced (position ∷ [])) ≤ length entry
-      position_room = room_behind text start (spaced (positions_below set position)) (spaced (position ∷ [])) both_fit entry here before
-
       pub position_put : (exit : List ℕ) (next : ℕ) → outcome next exit ≡ placed entry here (spaced (position ∷ []))
           → outcome next exit ≡ placed text start (spaced (positions_below set (position + 1)))
       position_put exit next wrote =

@@ -2,7 +2,7 @@
 // is room for all of it.
 #![tactic(auto)]
 
-ghost use Rattle.std.specs.Prelude.{◌≡◌, [], ◌∷◌, ◌+◌, ◌≤◌, length};
+ghost use Rattle.std.specs.Prelude.{◌≡◌, [], ◌∷◌, ◌+◌, ◌≤◌, ◌<◌, length};
 ghost use Rattle.answer.specs.Outcome.{outcome, delivered};
 ghost use Rattle.answer.specs.Placed.{placed};
 ghost use Rattle.theory_orders.specs.Antichains.{most_sets};
@@ -114,13 +114,17 @@ fn put_positions(text: &mut [u8], at: usize, set: u16) -> usize
     next
 }
 
-// Puts a number in decimal behind a space.
+// Puts a number of one digit, or of two of which the first is 1, behind a space.
+#[tactic(auto, using(drawing_text::proofs::Lengths::spaced_digit, drawing_text::proofs::Lengths::spaced_ten))]
 fn put_number(text: &mut [u8], at: usize, number: usize) -> usize
-    requires { at + length (spaced (number ∷ [])) ≤ length text.old }
+    requires { number < 20 }
     ensures { outcome result text.new ≡ placed text.old at (spaced (number ∷ [])) }
 {
-    let digits = text::put(text, at, b" ");
-    text::put_decimal(text, digits, number as u64)
+    if number < 10 {
+        text::put(text, at, &[b' ', b'0' + number as u8])
+    } else {
+        text::put(text, at, &[b' ', b'1', b'0' + (number - 10) as u8])
+    }
 }
 
 // Puts the line feed that ends a line.

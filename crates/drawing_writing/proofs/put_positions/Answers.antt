@@ -11,18 +11,12 @@ use Rattle.answer.specs.Placed.{placed}
 use Rattle.theory_sets.specs.Masks.{has}
 use Rattle.drawing_text.specs.Forms.{spaced}
 use Rattle.drawing_text.proofs.Lengths.{positions_below, positions_all}
-use Rattle.drawing_writing.proofs.Writing.{positions_before, position_room, position_put, position_absent}
+use Rattle.drawing_writing.proofs.Writing.{positions_before, position_put, position_absent}
 use Rattle.drawing_writing.proofs.put_positions.Goals.{then-set-position-eq1, else-set-position-eq1}
 use Rattle.drawing_writing.proofs.put_positions.Goals as goal
 
 pub loop-position-init : goal.loop-position-init
 loop-position-init c = positions_before c.args.set c.args.text.now c.args.at c.requires
-
-pub put_number-next-requires : goal.put_number-next-requires
-unfolding has
-put_number-next-requires c =
-    let a = c.args in
-    position_room a.set a.text.now a.at c.requires c.loop-position.position (omega arith) c.loop-position-test.true (eq-eqb _ 1 c.if-set-position-eq1.true) _ _ c.loop-position.invariant
 
 pub loop-position-preserved : goal.loop-position-preserved
 unfolding has

@@ -55,7 +55,7 @@ fn number(digits: &str) -> usize {
     digits.parse().expect("a decimal number")
 }
 
-/// A name as the header has it: `wrong_part_count` and `PathCounts` become NAHOKIPE_WRONG_PART_COUNT and NAHOKIPE_PATH_COUNTS, and
+/// A name as the header has it: `WrongPartCount` and `PathCounts` become NAHOKIPE_WRONG_PART_COUNT and NAHOKIPE_PATH_COUNTS, and
 /// LONGEST_RECORD becomes NAHOKIPE_LONGEST_RECORD.
 fn constant_name(name: &str) -> String {
     let mut words = String::new();
@@ -78,11 +78,11 @@ fn equations(path: &str, front: &str) -> Constants {
     constants(lines)
 }
 
-/// The refusals of the specification: as many as are declared there.
+/// The refusals of the specification: as many as have a number there.
 fn refusals() -> Constants {
     const PATH: &str = "crates/answer/specs/Refusals.antt";
-    let refusals = equations(PATH, "");
-    assert_eq!(refusals.len(), text(PATH).matches("\nabbrev pub ").count());
+    let refusals = equations(PATH, "number_of ");
+    assert_eq!(refusals.len(), text(PATH).matches("\nnumber_of ").count());
     refusals
 }
 

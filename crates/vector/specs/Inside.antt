@@ -1,4 +1,4 @@
--- What the private function does: a reader of the promises may pass this file over.
+-- How many cells of a vector are looked at.
 use Rattle.std.specs.Prelude.{cond, ℕ, ltb}
 use Rattle.vector.specs.InStruct.{most_entries}
 

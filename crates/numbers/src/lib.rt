@@ -58,7 +58,7 @@ pub fn power_of_two(n: usize) -> usize
 pub fn at_most_16(number: usize) -> usize
     ensures { result ≡ min number 16 }
 {
-    number.min(16)
+    if number < 16 { number } else { 16 }
 }
 
 // Whether a number is 1 to `limit`.

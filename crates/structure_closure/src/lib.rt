@@ -17,7 +17,7 @@ pub fn spread(words: &[u64], parts: usize) -> [u64; 1024]
     ensures { result ≡ words_of (spread_set (min parts 16) (in_words words.now)) }
 {
     let mut next = copied(words);
-    for part in 0..parts.min(16) {
+    for part in 0..numbers::at_most_16(parts) {
         next = spread_over(&next, part);
     }
     next
@@ -55,7 +55,7 @@ pub fn idle_parts(words: &[u64], parts: usize) -> usize
     ensures { result ≡ packed (min parts 16) (idle_part 16 (in_words words.now)) }
 {
     let mut mask = 0;
-    for part in 0..parts.min(16) {
+    for part in 0..numbers::at_most_16(parts) {
         if idle(words, part) {
             mask |= 1 << part;
         }
@@ -100,7 +100,12 @@ fn idle(words: &[u64], part: usize) -> bool
     requires { part < 16 }
     ensures { result ≡ idle_part 16 (in_words words.now) part }
 {
-    (0..1024).all(|at| with(words, at, part) == numbers::cell(words, at))
+    for at in 0..1024 {
+        if with(words, at, part) != numbers::cell(words, at) {
+            return false;
+        }
+    }
+    true
 }
 
 // Word `at` of the sets that work, or have the part and work without it.
@@ -133,7 +138,7 @@ fn spare(words: &[u64], at: usize, parts: usize) -> u64
     ensures { result ≡ word_of (spare_set (min parts 16) (in_words words.now)) at }
 {
     let mut some = 0;
-    for part in 0..parts.min(16) {
+    for part in 0..numbers::at_most_16(parts) {
         some |= without(words, at, part);
     }
     some
@@ -145,7 +150,7 @@ fn failing_above(words: &[u64], at: usize, parts: usize) -> u64
     ensures { result ≡ word_of (failing_above_set (min parts 16) (in_words words.now)) at }
 {
     let mut some = 0;
-    for part in 0..parts.min(16) {
+    for part in 0..numbers::at_most_16(parts) {
         some |= !with(words, at, part);
     }
     some

@@ -1,13 +1,31 @@
--- `structure_closure::idle` meets its contract: the words with the part are compared one by one with those of the sets that work.
-use Rattle.std.proofs.Common.{refl, rules, tests}
-use Rattle.std.proofs.lemmas.Iterator.{cases_from_all, YieldsList-from_range}
-use Rattle.structure_closure.proofs.Unchanged.{Same, idle_decided}
+-- `structure_closure::idle` meets its contract: the words with the part are compared one by one, and the first that is another is enough.
+-- Assumes nothing.
+use native.Mathlib.Omega.{arith}
+use Rattle.structure_words.specs.Words.{in_words}
+use Rattle.structure_words.proofs.Words.{word_is}
+use Rattle.structure_closure.proofs.Unchanged.{unchanged_none, unchanged_more, changed_word, unchanged_all}
 use Rattle.structure_closure.proofs.idle.Goals as goal
+
+pub loop-at-init : goal.loop-at-init
+loop-at-init c = (omega arith, unchanged_none c.args.part (in_words c.args.words.now))
+
+pub returns-then-with-cell : goal.returns-then-with-cell
+returns-then-with-cell c =
+    let a = c.args in
+    changed_word a.part (in_words a.words.now) c.loop-at.at c.with.result c.cell.result c.with.ensures
+    (word_is a.words.now c.loop-at.at c.cell.result c.cell.ensures (omega (arith, c.cell.type_inv)))
+    c.loop-at-test.true c.if-with-cell.true
+
+pub loop-at-preserved : goal.loop-at-preserved
+loop-at-preserved c =
+    let a = c.args in (
+      omega arith,
+      unchanged_more a.part (in_words a.words.now) c.loop-at.at c.with.result c.cell.result c.with.ensures
+          (word_is a.words.now c.loop-at.at c.cell.result c.cell.ensures (omega (arith, c.cell.type_inv)))
+          c.loop-at.invariant.1 c.if-with-cell.false,
+    )
 
 pub returns : goal.returns
 returns c =
-    let words = c.args.words.now in
-    let part = c.args.part in
-    idle_decided words part c.type_inv.words _
-    (cases_from_all _ _ _ (Same words part) (λ at. Same words part at → ⊥) c.all.ensures.ran (YieldsList-from_range 0 1024 1024 (cc) refl)
-    (λ x q k. search (rules, tests)) (λ x q k. search (rules, tests)))
+    let a = c.args in
+    unchanged_all a.part (in_words a.words.now) c.loop-at.at c.loop-at-test.false c.loop-at.invariant.1

@@ -8,7 +8,7 @@ ghost use Rattle.theory_sets.specs.Tables.{packed, in_table, table_of};
 ghost use Rattle.theory_cuts.specs.Cuts.{minimal_cuts, by_cuts, dual_table};
 ghost use Rattle.structure_words.specs.Words.{in_words, word_of, words_of};
 ghost use Rattle.structure.specs.Checks.{list_refusal, table_refusal};
-ghost use Rattle.structure_cuts.specs.Inside.{cuts_within, backwards};
+ghost use Rattle.structure_cuts.specs.Inside.{cuts_within, exchanged_index, backwards};
 
 use answer::Refusal;
 
@@ -78,9 +78,22 @@ fn cut_word(words: &[u64], n: usize, at: usize) -> u64
 }
 
 // The bits of a word from the other end.
-#[tactic(auto, using(crate::proofs::Reversal::reversed_word))]
 fn reversed(word: u64) -> u64
     ensures { result ≡ backwards word }
 {
-    word.reverse_bits()
+    let mut turned = word;
+    for part in 0..6 {
+        turned = exchanged(turned, part);
+    }
+    turned
+}
+
+// A word with its bits exchanged in pairs: that of each index which has the part with that of the same index without it.
+fn exchanged(word: u64, part: usize) -> u64
+    requires { part < 6 }
+    ensures { result ≡ packed 64 (λ k. has word (exchanged_index part k)) }
+{
+    let lower = structure_words::lacking(part);
+    let step = numbers::power_of_two(part);
+    ((word >> step) & lower) | ((word & lower) << step)
 }

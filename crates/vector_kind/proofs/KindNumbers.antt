@@ -6,7 +6,6 @@ use native.Mathlib.Omega.{arith}
 use lib.Dec.{eqb}
 use borrow.Author.Tests.{le-ltb, le-leb, lt-leb, eqb-true, ne_eqb}
 use Rattle.std.specs.Prelude.{Ok, Err}
-use Rattle.std.specs.Result.{result_unwrap_or}
 use Rattle.answer.specs.Outcome.{at, Verdict}
 use Rattle.answer.specs.declared.Reason.TheVariants.{WrongKind}
 use Rattle.answer.specs.declared.Refusal.{Refusal}
@@ -39,18 +38,6 @@ tail_number number same = cases (eqb number 2) (eqb number 3) (eqb number 4) ref
     cases false true four e is = absurd (omega (arith, ap kind_number is))
     cases false false true e is = absurd (omega (arith, ap kind_number is))
     cases false false false e is = absurd (omega (arith, ap kind_number is))
-
--- path counts, where no kind is named
-pub kind_else : (number : ℕ) → result_unwrap_or (kind_named number) PathCounts ≡ kind_of number
-unfolding kind_of
-kind_else zero = refl
-kind_else (suc zero) = refl
-kind_else (suc (suc zero)) = refl
-kind_else (suc (suc (suc zero))) = refl
-kind_else (suc (suc (suc (suc zero)))) = refl
-kind_else (suc (suc (suc (suc (suc m))))) =
-    let number : ℕ = suc (suc (suc (suc (suc m)))) in
-    rw (le-leb 1 number (omega arith), lt-leb number 4 (omega arith), ne_eqb number 2 (λ e. omega arith), ne_eqb number 3 (λ e. omega arith), ne_eqb number 4 (λ e. omega arith))
 
 -- a kind that is named is its number's, and the number is not refused
 pub kind_given : (number : ℕ) (kind : Kind) → Ok kind ≡ kind_named number → (kind ≡ kind_of number) × ((later : Verdict) → kind_refusal number later ≡ later)

@@ -45,14 +45,11 @@ impl TryFrom<u8> for Kind {
     ghost try_from_gives = { λ number answer. answer ≡ kind_named number };
 
     // The kind of a number, and 26 where it is no kind's.
-    #[tactic(auto, unfolding(crate::specs::Kinds::kind_of))]
     fn try_from(number: u8) -> Result<Self, Refusal> {
-        match number {
-            1 => Ok(Kind::PathCounts),
-            2 => Ok(Kind::Tail),
-            3 => Ok(Kind::Signature),
-            4 => Ok(Kind::Domination),
-            _ => Err(Reason::WrongKind.at(0)),
+        if is_kind(number) {
+            Ok(kind_of(number))
+        } else {
+            Err(Reason::WrongKind.at(0))
         }
     }
 }
@@ -61,13 +58,18 @@ impl TryFrom<u8> for Kind {
 pub fn is_kind(number: u8) -> bool
     ensures { result ≡ is_kind number }
 {
-    Kind::try_from(number).is_ok()
+    1 <= number && number <= 4
 }
 
 // The kind of a number. A number that is no kind's gives path counts; callers ask first.
-#[tactic(auto, using(crate::proofs::KindNumbers::kind_else))]
+#[tactic(auto, unfolding(crate::specs::Kinds::kind_of))]
 pub fn kind_of(number: u8) -> Kind
     ensures { result ≡ kind_of number }
 {
-    Kind::try_from(number).unwrap_or(Kind::PathCounts)
+    match number {
+        2 => Kind::Tail,
+        3 => Kind::Signature,
+        4 => Kind::Domination,
+        _ => Kind::PathCounts,
+    }
 }

@@ -58,6 +58,9 @@ module _ (set : ℕ) (text : List ℕ) (start : ℕ) (room : start + length (spa
         omega (arith, ap length one_more, positions_part set (position + 1) (17 - (position + 1)), ap (λ (l : List ℕ). length (spaced l)) all)
 
     module _ (entry : List ℕ) (here : ℕ) (before : outcome here entry ≡ placed text start (spaced (positions_below set position))) where
+      pub position_room : here + length (spaced (position ∷ [])) ≤ length entry
+      position_room = room_behind text start (spaced (positions_below set position)) (spaced (position ∷ [])) both_fit entry here before
+
       pub position_put : (exit : List ℕ) (next : ℕ) → outcome next exit ≡ placed entry here (spaced (position ∷ []))
           → outcome next exit ≡ placed text start (spaced (positions_below set (position + 1)))
       position_put exit next wrote =
@@ -84,6 +87,9 @@ module _ (word numbers text : List ℕ) (start : ℕ) (room : start + length (li
     module _ (numbered : List ℕ) (second : ℕ) (numbers-put : outcome second numbered ≡ placed worded first (spaced numbers)) where
       both : outcome second numbered ≡ placed text start (word ++ spaced numbers)
       both = placed_more text start word worded first (spaced numbers) numbered second two_fit word-put numbers-put
+
+      pub feed_room : second < length numbered
+      feed_room = let one = room_behind text start (word ++ spaced numbers) (line_feed ∷ []) three_fit numbered second both in omega arith
 
       pub line_put : (exit : List ℕ) (next : ℕ) → outcome next exit ≡ placed numbered second (line_feed ∷ []) → outcome next exit ≡ placed text start (line_of word numbers)
       line_put exit next feed =

@@ -106,7 +106,8 @@ fn put_positions(text: &mut [u8], at: usize, set: u16) -> usize
     ensures { outcome result text.new ≡ placed text.old at (spaced (positions_of set)) }
 {
     let mut next = at;
-    for position in 1..=16 {
+    for i in 0..16 {
+        let position = i + 1;
         if (set >> (position - 1)) % 2 == 1 {
             next = put_number(text, next, position);
         }
@@ -114,22 +115,27 @@ fn put_positions(text: &mut [u8], at: usize, set: u16) -> usize
     next
 }
 
-// Puts a number of one digit, or of two of which the first is 1, behind a space.
-#[tactic(auto, using(drawing_text::proofs::Lengths::spaced_digit, drawing_text::proofs::Lengths::spaced_ten))]
+// Puts a number of one digit, or of two of which the first is 1, behind a space, where there is room for it.
 fn put_number(text: &mut [u8], at: usize, number: usize) -> usize
-    requires { number < 20 }
+    requires number_bound { number < 20 }
+    requires number_in_bounds { at + length (spaced (number ∷ [])) ≤ length text.old }
     ensures { outcome result text.new ≡ placed text.old at (spaced (number ∷ [])) }
 {
+    text[at] = b' ';
     if number < 10 {
-        text::put(text, at, &[b' ', b'0' + number as u8])
-    } else {
-        text::put(text, at, &[b' ', b'1', b'0' + (number - 10) as u8])
+        text[at + 1] = b'0' + number as u8;
+        return at + 2;
     }
+    text[at + 1] = b'1';
+    text[at + 2] = b'0' + (number - 10) as u8;
+    at + 3
 }
 
 // Puts the line feed that ends a line.
 fn end_line(text: &mut [u8], at: usize) -> usize
+    requires { at < length text.old }
     ensures { outcome result text.new ≡ placed text.old at (line_feed ∷ []) }
 {
-    text::put(text, at, b"\n")
+    text[at] = b'\n';
+    at + 1
 }

@@ -53,7 +53,13 @@ fn put_lines(
 }
 
 // The lines of a vector's first cells, each with its number from 1 on. There is 0 behind the last cell.
-fn put_cells(text: &mut [u8], at: usize, word: &[u8], count: usize, cells: &[i64]) -> usize
+fn put_cells<const N: usize>(
+    text: &mut [u8],
+    at: usize,
+    word: &[u8; N],
+    count: usize,
+    cells: &[i64],
+) -> usize
     requires word_len_bound { length word.now ≤ 5 }
     requires count_le_most_parts { count ≤ most_parts }
     requires count_in_bounds { at + 64 * count ≤ length text.old }

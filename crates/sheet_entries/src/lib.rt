@@ -22,7 +22,7 @@ pub fn read_sheet(bytes: &[u8], cells: &mut [i64]) -> Result<EntriesRead, Refusa
     ensures { outcome result cells.new ≡ entries_delivered (sheet_of bytes.now) cells.old }
 {
     let vector = sheet_reading::vector_of_sheet(bytes)?;
-    let length = answer::hand_out(vector.entries(), cells)?;
+    let length = answer::hand_out(&vector.entries[..vector.length], cells)?;
     Ok(EntriesRead {
         kind: vector.kind,
         n: vector.n,

@@ -19,11 +19,11 @@ use Rattle.report_figures.proofs.Blocks.{before_first, before_next, before_end}
 use Rattle.report_figures.proofs.put_cells.Goals as goal
 
 pub loop-i-init : goal.loop-i-init
-loop-i-init c = before_first c.args.text.now c.args.at (cell_line c.args.word.now c.args.cells.now) (omega arith)
+loop-i-init o c = before_first c.args.text.now c.args.at (cell_line c.args.word.now c.args.cells.now) (omega arith)
 
 pub loop-i-preserved : goal.loop-i-preserved
 unfolding cell_line
-loop-i-preserved c =
+loop-i-preserved o c =
     let a = c.args in
     let i = c.loop-i.i in
     let cell = c.unwrap_or-figure in
@@ -37,7 +37,7 @@ loop-i-preserved c =
     (ap (λ (y : ℤ). a.word.now ++ rest_of_line (i + 1) (signed y)) (ap (λ (j : ℕ). get_or a.cells.now j (pos 0)) back ∙ sym value ∙ sym held)) c.put-worded.ensures c.put_figure-next.ensures
 
 pub returns : goal.returns
-returns c =
+returns o c =
     let a = c.args in
     let all = before_end a.text.now a.at (cell_line a.word.now a.cells.now) a.count (c.loop-i.i + 1) c.loop-i.text c.loop-i.next (omega arith) (omega arith) (omega arith) c.loop-i.invariant in
     record { text_after = all.wrote; count_len_bound = all.short }

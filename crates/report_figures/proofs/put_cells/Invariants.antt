@@ -6,4 +6,4 @@ use Rattle.report_figures.proofs.Blocks.{Before}
 use Rattle.report_figures.proofs.put_cells.Given as goal
 
 abbrev pub invariant-loop-i : goal.invariant-loop-i
-invariant-loop-i l = Before l.initial.text l.at (cell_line l.word l.cells) (l.i + 1) l.text l.next
+invariant-loop-i o l = Before l.initial.text l.at (cell_line l.word l.cells) (l.i + 1) l.text l.next

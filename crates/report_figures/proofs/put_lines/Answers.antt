@@ -45,7 +45,7 @@ pub put_cells-dominations-requires : goal.put_cells-dominations-requires
 put_cells-dominations-requires c =
     let a = c.args in
     let head = headed a.text.now a.list a.sets a.signature.now a.domination.now c.requires.count_le_most_parts c.requires.in_bounds _ _ c.ranges.sets (omega arith) c.put_first_line-orders.ensures in
-    record { word_len_bound = omega arith; count_le_most_parts = c.requires.count_le_most_parts; count_in_bounds = wrote_room head (64 * a.list.count) (omega arith) }
+    (omega arith, (omega arith, (c.requires.count_le_most_parts, wrote_room head (64 * a.list.count) (omega arith))))
 
 pub put_cells-parts-requires : goal.put_cells-parts-requires
 put_cells-parts-requires c =
@@ -53,7 +53,7 @@ put_cells-parts-requires c =
     let head = headed a.text.now a.list a.sets a.signature.now a.domination.now c.requires.count_le_most_parts c.requires.in_bounds _ _ c.ranges.sets (omega arith) c.put_first_line-orders.ensures in
     let orders = ordered a.text.now a.list a.sets a.signature.now a.domination.now c.requires.count_le_most_parts c.requires.in_bounds _ _ _ _ head
     c.put_cells-dominations.ensures.text_after c.put_cells-dominations.ensures.count_len_bound in
-    record { word_len_bound = omega arith; count_le_most_parts = c.requires.count_le_most_parts; count_in_bounds = wrote_room orders (64 * a.list.count) (omega arith) }
+    (omega arith, (omega arith, (c.requires.count_le_most_parts, wrote_room orders (64 * a.list.count) (omega arith))))
 
 pub put_counts-requires : goal.put_counts-requires
 put_counts-requires c =

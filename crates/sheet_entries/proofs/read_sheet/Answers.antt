@@ -11,25 +11,20 @@ use Rattle.std.proofs.lemmas.Result.{err_from_is_err_and}
 use Rattle.answer.specs.Outcome.{outcome, retold, delivered, Numbered}
 use Rattle.codec.specs.Reads.{Read}
 use Rattle.vector.specs.declared.Vector.{Vector}
-use Rattle.vector.specs.Inside.{lent_cells}
-use Rattle.vector.specs.InStruct.{most_entries}
-use Rattle.vector.proofs.InStruct.{lent_inside}
+use Rattle.vector.specs.InStruct.{entries_of}
 use Rattle.sheet.specs.Sheets.{Sheet, sheet_of}
 use Rattle.sheet_reading.specs.Answers.{sheet_read}
 use Rattle.sheet_reading.proofs.Reading.{sheet_given, sheet_refused}
 use Rattle.sheet_entries.specs.Answers.{entries_read, entries_delivered}
 use Rattle.sheet_entries.proofs.read_sheet.Goals as goal
 
--- what is told of a vector that was read, with the answer to handing out what is looked at of it
-module _ (bytes : List ℕ) (vector : Vector) (all : length vector.entries ≡ most_entries) (read : Ok vector ≡ sheet_read (sheet_of bytes))
-    (lent : List ℤ) (looked : lent ≡ take (lent_cells vector.length) vector.entries) (cells now : List ℤ) (said : Numbered)
-    (handed : outcome said now ≡ delivered (Ok tt) lent cells) where
+-- what is told of a vector that was read, with the answer to handing out its entries
+module _ (bytes : List ℕ) (vector : Vector) (read : Ok vector ≡ sheet_read (sheet_of bytes)) (cells now : List ℤ) (said : Numbered)
+    (handed : outcome said now ≡ delivered (Ok tt) (entries_of vector) cells) where
   told : outcome (entries_read vector.kind vector.n said) now ≡ entries_delivered (sheet_of bytes) cells
   told =
       let given = sheet_given (sheet_of bytes) vector read in
-      ap (retold (entries_read vector.kind vector.n)) (handed
-      ∙ ap (λ (l : List ℤ). delivered (Ok tt) l cells) (looked ∙ lent_inside vector (omega (arith, all, given.inside))))
-      ∙ ap (λ (s : Read Sheet). entries_delivered s cells) (sym given.given)
+      ap (retold (entries_read vector.kind vector.n)) handed ∙ ap (λ (s : Read Sheet). entries_delivered s cells) (sym given.given)
 
   told_as : (answer : Numbered) → said ≡ answer → outcome (entries_read vector.kind vector.n answer) now ≡ entries_delivered (sheet_of bytes) cells
   told_as answer is = ap (λ (s : Numbered). outcome (entries_read vector.kind vector.n s) now) (sym is) ∙ told
@@ -45,9 +40,9 @@ returns-in_err-length c =
     let a = c.args in
     let p = err_from_is_err_and c.from_residual-in_err-length.result c.from_residual-in_err-length.ensures.1 in
     rw (p.1, p.2)
-    (told_as a.bytes.now c.in_ok-vector.vector (omega arith) c.in_ok-vector.ensures _ c.entries.ensures a.cells.now _ _ c.hand_out.ensures _ c.in_err-length.was)
+    (told_as a.bytes.now c.in_ok-vector.vector c.in_ok-vector.ensures a.cells.now _ _ c.hand_out.ensures _ c.in_err-length.was)
 
 pub returns : goal.returns
 returns c =
     let a = c.args in
-    told_as a.bytes.now c.in_ok-vector.vector (omega arith) c.in_ok-vector.ensures _ c.entries.ensures a.cells.now _ _ c.hand_out.ensures _ c.in_ok-length.was
+    told_as a.bytes.now c.in_ok-vector.vector c.in_ok-vector.ensures a.cells.now _ _ c.hand_out.ensures _ c.in_ok-length.was

@@ -18,6 +18,10 @@ use Rattle.blocks_checks.specs.Given.{size_at, start_of, block_counts}
 use Rattle.blocks_checks.proofs.Given.{start_next, start_inside}
 use Rattle.blocks.specs.Inside.{row_in, rows_of, row_at, count_at, stopped_of, stopped_at}
 
+-- what stands in a row
+pub row_at_lem : (rows : List (List ℕ)) (b j : ℕ) → row_at rows b j ≡ get_or (get_or rows b []) j 0
+row_at_lem rows b j = refl
+
 module _ (r : ℕ) (f : ℕ → ℕ → ℕ) where
   -- the row of a block
   pub row_here : (b : ℕ) → b < r → row_in r f b ≡ tabulate 17 (f b)
@@ -42,7 +46,7 @@ module _ (r : ℕ) (f : ℕ → ℕ → ℕ) where
   -- the row of a block, of numbers that end with the row
   pub rows_row : r ≤ 16 → (rows : List (List ℕ)) → rows ≡ rows_of r f → (b : ℕ) → b < r → ((j : ℕ) → 17 ≤ j → f b j ≡ 0) → (j : ℕ) → row_at rows b j ≡ f b j
   rows_row few rows is b below ends j =
-      ap (λ (xs : List (List ℕ)). get_or (get_or xs b []) j 0) is
+      row_at_lem rows b j ∙ ap (λ (xs : List (List ℕ)). get_or (get_or xs b []) j 0) is
       ∙ ap (λ (xs : List ℕ). get_or xs j 0) (tabulate_at 16 (row_in r f) b [] (omega arith) ∙ row_here b below) ∙ cases (below_or_above j 17)
     where
       cases : (j < 17) ⊎ (17 ≤ j) → get_or (tabulate 17 (f b)) j 0 ≡ f b j

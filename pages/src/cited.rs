@@ -13,7 +13,7 @@ fn documents() -> Vec<String> {
 }
 
 fn is_note(path: &str) -> bool {
-    path.starts_with("docs/changes/") || path == "docs/PORT.md" || path == "docs/DESIGN-PASS.md"
+    path.starts_with("docs/changes/") || ["docs/PORT.md", "docs/DESIGN-PASS.md", "docs/LOOK-BACK.md"].contains(&path)
 }
 
 /// Every fault of every document.

@@ -1,18 +1,15 @@
 -- Laws of a number among others: it names one of them exactly if it stands there, and what a search for it finds.
 -- Assumes nothing.
 use mathlib.Core.Path.{◌≡◌, refl, sym, ap, ◌∙◌}
-use mathlib.Core.Bool.{true, ◌||◌}
+use mathlib.Core.Bool.{true, false, ◌||◌}
 use mathlib.Core.List.Memᴰ
 use mathlib.Core.List.{List, [], ◌∷◌, Memᴰ}
 use mathlib.Core.Logic.{◌⊎◌, inl, inr}
-use Prim.Native.Nat.{ℕ, ◌+◌, ◌<◌}
+use Prim.Native.Nat.{ℕ, ◌+◌, ◌≤◌, ◌<◌}
 use native.Mathlib.Numerals.{add-one}
-use borrow.Author.Tests.{eqb-true, eq-eqb}
+use borrow.Author.Tests.{eqb-true, eq-eqb, ne_eqb}
 use lib.Dec.{eqb}
-use native.Mathlib.Omega.{arith}
-use Rattle.std.specs.List.{list_any}
-use Rattle.std.proofs.lemmas.Bool.Decides.{nat_tests}
-use lib.ListN.{length, drop, get_or}
+use lib.ListN.{length, drop, get_or, drop_of_length-le}
 use lib.Seq.{drop-cons}
 use Rattle.numbers.proofs.Bools.{clash, or_cases, or_left, or_right}
 use Rattle.theory_sums.specs.Sums.{some}
@@ -38,20 +35,22 @@ names_elim number (x ∷ xs) h = cases (or_cases (eqb number x) (names number xs
     cases (inl e) rest = Memᴰ.head (eqb-true number x e)
     cases (inr later) rest = Memᴰ.tail (rest later)
 
--- ---- a search for it
-
-eqb_turned : (a b : ℕ) → eqb a b ≡ eqb b a
-eqb_turned a b = grind (arith, nat_tests)
-
--- what `contains` answers
-pub names_searched : (number : ℕ) (numbers : List ℕ) → list_any (λ other. eqb other number) numbers ≡ names number numbers
-unfolding some
-names_searched number [] = refl
-names_searched number (n ∷ ns) = rw (eqb_turned n number, names_searched number ns) refl
-
 -- ---- a walk along the numbers
 
 module _ (numbers : List ℕ) (i : ℕ) (inside : i < length numbers) where
   -- the number at hand, and those behind it
   pub from_here : drop i numbers ≡ get_or numbers i 0 ∷ drop (i + 1) numbers
   from_here = drop-cons numbers i 0 inside ∙ ap (λ (k : ℕ). get_or numbers i 0 ∷ drop k numbers) (sym (add-one i))
+
+  pub names_here : (number : ℕ) → get_or numbers i 0 ≡ number → names number (drop i numbers) ≡ true
+  unfolding some
+  names_here number e = ap (names number) from_here ∙ rw (eq-eqb number (get_or numbers i 0) (sym e)) refl
+
+  pub names_past : (number : ℕ) → (get_or numbers i 0 ≡ number → ⊥) → names number (drop i numbers) ≡ names number (drop (i + 1) numbers)
+  unfolding some
+  names_past number e = ap (names number) from_here ∙ rw (ne_eqb number (get_or numbers i 0) (λ same. e (sym same))) refl
+
+-- at the end
+pub names_end : (numbers : List ℕ) (i : ℕ) → length numbers ≤ i → (number : ℕ) → names number (drop i numbers) ≡ false
+unfolding some
+names_end numbers i end number = ap (names number) (drop_of_length-le numbers end)

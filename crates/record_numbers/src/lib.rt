@@ -69,5 +69,10 @@ pub fn cells(numbers: &[u64], group: usize) -> [u64; MOST_PARTS]
 pub fn stands(number: u64, numbers: &[u64]) -> bool
     ensures { result ≡ names number numbers.now }
 {
-    numbers.contains(&number)
+    for &other in numbers {
+        if other == number {
+            return true;
+        }
+    }
+    false
 }

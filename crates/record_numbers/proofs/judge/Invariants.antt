@@ -2,7 +2,7 @@
 -- passed, is what refuses all.
 -- Assumes nothing.
 use mathlib.Core.Path.{◌≡◌}
-use Prim.Native.Nat.{◌-◌, ◌≤◌}
+use Prim.Native.Nat.{◌≤◌}
 use lib.ListN.{length, drop}
 use Rattle.record_numbers.specs.Numbering.{numbers_refusal, part_list_refusal}
 use Rattle.record_numbers.proofs.judge.Given as goal
